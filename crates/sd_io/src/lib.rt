@@ -1,0 +1,20 @@
+//! What the program reads, writes and passes: a shelf of named files, a sink of bytes, a gate.
+//!
+//! Each is a trait whose ghost members say what it tells and what it counts. A shelf gives
+//! the content that it tells, and a fault or an overrun of a name comes only where that
+//! name's number rose. A sink takes a piece whole, or counts a fault and takes a prefix of
+//! it. The devices in memory here keep these promises and never fault.
+#![tactic(auto)]
+
+mod files;
+mod gate;
+mod shelf;
+mod sink;
+mod sure_shelf;
+mod sure_sink;
+
+pub use gate::{Gate, Open};
+pub use shelf::{Shelf, ShelfError};
+pub use sink::{Sink, SinkError};
+pub use sure_shelf::SureShelf;
+pub use sure_sink::SureSink;

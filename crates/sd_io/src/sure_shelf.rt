@@ -1,0 +1,94 @@
+ghost use Rattle.std.specs.Prelude.{◌≡◌, map};
+ghost use Rattle.sd_io.specs.Files.{plain_file};
+
+use crate::files::find;
+use crate::shelf::{Shelf, ShelfError};
+use std::alloc::Global;
+use std::marker::Model;
+
+/// A shelf in memory that never faults at a file that it holds.
+#[derive(Drop)]
+pub struct SureShelf {
+    files: Vec<(String, Vec<u8>)>,
+    missing: u64,
+    overruns: u64,
+}
+
+impl Model for SureShelf {
+    ghost use Rattle.std.specs.Prelude.{map};
+    ghost use Rattle.sd_io.specs.Files.{Held, plain_file};
+
+    ghost Value = { Held };
+
+    ghost view = { λ s. record { files = map plain_file s.files.items; missing = s.missing; overruns = s.overruns } };
+}
+
+impl SureShelf {
+    /// A shelf that holds these files. Of two with one name the first counts.
+    pub fn new(files: Vec<(String, Vec<u8>)>) -> SureShelf
+        ensures { result ≡ record { files = map plain_file files.items; missing = 0; overruns = 0 } }
+    {
+        SureShelf {
+            files,
+            missing: 0,
+            overruns: 0,
+        }
+    }
+}
+
+impl Shelf for SureShelf {
+    ghost use Rattle.sd_io.specs.Files.{content_of, faults_of};
+
+    ghost told = { λ held name. content_of held.files name };
+
+    ghost faults = { faults_of };
+
+    ghost overruns = { λ held _. held.overruns };
+
+    fn read(&mut self, alloc: Global, name: &str, most: usize) -> Result<Vec<u8>, ShelfError> {
+        let Some(content) = find(&self.files, name) else {
+            self.missing = self.missing.saturating_add(1);
+            return Err(ShelfError::Failed);
+        };
+        if content.len() > most {
+            self.overruns = self.overruns.saturating_add(1);
+            return Err(ShelfError::TooLong);
+        }
+        Vec::from_slice(alloc, content).map_err(|_| ShelfError::Memory)
+    }
+}
+
+#[cfg(test)]
+mod tests {
+    use super::*;
+    use std::test::Fail;
+
+    fn shelf(alloc: Global) -> Result<SureShelf, Fail> {
+        let mut files = Vec::new(alloc);
+        for (name, content) in [("a", "first"), ("b", ""), ("a", "second")] {
+            let file = (
+                String::from_str(alloc, name)?,
+                Vec::from_slice(alloc, content.as_bytes())?,
+            );
+            files.push(file)?;
+        }
+        Ok(SureShelf::new(files))
+    }
+
+    #[test]
+    fn the_first_file_of_a_name_is_read_to_its_limit(rt: HostRuntime) -> Result<(), Fail> {
+        let mut shelf = shelf(rt.alloc())?;
+        assert_eq!(rt;
+            shelf.read(rt.alloc(), "a", 5)?.as_slice(),
+            b"first".as_slice()
+        );
+        assert_eq!(rt; shelf.read(rt.alloc(), "b", 0)?.len(), 0);
+        for (name, most, refusal) in [("a", 4, ShelfError::TooLong), ("c", 4, ShelfError::Failed)] {
+            match shelf.read(rt.alloc(), name, most) {
+                Ok(_) => assert!(rt; false, "{name} is read"),
+                Err(error) => assert_eq!(rt; error, refusal, "{name}"),
+            }
+        }
+        Ok(())
+    }
+}
