@@ -1,0 +1,4 @@
+pub mod Values
+pub mod Stepped
+pub mod After
+pub mod Axes

@@ -1,0 +1,120 @@
+ghost use Rattle.std.specs.Prelude.{◌≡◌, ◌<◌, ◌∷◌, ◌+ℤ◌, length, map, IfOk, [], option_to_list, MatchOption, IsTrue, ◌↔◌};
+ghost use Rattle.std.specs.Bool.{OnTrue, OnFalse};
+ghost use Rattle.std.specs.List.{All, AllByRecursion};
+ghost use Rattle.sd_range.specs.Affine.{IsEvaluable};
+ghost use Rattle.sd_range.specs.Range.{IsRange, IsEvaluableRange, least_value};
+ghost use Rattle.sd_range.specs.Axis.{axis_of, first_of, later_values, Rises, IsFilled, after};
+
+use crate::affine::Affine;
+use crate::env::Env;
+use crate::memory::NoMemory;
+use crate::range::Range;
+use std::alloc::Global;
+
+/// The numbers of one range: `first`, `first` plus `step`, and so on up to `last`.
+#[derive(Drop)]
+pub(crate) struct Axis {
+    pub(crate) first: i128,
+    pub(crate) last: i128,
+    pub(crate) step: i128,
+}
+
+/// The least of the ends of a range.
+fn least_end(ends: &[Affine], env: &Env) -> i128
+    requires ended { 0 < length ends.now }
+    requires evaluable { All (λ end. IsEvaluable end env.now.values) ends.now }
+    ensures { result ≡ least_value ends.now env.now.values }
+{
+    let Some((first, others)) = ends.split_first() else {
+        unreachable!()
+    };
+    let mut least = first.value(env);
+    for end in others {
+        least = least.min(end.value(env));
+    }
+    least
+}
+
+/// The numbers of a range, where the variables have these values.
+fn axis_of_range(range: &Range, env: &Env) -> Axis
+    requires range { IsRange range.now }
+    requires evaluable { IsEvaluableRange env.now.values range.now }
+    ensures { result ≡ axis_of env.now.values range.now }
+{
+    Axis {
+        first: range.begin.value(env),
+        last: least_end(range.ends.as_slice(), env),
+        step: range.step,
+    }
+}
+
+/// The numbers of each range.
+pub(crate) fn axes_of_ranges(
+    alloc: Global,
+    ranges: &[Range],
+    env: &Env,
+) -> Result<Vec<Axis>, NoMemory>
+    requires ranges { All IsRange ranges.now }
+    requires evaluable { All (IsEvaluableRange env.now.values) ranges.now }
+    ensures { IfOk result (λ axes. axes.items ≡ map (axis_of env.now.values) ranges.now) }
+{
+    let mut axes = Vec::with_capacity(alloc, ranges.len())?;
+    for range in ranges {
+        axes.push(axis_of_range(range, env))?;
+    }
+    Ok(axes)
+}
+
+/// The first number of each axis.
+pub(crate) fn firsts_of(alloc: Global, axes: &[Axis]) -> Result<Vec<i128>, NoMemory>
+    ensures { IfOk result (λ at. at.items ≡ map first_of axes.now) }
+{
+    Ok(axes.iter().map(|axis| axis.first).collect(alloc)?)
+}
+
+/// Whether each axis has a number, so that there is a point.
+pub(crate) fn are_filled(axes: &[Axis]) -> bool
+    ensures { IsTrue result ↔ All IsFilled axes.now }
+{
+    axes.iter().all(|axis| axis.first <= axis.last)
+}
+
+/// The number of an axis that comes after this one.
+fn later(axis: &Axis, number: i128) -> Option<i128>
+    requires { Rises axis.now }
+    ensures { MatchOption result (later_values axis.now number ≡ []) (λ next. later_values axis.now number ≡ next ∷ later_values axis.now next) }
+{
+    let last = axis.last;
+    let next = number.checked_add(axis.step)?;
+    if next <= last { Some(next) } else { None }
+}
+
+/// Goes to the point after this one, or back to the first point where none is after it.
+pub(crate) fn advance(axes: &[Axis], at: &mut [i128]) -> bool
+    requires same_length { length at.old ≡ length axes.now }
+    requires rising { AllByRecursion Rises axes.now }
+    requires filled { AllByRecursion IsFilled axes.now }
+    ensures moved { OnTrue result (after axes.now at.old ≡ at.new ∷ after axes.now at.new) }
+    ensures over { OnFalse result (after axes.now at.old ≡ []) }
+    ensures round { OnFalse result (at.new ≡ map first_of axes.now) }
+{
+    let Some((axis, inner)) = axes.split_first() else {
+        return false;
+    };
+    let Some((number, rest)) = at.split_first_mut() else {
+        return false;
+    };
+    if advance(inner, rest) {
+        return true;
+    }
+    match later(axis, *number) {
+        Some(next) => {
+            *number = next;
+            true
+        }
+        None => {
+            *number = axis.first;
+            false
+        }
+    }
+}
