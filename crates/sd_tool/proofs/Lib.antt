@@ -1,0 +1,12 @@
+pub mod NameLemmas
+pub mod WordLemmas
+pub mod FormLemmas
+pub mod FormWords
+pub mod GivenLemmas
+pub mod GivenUnique
+pub mod Places
+pub mod SinkLemmas
+pub mod LineSplit
+pub mod Three
+pub mod Reading
+pub mod WrittenLemmas

@@ -1,0 +1,13 @@
+pub mod Finding
+pub mod Command
+pub mod Names
+pub mod OneMap
+pub mod Words
+pub mod Source
+pub mod Given
+pub mod Arrays
+pub mod StatementMeaning
+pub mod AnswerText
+pub mod Refusal
+pub mod Written
+pub mod Headline
