@@ -34,3 +34,6 @@ impl Affine {
         sum
     }
 }
+
+#[cfg(test)]
+mod tests;

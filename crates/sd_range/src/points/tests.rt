@@ -1,6 +1,5 @@
-ghost use Rattle.std.specs.Prelude.{pos, ◌<ℤ◌, [], IfOk};
+ghost use Rattle.std.specs.Prelude.{◌≡◌, pos, ◌<ℤ◌, [], ◌∷◌, IfOk};
 ghost use Rattle.std.specs.List.{All};
-ghost use Rattle.sd_range.specs.Affine.{IsEvaluable};
 ghost use Rattle.sd_range.specs.Range.{IsRange, IsEvaluableRange};
 
 use super::*;
@@ -10,12 +9,21 @@ use crate::terms::Terms;
 use std::test::Fail;
 
 fn constant(alloc: Global, value: i128) -> Affine
-    ensures { IsEvaluable result [] }
+    ensures { (result.constant ≡ value) × (result.terms ≡ []) }
 {
     Affine {
         constant: value,
         terms: Terms::new(alloc),
     }
+}
+
+/// The variable plus a constant.
+fn shifted(alloc: Global, variable: u32, constant: i128) -> Result<Affine, NoMemory>
+    ensures { IfOk result (λ a. (a.constant ≡ constant) × (a.terms ≡ (variable, pos 1) ∷ [])) }
+{
+    let mut terms = Terms::new(alloc);
+    terms.push(variable, 1)?;
+    Ok(Affine { constant, terms })
 }
 
 fn range(alloc: Global, begin: i128, end: i128, step: i128) -> Result<Range, NoMemory>
@@ -30,15 +38,21 @@ fn range(alloc: Global, begin: i128, end: i128, step: i128) -> Result<Range, NoM
     })
 }
 
-/// The points of these ranges, each followed by a `;`.
-fn listed(alloc: Global, ranges: &[Range]) -> Result<String, Fail>
-    requires ranges { All IsRange ranges.now }
-    requires evaluable { All (IsEvaluableRange []) ranges.now }
+/// The values where there is no variable.
+fn no_variables(alloc: Global) -> Env
+    ensures { result.values ≡ [] }
 {
-    let env = Env {
+    Env {
         values: Sequence::from(Vec::new(alloc)),
-    };
-    let mut points = Points::new(alloc, ranges, &env)?;
+    }
+}
+
+/// The points of these ranges, each followed by a `;`.
+fn listed(alloc: Global, ranges: &[Range], env: &Env) -> Result<String, Fail>
+    requires ranges { All IsRange ranges.now }
+    requires evaluable { All (IsEvaluableRange env.now.values) ranges.now }
+{
+    let mut points = Points::new(alloc, ranges, env)?;
     let mut text = String::new(alloc);
     for _ in 0..100 {
         if !points.next() {
@@ -56,7 +70,10 @@ fn listed(alloc: Global, ranges: &[Range]) -> Result<String, Fail>
 fn the_last_range_is_the_fastest(rt: HostRuntime) -> Result<(), Fail> {
     let alloc = rt.alloc();
     let ranges = [range(alloc, 0, 1, 1)?, range(alloc, -1, 4, 3)?];
-    assert_eq!(rt; listed(alloc, &ranges)?.as_str(), " 0 -1; 0 2; 1 -1; 1 2;");
+    assert_eq!(rt;
+        listed(alloc, &ranges, &no_variables(alloc))?.as_str(),
+        " 0 -1; 0 2; 1 -1; 1 2;"
+    );
     Ok(())
 }
 
@@ -64,7 +81,39 @@ fn the_last_range_is_the_fastest(rt: HostRuntime) -> Result<(), Fail> {
 fn an_empty_range_leaves_no_point(rt: HostRuntime) -> Result<(), Fail> {
     let alloc = rt.alloc();
     let ranges = [range(alloc, 0, 3, 1)?, range(alloc, 2, 1, 1)?];
-    assert_eq!(rt; listed(alloc, &ranges)?.as_str(), "");
-    assert_eq!(rt; listed(alloc, &[])?.as_str(), ";");
+    assert_eq!(rt; listed(alloc, &ranges, &no_variables(alloc))?.as_str(), "");
+    assert_eq!(rt; listed(alloc, &[], &no_variables(alloc))?.as_str(), ";");
+    Ok(())
+}
+
+#[test]
+fn the_least_end_bounds_a_range(rt: HostRuntime) -> Result<(), Fail> {
+    let alloc = rt.alloc();
+    // N is 3 and M is 5
+    let env = Env {
+        values: Sequence::from(vec![in alloc; 3, 5]?),
+    };
+    let ranges = [
+        // from 0 to the least of M, N - 1 and 9
+        Range {
+            begin: constant(alloc, 0),
+            ends: Sequence::from(vec![in alloc;
+                shifted(alloc, 1, 0)?,
+                shifted(alloc, 0, -1)?,
+                constant(alloc, 9),
+            ]?),
+            step: 1,
+        },
+        // each second number from N to the least of M + 1 and M + 3
+        Range {
+            begin: shifted(alloc, 0, 0)?,
+            ends: Sequence::from(vec![in alloc; shifted(alloc, 1, 1)?, shifted(alloc, 1, 3)?]?),
+            step: 2,
+        },
+    ];
+    assert_eq!(rt;
+        listed(alloc, &ranges, &env)?.as_str(),
+        " 0 3; 0 5; 1 3; 1 5; 2 3; 2 5;"
+    );
     Ok(())
 }
