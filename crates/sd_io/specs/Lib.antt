@@ -2,3 +2,4 @@ pub mod Count
 pub mod Shelf
 pub mod Sink
 pub mod Files
+pub mod Calls

@@ -3,17 +3,22 @@
 //! Each is a trait whose ghost members say what it tells and what it counts. A shelf gives
 //! the content that it tells, and a fault or an overrun of a name comes only where that
 //! name's number rose. A sink takes a piece whole, or counts a fault and takes a prefix of
-//! it. The devices in memory here keep these promises and never fault.
+//! it, or takes nothing for want of memory. Of the devices in memory here `SureShelf` and
+//! `SureSink` have no fault of their own, `MemShelf` and `MemSink` fail at listed calls.
 #![tactic(auto)]
 
 mod files;
 mod gate;
+mod mem_shelf;
+mod mem_sink;
 mod shelf;
 mod sink;
 mod sure_shelf;
 mod sure_sink;
 
 pub use gate::{Gate, Open};
+pub use mem_shelf::MemShelf;
+pub use mem_sink::MemSink;
 pub use shelf::{Shelf, ShelfError};
 pub use sink::{Sink, SinkError};
 pub use sure_shelf::SureShelf;

@@ -2,8 +2,8 @@
 //!
 //! `Affine::value` is exact: the constant plus each coefficient times its variable's value
 //! (`specs/Affine.antt`). `Points` goes through exactly the points of its ranges in
-//! lexicographic order, the last parameter fastest (`specs/Points.antt`). Only constructors
-//! take memory, and want of it is their one refusal.
+//! lexicographic order, the last parameter fastest (`specs/Points.antt`). Only `new` and
+//! `push` take memory, and want of it is their one refusal.
 #![tactic(auto)]
 
 mod affine;

@@ -1,4 +1,4 @@
-ghost use Rattle.std.specs.Prelude.{◌≡◌, [], ◌∷◌, ◌++◌, OnOk, OnErr};
+ghost use Rattle.std.specs.Prelude.{◌≡◌, ◌<◌, [], ◌∷◌, ◌++◌, length, IsOk, OnOk, OnErr};
 ghost use Rattle.sd_range.specs.Terms.{IsNormal};
 
 use crate::memory::NoMemory;
@@ -19,14 +19,14 @@ pub struct Terms {
 }
 
 impl Model for Terms {
-    ghost use Rattle.std.specs.Prelude.{List, ℕ, ℤ};
+    ghost use Rattle.std.specs.Prelude.{◌≤◌, List, ℕ, ℤ};
     ghost use Rattle.sd_range.specs.Terms.{IsNormal};
 
     ghost Value = { List (ℕ × ℤ) };
 
     ghost view = { λ t. t.items.items };
 
-    ghost invariant = { λ t. IsNormal t.items.items };
+    ghost invariant = { λ t. IsNormal t.items.items × (4 ≤ t.items.capacity) };
 }
 
 impl Terms {
@@ -44,6 +44,7 @@ impl Terms {
         requires { IsNormal (self.old ++ (variable, coefficient) ∷ []) }
         ensures ok { OnOk result (self.new ≡ self.old ++ (variable, coefficient) ∷ []) }
         ensures err { OnErr result (self.new ≡ self.old) }
+        ensures few { length self.old < 4 → IsOk result }
     {
         self.items.push((variable, coefficient))?;
         Ok(())

@@ -75,7 +75,7 @@ abbrev pub form_word : OneMap → ℕ → Option (List ℕ)
 form_word p number = slice_get (map (λ pair. pair.0) (spelling_of p)) number
 
 -- a word of a text of the form is the form's
-words_of-form-at : (text : List ℕ) (p : OneMap) (number : ℕ) → IsForm text p → slice_get (words_of text) number ≡ form_word p number
+pub words_of-form-at : (text : List ℕ) (p : OneMap) (number : ℕ) → IsForm text p → slice_get (words_of text) number ≡ form_word p number
 words_of-form-at text p number f = ap (λ words. slice_get words number) (words_of-form text p f)
 
 -- none of the form's words is missing in a text of it

@@ -9,4 +9,9 @@ pub mod SinkLemmas
 pub mod LineSplit
 pub mod Three
 pub mod Reading
-pub mod WrittenLemmas
+pub mod AnswerRules
+pub mod FormUnique
+pub mod ToldFiles
+pub mod EndLemmas
+pub mod StatusRows
+pub mod StatusEnds

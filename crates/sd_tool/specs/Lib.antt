@@ -8,6 +8,9 @@ pub mod Given
 pub mod Arrays
 pub mod StatementMeaning
 pub mod AnswerText
+pub mod Answers
+pub mod Ends
 pub mod Refusal
 pub mod Written
-pub mod Headline
+pub mod Told
+pub mod Statuses

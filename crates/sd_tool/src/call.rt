@@ -1,16 +1,19 @@
-ghost use Rattle.std.specs.Prelude.{◌≡◌, ◌≤◌, ◌⊎◌, ℕ, List, map, IfOk, IfErr, OnOk, OnErr, IsErrOf, MatchResult, vec_len, string_bytes};
+ghost use Rattle.std.specs.Prelude.{◌≡◌, ◌≤◌, ◌⊎◌, ℕ, List, map, IfOk, IfErr, IfSome, OnOk, OnErr, IsErrOf, MatchResult, vec_len, string_bytes};
 ghost use Rattle.std.specs.List.{flat_map};
 ghost use Rattle.sd_io.specs.Count.{HasRisen};
-ghost use Rattle.sd_io.specs.Shelf.{IsTold};
 ghost use Rattle.sd_io.specs.Sink.{Appends, AppendsPrefix};
-ghost use Rattle.sd_tool.specs.Refusal.{IsUnread};
+ghost use Rattle.sd_tool.specs.Refusal.{answer_of};
+ghost use Rattle.sd_tool.specs.Answers.{ShelfUse, Reads, Unread, Answers, shelf_use, text_of};
+ghost use Rattle.sd_tool.specs.Answers as answer;
+ghost use Rattle.sd_tool.specs.Ends.{Ends, sink_use};
+ghost use Rattle.sd_tool.specs.Told.{Asks};
+ghost use Rattle.sd_tool.specs.Statuses.{Statuses};
 ghost use Rattle.sd_tool.specs.Command.{Files};
 ghost use Rattle.sd_tool.specs.OneMap.{OneMap};
 ghost use Rattle.sd_tool.specs.Given.{Given};
 ghost use Rattle.sd_tool.specs.StatementMeaning.{says};
 ghost use Rattle.sd_tool.specs.AnswerText.{outcome_text};
 ghost use Rattle.sd_tool.specs.Written.{written_status};
-ghost use Rattle.sd_tool.specs.Headline.{Asks};
 
 use crate::refusal::Refusal;
 use crate::{arrays, command, execution, lines, output, source};
@@ -36,14 +39,9 @@ fn content<'a, S: Shelf>(
     name: &'a str,
     most: usize,
 ) -> Result<Vec<u8>, Refusal<'a>>
-    ensures told { IfOk result (λ bytes. IsTold (S.told shelf.old name.now) bytes.items) }
-    ensures within { IfOk result (λ bytes. vec_len bytes ≤ most) }
-    ensures unread { IfErr result (IsUnread name.now most (S.told shelf.old name.now) (record {
-      faults_before = S.faults shelf.old name.now;
-      faults_after = S.faults shelf.new name.now;
-      overruns_before = S.overruns shelf.old name.now;
-      overruns_after = S.overruns shelf.new name.now;
-    })) }
+    ensures read { IfOk result (λ bytes. Reads (shelf_use S.told S.faults S.overruns shelf.old shelf.new) name.now most bytes.items) }
+    ensures unread { IfErr result (λ refusal.
+        IfSome (answer_of refusal) (Unread (shelf_use S.told S.faults S.overruns shelf.old shelf.new) name.now most)) }
     ensures told_stays { (other : List ℕ) → S.told shelf.new other ≡ S.told shelf.old other }
     ensures faults_never_fall { (other : List ℕ) → S.faults shelf.old other ≤ S.faults shelf.new other }
     ensures overruns_never_fall { (other : List ℕ) → S.overruns shelf.old other ≤ S.overruns shelf.new other }
@@ -62,13 +60,14 @@ fn outcome<'a, S: Shelf>(
     words: &'a [String],
     shelf: &mut S,
 ) -> Result<[String; 2], Refusal<'a>>
-    ensures runs { (files : Files) (p : OneMap) (given : Given)
-        → Asks (map string_bytes words.now) (S.told shelf.old) files p given
-        → ¬ HasRisen (S.faults shelf.old files.source) (S.faults shelf.new files.source)
-        → ¬ HasRisen (S.faults shelf.old files.arrays) (S.faults shelf.new files.arrays)
-        → MatchResult result
-        (λ lines. flat_map string_bytes lines ≡ outcome_text p (says p given))
-        (λ refusal. refusal ≡ Refusal.Memory) }
+    ensures runs { IfOk result (λ lines. (p : OneMap) × (given : Given)
+        × Answers (map string_bytes words.now) (shelf_use S.told S.faults S.overruns shelf.old shelf.new) (answer.outcome p given)
+        × (flat_map string_bytes lines ≡ text_of (answer.outcome p given))) }
+    ensures refuses { IfErr result (λ refusal.
+        IfSome (answer_of refusal) (Answers (map string_bytes words.now) (shelf_use S.told S.faults S.overruns shelf.old shelf.new))) }
+    ensures told_stays { (other : List ℕ) → S.told shelf.new other ≡ S.told shelf.old other }
+    ensures faults_never_fall { (other : List ℕ) → S.faults shelf.old other ≤ S.faults shelf.new other }
+    ensures overruns_never_fall { (other : List ℕ) → S.overruns shelf.old other ≤ S.overruns shelf.new other }
 {
     let Some(run) = command::read(words) else {
         return Err(Refusal::BadWords);
@@ -110,6 +109,36 @@ fn status_of(written: Result<(), SinkError>, status: u8) -> u8
     }
 }
 
+/// Writes why a call does not run. Nothing is written for want of memory.
+fn refuse<K: Sink>(alloc: Global, out: &mut K, refusal: &Refusal) -> u8
+    ensures ends { (words : List (List ℕ)) (shelf : ShelfUse) → IfSome (answer_of refusal.now) (Answers words shelf)
+        → Ends words shelf (sink_use K.taken K.faults out.old out.new) result }
+    ensures faults_never_fall { K.faults out.old ≤ K.faults out.new }
+{
+    match refusal {
+        Refusal::Memory => NO_MEMORY,
+        _ => match refusal.line(alloc) {
+            Ok(line) => status_of(output::write_line(out, line.as_bytes()), refusal.status()),
+            Err(_) => NO_MEMORY,
+        },
+    }
+}
+
+/// Does what the words ask, and answers the exit status.
+fn perform<S: Shelf, K: Sink>(alloc: Global, words: &[String], shelf: &mut S, out: &mut K) -> u8
+    ensures ends { Ends (map string_bytes words.now) (shelf_use S.told S.faults S.overruns shelf.old shelf.new)
+        (sink_use K.taken K.faults out.old out.new) result }
+    ensures told_stays { (other : List ℕ) → S.told shelf.new other ≡ S.told shelf.old other }
+    ensures faults_never_fall { (other : List ℕ) → S.faults shelf.old other ≤ S.faults shelf.new other }
+    ensures overruns_never_fall { (other : List ℕ) → S.overruns shelf.old other ≤ S.overruns shelf.new other }
+    ensures sink_faults_never_fall { K.faults out.old ≤ K.faults out.new }
+{
+    match outcome(alloc, words, shelf) {
+        Ok(lines) => status_of(write_all(out, &lines), DONE),
+        Err(refusal) => refuse(alloc, out, &refusal),
+    }
+}
+
 /// Does what the words ask: runs a source from the shelf on its arrays and writes the
 /// outcome, or why there is none, into the sink. Answers the exit status.
 ///
@@ -127,19 +156,25 @@ pub fn sdfg<R, S: Shelf, K: Sink, G: Gate>(
     // count of theirs or of the sink rises. Then the text of running the source statement
     // by statement is appended and the status is 0, or memory is wanting.
     ensures headline { (files : Files) (p : OneMap) (given : Given)
-        → Asks (map string_bytes words.now) (S.told shelf.old) files p given
-        → ¬ HasRisen (S.faults shelf.old files.source) (S.faults shelf.new files.source)
-        → ¬ HasRisen (S.faults shelf.old files.arrays) (S.faults shelf.new files.arrays)
+        → Asks (map string_bytes words.now) (shelf_use S.told S.faults S.overruns shelf.old shelf.new) files p given
         → ¬ HasRisen (K.faults out.old) (K.faults out.new)
         → ((result ≡ 0) × Appends (K.taken out.old) (K.taken out.new) (outcome_text p (says p given))) ⊎ (result ≡ 1) }
+
+    // Which answer comes where, and what is written of it; want of memory alone is free.
+    ensures answers { Ends (map string_bytes words.now) (shelf_use S.told S.faults S.overruns shelf.old shelf.new)
+        (sink_use K.taken K.faults out.old out.new) result }
+
+    // Each status with its cause, both ways.
+    ensures statuses { Statuses (map string_bytes words.now) (shelf_use S.told S.faults S.overruns shelf.old shelf.new)
+        (sink_use K.taken K.faults out.old out.new) result }
+
+    // What is told stays, and no count falls.
+    ensures told_stays { (other : List ℕ) → S.told shelf.new other ≡ S.told shelf.old other }
+    ensures faults_never_fall { (other : List ℕ) → S.faults shelf.old other ≤ S.faults shelf.new other }
+    ensures overruns_never_fall { (other : List ℕ) → S.overruns shelf.old other ≤ S.overruns shelf.new other }
+    ensures sink_faults_never_fall { K.faults out.old ≤ K.faults out.new }
 {
-    match outcome(alloc, words, shelf) {
-        Ok(lines) => status_of(write_all(out, &lines), DONE),
-        Err(refusal) => match refusal.line(alloc) {
-            Ok(line) => status_of(output::write_line(out, line.as_bytes()), refusal.status()),
-            Err(_) => NO_MEMORY,
-        },
-    }
+    perform(alloc, words, shelf, out)
 }
 
 #[cfg(test)]

