@@ -1,10 +1,15 @@
 //! Element values: 64-bit two's complement numbers.
 //!
-//! Each operation promises one definition over whole numbers (`specs/Wrapped.antt`):
-//! the exact result, taken modulo 2^64 as a signed number. Nothing here takes memory,
-//! refuses or faults.
+//! Sum, difference and product are the exact ones, taken modulo 2^64 as signed numbers
+//! (`specs/Wrapped.antt`). A resolution makes one value of an old and a new one
+//! (`specs/Resolution.antt`); `laws` says that all but the last commute, all are associative
+//! and an identity changes nothing. Nothing here takes memory, refuses or faults.
 #![tactic(auto)]
 
+mod laws;
+mod resolution;
 mod wrapping;
 
+pub use laws::{an_identity_changes_nothing, resolving_associates, resolving_commutes};
+pub use resolution::{Resolution, identity, resolve};
 pub use wrapping::{add, mul, sub};
