@@ -1,2 +1,3 @@
 pub mod Wrapped
 pub mod Resolution
+pub mod Floor

@@ -1,15 +1,18 @@
 //! Element values: 64-bit two's complement numbers.
 //!
-//! Sum, difference and product are the exact ones, taken modulo 2^64 as signed numbers
-//! (`specs/Wrapped.antt`). A resolution makes one value of an old and a new one
+//! Sum, difference, product and quotient are the exact ones, taken modulo 2^64 as signed
+//! numbers (`specs/Wrapped.antt`); division rounds down and refuses a divisor of 0 alone
+//! (`specs/Floor.antt`). A resolution makes one value of an old and a new one
 //! (`specs/Resolution.antt`); `laws` says that all but the last commute, all are associative
-//! and an identity changes nothing. Nothing here takes memory, refuses or faults.
+//! and an identity changes nothing. Nothing here takes memory or faults.
 #![tactic(auto)]
 
+mod floor;
 mod laws;
 mod resolution;
 mod wrapping;
 
+pub use floor::{floor_div, floor_mod};
 pub use laws::{an_identity_changes_nothing, resolving_associates, resolving_commutes};
 pub use resolution::{Resolution, identity, resolve};
 pub use wrapping::{add, mul, sub};

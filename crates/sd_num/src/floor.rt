@@ -1,0 +1,69 @@
+ghost use Rattle.std.specs.Prelude.{◌≡◌, ◌↔◌, ℤ, pos, None, IfSome};
+ghost use Rattle.sd_num.specs.Wrapped.{wrapped};
+ghost use Rattle.sd_num.specs.Floor.{IsFloorDivision};
+
+use crate::{add, sub};
+
+/// The quotient, rounded towards minus infinity, and the remainder.
+fn divided(a: i64, b: i64) -> Option<(i64, i64)>
+    ensures none { result ≡ None ↔ b ≡ pos 0 }
+    ensures some { IfSome result (λ pair. (quotient : ℤ) × IsFloorDivision a b quotient pair.1 × (pair.0 ≡ wrapped quotient)) }
+{
+    if b == 0 {
+        return None;
+    }
+    let quotient = a.wrapping_div(b);
+    let remainder = a.wrapping_rem(b);
+    if remainder != 0 && (remainder < 0) != (b < 0) {
+        return Some((sub(quotient, 1), add(remainder, b)));
+    }
+    Some((quotient, remainder))
+}
+
+/// The quotient, rounded towards minus infinity; it wraps for -2^63 by -1. `None` where the
+/// divisor is 0.
+pub fn floor_div(a: i64, b: i64) -> Option<i64>
+    ensures none { result ≡ None ↔ b ≡ pos 0 }
+    ensures some { IfSome result (λ value. (quotient : ℤ) × (remainder : ℤ) × IsFloorDivision a b quotient remainder × (value ≡ wrapped quotient)) }
+{
+    let (quotient, _) = divided(a, b)?;
+    Some(quotient)
+}
+
+/// The remainder, which is 0 or has the divisor's sign. `None` where the divisor is 0.
+pub fn floor_mod(a: i64, b: i64) -> Option<i64>
+    ensures none { result ≡ None ↔ b ≡ pos 0 }
+    ensures some { IfSome result (λ remainder. (quotient : ℤ) × IsFloorDivision a b quotient remainder) }
+{
+    let (_, remainder) = divided(a, b)?;
+    Some(remainder)
+}
+
+#[cfg(test)]
+mod tests {
+    use super::*;
+
+    #[test]
+    fn quotients_round_down_and_remainders_have_the_divisors_sign(rt: HostRuntime) {
+        for (a, b, quotient, remainder) in [
+            (7, 2, 3, 1),
+            (-7, 2, -4, 1),
+            (7, -2, -4, -1),
+            (-7, -2, 3, -1),
+            (6, 3, 2, 0),
+            (-6, 3, -2, 0),
+            (0, -5, 0, 0),
+            (i64::MIN, -1, i64::MIN, 0),
+            (i64::MIN, 1, i64::MIN, 0),
+            (i64::MAX, i64::MIN, -1, -1),
+            (i64::MIN, i64::MAX, -2, i64::MAX - 1),
+            (-1, i64::MAX, -1, i64::MAX - 1),
+            (1, i64::MIN, -1, i64::MIN + 1),
+        ] {
+            assert_eq!(rt; floor_div(a, b), Some(quotient), "{a} // {b}");
+            assert_eq!(rt; floor_mod(a, b), Some(remainder), "{a} % {b}");
+        }
+        assert_eq!(rt; floor_div(1, 0), None);
+        assert_eq!(rt; floor_mod(0, 0), None);
+    }
+}
