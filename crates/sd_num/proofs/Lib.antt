@@ -1,3 +1,4 @@
 pub mod Products
 pub mod ResolutionLemmas
 pub mod FloorLemmas
+pub mod FoldLemmas

@@ -1,5 +1,5 @@
 -- What an old and a new element become where both are written.
-use Rattle.std.specs.Prelude.{ℤ, pos, ◌+ℤ◌, ◌*ℤ◌, ◌-◌, ◌^◌, neg_ℤ, Option, Some, None}
+use Rattle.std.specs.Prelude.{ℤ, pos, ◌+ℤ◌, ◌*ℤ◌, ◌-◌, ◌^◌, neg_ℤ, Option, Some, None, List, fold}
 use Rattle.std.specs.Int.{int_min, int_max, int_bit_and, int_bit_or, int_bit_xor, w64}
 use Rattle.sd_num.specs.Wrapped.{wrapped}
 use Rattle.sd_num.specs.declared.resolution.Resolution.{Resolution}
@@ -25,3 +25,7 @@ identity_of And = Some (neg_ℤ (pos 1))
 identity_of Or = Some (pos 0)
 identity_of Xor = Some (pos 0)
 identity_of Last = None
+
+-- the element after each of the values is written in turn
+abbrev pub resolved_all : Resolution → (old : ℤ) → (values : List ℤ) → ℤ
+resolved_all resolution old values = fold (resolved resolution) old values

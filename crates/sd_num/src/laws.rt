@@ -1,5 +1,7 @@
-ghost use Rattle.std.specs.Prelude.{◌≡◌, ◌≢◌, IfSome};
-ghost use Rattle.sd_num.specs.Resolution.{resolved, identity_of};
+ghost use Rattle.std.specs.Prelude.{◌≡◌, ◌≢◌, ℤ, List, ◌++◌, map, All, Some, IfSome, FitsSigned, IsPermutation};
+ghost use Rattle.std.specs.List.{flat_map};
+ghost use Rattle.std.specs.Int.{w64};
+ghost use Rattle.sd_num.specs.Resolution.{resolved, resolved_all, identity_of};
 
 use crate::Resolution;
 
@@ -16,4 +18,20 @@ pub fn resolving_associates(resolution: Resolution, a: i64, b: i64, c: i64)
 /// An identity changes nothing.
 pub fn an_identity_changes_nothing(resolution: Resolution, value: i64)
     ensures { IfSome (identity_of resolution) (λ identity. resolved resolution identity value ≡ value) }
+{}
+
+/// Values resolved one after another give the same in every order, but by the last one.
+pub fn resolving_in_any_order(resolution: Resolution, old: i64)
+    ensures { resolution ≢ Resolution.Last → (values reordered : List ℤ) → All (FitsSigned w64) values → IsPermutation values reordered → resolved_all resolution old values ≡ resolved_all resolution old reordered }
+{}
+
+/// Values resolved one after another may be taken part by part.
+pub fn resolving_part_by_part(resolution: Resolution, old: i64)
+    ensures { (first second : List ℤ) → resolved_all resolution old (first ++ second) ≡ resolved_all resolution (resolved_all resolution old first) second }
+{}
+
+/// Partial results, which start at the identity, are resolved as all the values in them.
+pub fn partial_results_merge(resolution: Resolution, old: i64)
+    ensures one { (identity : ℤ) (values : List ℤ) → identity_of resolution ≡ Some identity → All (FitsSigned w64) values → resolved resolution old (resolved_all resolution identity values) ≡ resolved_all resolution old values }
+    ensures several { (identity : ℤ) (parts : List (List ℤ)) → identity_of resolution ≡ Some identity → All (All (FitsSigned w64)) parts → resolved_all resolution old (map (resolved_all resolution identity) parts) ≡ resolved_all resolution old (flat_map (λ values. values) parts) }
 {}

@@ -3,8 +3,8 @@
 //! Sum, difference, product and quotient are the exact ones, taken modulo 2^64 as signed
 //! numbers (`specs/Wrapped.antt`); division rounds down and refuses a divisor of 0 alone
 //! (`specs/Floor.antt`). A resolution makes one value of an old and a new one
-//! (`specs/Resolution.antt`); `laws` says that all but the last commute, all are associative
-//! and an identity changes nothing. Nothing here takes memory or faults.
+//! (`specs/Resolution.antt`); by `laws`, many values give the same in every order, but by the
+//! last one, and through partial results. Nothing here takes memory or faults.
 #![tactic(auto)]
 
 mod floor;
@@ -13,6 +13,9 @@ mod resolution;
 mod wrapping;
 
 pub use floor::{floor_div, floor_mod};
-pub use laws::{an_identity_changes_nothing, resolving_associates, resolving_commutes};
+pub use laws::{
+    an_identity_changes_nothing, partial_results_merge, resolving_associates, resolving_commutes,
+    resolving_in_any_order, resolving_part_by_part,
+};
 pub use resolution::{Resolution, identity, resolve};
 pub use wrapping::{add, mul, sub};

@@ -91,4 +91,32 @@ mod tests {
         }
         assert_eq!(rt; identity(Resolution::Last), None);
     }
+
+    /// The element after each of the values is written in turn.
+    fn in_turn(resolution: Resolution, old: i64, values: &[i64]) -> i64 {
+        let mut element = old;
+        for value in values {
+            element = resolve(resolution, element, *value);
+        }
+        element
+    }
+
+    #[test]
+    fn values_in_every_order_and_in_parts_give_the_same(rt: HostRuntime) {
+        for (resolution, identity, value) in [
+            (Resolution::Sum, 0, i64::MIN + 133),
+            (Resolution::Product, 1, i64::MIN + 170_085),
+            (Resolution::Min, i64::MAX, -3),
+            (Resolution::Max, i64::MIN, i64::MAX),
+            (Resolution::And, -1, 21),
+            (Resolution::Or, 0, -1),
+            (Resolution::Xor, 0, i64::MIN + 93),
+        ] {
+            assert_eq!(rt; in_turn(resolution, 29, &[23, 85, i64::MAX, -3]), value);
+            assert_eq!(rt; in_turn(resolution, 29, &[-3, 85, 23, i64::MAX]), value);
+            let first = in_turn(resolution, identity, &[23, 85]);
+            let second = in_turn(resolution, identity, &[i64::MAX, -3]);
+            assert_eq!(rt; in_turn(resolution, 29, &[second, first]), value);
+        }
+    }
 }
