@@ -2,7 +2,7 @@
 use Rattle.std.proofs.Common.{Some, ◌≡◌, ◌∷◌, ◌++◌, [], ℤ, List, map, refl, ap, sym, ◌∙◌}
 use Rattle.std.specs.List.{flat_map, AllByRecursion}
 use Rattle.std.proofs.lemmas.Int.{by_lt_z}
-use Rattle.sd_range.specs.Points.{tuples, next_of, Walk}
+use Rattle.sd_range.specs.Points.{tuples, moved, Walk}
 use Rattle.sd_range.specs.Axis.{axis_values, first_of, later_values, Rises, IsFilled, after}
 use Rattle.sd_range.specs.declared.axis.Axis.{Axis}
 use Rattle.sd_range.proofs.Stepped.{stepped-empty, stepped-filled}
@@ -39,8 +39,8 @@ tuples-empty (axis ∷ axes) none =
     ∙ no_tuple (axis_values axis))
 
 -- the step to the first point
-pub next_of-first : (axes : List Axis) (at : List ℤ) → AllByRecursion Rises axes → AllByRecursion IsFilled axes → at ≡ map first_of axes →
-    next_of (tuples (map axis_values axes)) ≡ record { current = Some at; left = after axes at }
-next_of-first axes at rising filled first =
-    ap next_of (tuples-first axes rising filled)
-    ∙ ap (λ point. let walk : Walk = record { current = Some point; left = after axes point } in walk) (sym first)
+pub moved-first : (walk : Walk) (axes : List Axis) (at : List ℤ) → AllByRecursion Rises axes → AllByRecursion IsFilled axes → at ≡ map first_of axes →
+    walk.left ≡ tuples (map axis_values axes) → moved walk ≡ record walk { current = Some at; left = after axes at }
+moved-first walk axes at rising filled first all =
+    ap (λ left. moved (record walk { left = left })) (all ∙ tuples-first axes rising filled)
+    ∙ ap (λ point. let on : Walk = record walk { current = Some point; left = after axes point } in on) (sym first)

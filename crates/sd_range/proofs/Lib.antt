@@ -1,4 +1,16 @@
 pub mod Values
+pub mod Products
+pub mod Normal
+pub mod Combining
+pub mod Same
+pub mod Coefficients
+pub mod AffineLaws
 pub mod Stepped
+pub mod Parts
 pub mod After
 pub mod Axes
+pub mod Members
+pub mod TupleLaws
+pub mod RangeLaws
+pub mod PieceLaws
+pub mod SubsetLaws

@@ -14,10 +14,10 @@ below a b h = grind (arith, ints)
 pub stepped-empty : (begin last step : ℤ) → last <ℤ begin → stepped begin last step ≡ []
 stepped-empty begin last step h = rw (below last begin h) refl
 
-count-empty : (begin last step : ℤ) → last <ℤ begin → count_between begin last step ≡ 0
+pub count-empty : (begin last step : ℤ) → last <ℤ begin → count_between begin last step ≡ 0
 count-empty begin last step h = rw (below last begin h) refl
 
-count-filled : (begin last step : ℤ) → begin ≤ℤ last → count_between begin last step ≡ unsigned_abs (last -ℤ begin) / unsigned_abs step + 1
+pub count-filled : (begin last step : ℤ) → begin ≤ℤ last → count_between begin last step ≡ unsigned_abs (last -ℤ begin) / unsigned_abs step + 1
 count-filled begin last step h = rw (not_below last begin h) refl
 
 -- the numbers after the first are as many as the steps that fit

@@ -1,7 +1,10 @@
 pub mod Terms
 pub mod Affine
+pub mod Arithmetic
+pub mod Merge
 pub mod Range
 pub mod Points
+pub mod Subset
 pub mod Axis
 pub mod Stage
 pub mod Walk

@@ -1,5 +1,5 @@
 -- How far a way through points has come, and what that says of where it stands and what is left.
-use Rattle.std.specs.Prelude.{◌≡◌, ℤ, List, [], map, Option, Some, None, ⊤}
+use Rattle.std.specs.Prelude.{◌≡◌, ℤ, List, [], map, Option, Some, None}
 use Rattle.std.specs.List.{AllByRecursion}
 use Rattle.sd_range.specs.Points.{tuples}
 use Rattle.sd_range.specs.Axis.{axis_values, first_of, IsFilled, after}
@@ -19,11 +19,11 @@ left_at Before axes at = tuples (map axis_values axes)
 left_at On axes at = after axes at
 left_at Over axes at = []
 
--- points are there only where each axis has a number, and before the first one the first numbers stand ready
+-- points are there only where each axis has a number, and but for at a point the first numbers stand ready
 abbrev pub IsReady : Stage → List Axis → List ℤ → Type 0
 IsReady Before axes at = AllByRecursion IsFilled axes × (at ≡ map first_of axes)
 IsReady On axes at = AllByRecursion IsFilled axes
-IsReady Over axes at = ⊤
+IsReady Over axes at = at ≡ map first_of axes
 
 -- no point has been come to, and all are left
 pub record IsOpening (stage : Stage) (axes : List Axis) : Type 0 where

@@ -1,11 +1,11 @@
-ghost use Rattle.std.specs.Prelude.{◌≡◌, ◌<◌, ◌∷◌, ◌+ℤ◌, length, map, IfOk, [], option_to_list, MatchOption, IsTrue, ◌↔◌};
+ghost use Rattle.std.specs.Prelude.{◌≡◌, ◌<◌, ◌≤◌, ◌+◌, ◌-◌, ◌^◌, min, ◌∷◌, ◌+ℤ◌, ◌*ℤ◌, pos, length, map, take, drop, IfOk, [], option_to_list, MatchOption, IsTrue, ◌↔◌};
 ghost use Rattle.std.specs.Bool.{OnTrue, OnFalse};
 ghost use Rattle.std.specs.List.{All, AllByRecursion};
 ghost use Rattle.sd_range.specs.Affine.{IsEvaluable};
 ghost use Rattle.sd_range.specs.Range.{IsRange, IsEvaluableRange, least_value};
-ghost use Rattle.sd_range.specs.Axis.{axis_of, first_of, later_values, Rises, IsFilled, after};
+ghost use Rattle.sd_range.specs.Axis.{axis_of, axis_values, first_of, later_values, Rises, IsFilled, after};
 
-use crate::affine::Affine;
+use crate::affine::{Affine, with_term};
 use crate::env::Env;
 use crate::memory::NoMemory;
 use crate::range::Range;
@@ -63,6 +63,71 @@ pub(crate) fn axes_of_ranges(
         axes.push(axis_of_range(range, env))?;
     }
     Ok(axes)
+}
+
+/// Puts the numbers of each range in the place of those of its axis, and the first ones into `at`.
+pub(crate) fn renew(ranges: &[Range], env: &Env, axes: &mut [Axis], at: &mut [i128])
+    requires ranges { All IsRange ranges.now }
+    requires evaluable { All (IsEvaluableRange env.now.values) ranges.now }
+    requires same_axes { length axes.old ≡ length ranges.now }
+    requires same_numbers { length at.old ≡ length ranges.now }
+    ensures axes { axes.new ≡ map (axis_of env.now.values) ranges.now }
+    ensures firsts { at.new ≡ map first_of (map (axis_of env.now.values) ranges.now) }
+{
+    for i in 0..ranges.len() {
+        axes[i] = axis_of_range(&ranges[i], env);
+        at[i] = axes[i].first;
+    }
+}
+
+/// How many numbers an axis has; the count stands still at its type's end.
+pub(crate) fn count_of(axis: &Axis) -> u128
+    requires { Rises axis.now }
+    ensures { result ≡ min (length (axis_values axis.now)) (2 ^ 128 - 1) }
+{
+    if axis.last < axis.first {
+        return 0;
+    }
+    let gaps = axis.last.abs_diff(axis.first) / axis.step.unsigned_abs();
+    gaps.saturating_add(1)
+}
+
+/// The number that stands at this place on an axis.
+fn number_at(axis: &Axis, place: u128) -> i128
+    requires rises { Rises axis.now }
+    requires within { place < length (axis_values axis.now) }
+    ensures { result ≡ axis.now.first +ℤ (pos place *ℤ axis.now.step) }
+{
+    let number = with_term(axis.first, place.cast_signed(), axis.step);
+    prove!(number <= axis.last);
+    number
+}
+
+/// So many numbers of an axis, from the one at the place `first` on.
+pub(crate) fn part_of(axis: &Axis, first: u128, count: u128) -> Axis
+    requires rises { Rises axis.now }
+    requires within { first + count ≤ length (axis_values axis.now) }
+    ensures values { axis_values result ≡ take count (drop first (axis_values axis.now)) }
+    ensures rises { Rises result }
+    ensures filled { 0 < count → IsFilled result }
+{
+    if count == 0 {
+        return Axis {
+            first: 0,
+            last: -1,
+            step: axis.step,
+        };
+    }
+    let rest = Axis {
+        first: number_at(axis, first),
+        last: axis.last,
+        step: axis.step,
+    };
+    Axis {
+        first: rest.first,
+        last: number_at(&rest, count - 1),
+        step: rest.step,
+    }
 }
 
 /// The first number of each axis.

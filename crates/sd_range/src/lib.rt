@@ -1,25 +1,38 @@
-//! Affine expressions, ranges over them, and the points of a list of ranges.
+//! Affine expressions, ranges over them, the points of ranges, and subsets of containers.
 //!
-//! `Affine::value` is exact: the constant plus each coefficient times its variable's value
-//! (`specs/Affine.antt`). `Points` goes through exactly the points of its ranges in
-//! lexicographic order, the last parameter fastest (`specs/Points.antt`). Only `new` and
-//! `push` take memory, and want of it is their one refusal.
+//! Values are exact, and sum, difference, product and substitution give the one normal form of
+//! the right value (`specs/Affine.antt`, `Arithmetic.antt`). `Points` goes through exactly the
+//! points of its ranges or of a piece of them, in lexicographic order (`Points.antt`). The
+//! elements of a subset are defined in `Subset.antt`; `laws` says all this in plain words. Want
+//! of memory is the one refusal; only constructors, copies and arithmetic take any.
 #![tactic(auto)]
 
 mod affine;
+mod arithmetic;
 mod axis;
 mod env;
+mod laws;
 mod memory;
 mod points;
 mod range;
 mod sequence;
 mod stage;
+mod subset;
 mod terms;
 
 pub use affine::Affine;
 pub use env::Env;
+pub use laws::{
+    a_difference_has_the_difference_of_values, a_piece_has_the_points_of_its_values,
+    a_product_has_the_product_of_the_value, a_substituted_variable_has_the_value_of_its_expression,
+    a_sum_has_the_sum_of_values, an_index_is_inside_where_each_number_is_below_its_extent,
+    arithmetic_keeps_the_normal_form, elements_choose_an_index_of_each_dimension,
+    equal_values_make_equal_expressions, pieces_partition_the_points,
+    points_are_in_lexicographic_order, tuples_choose_one_of_each, values_are_steps_up_to_each_end,
+};
 pub use memory::NoMemory;
 pub use points::Points;
 pub use range::Range;
 pub use sequence::Sequence;
+pub use subset::{Dim, Subset};
 pub use terms::Terms;

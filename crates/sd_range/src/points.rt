@@ -1,12 +1,12 @@
-ghost use Rattle.std.specs.Prelude.{◌≡◌, Some, None, IsSome, is_some, IfOk};
+ghost use Rattle.std.specs.Prelude.{◌≡◌, ◌≤◌, ◌+◌, ◌-◌, ◌^◌, min, length, Some, None, IsSome, is_some, IfOk};
 ghost use Rattle.std.specs.List.{All};
 ghost use Rattle.sd_range.specs.Range.{IsRange, IsEvaluableRange};
-ghost use Rattle.sd_range.specs.Points.{points, next_of};
+ghost use Rattle.sd_range.specs.Points.{tuples, first_values, opening, moved, narrowed};
 
-use crate::axis::{Axis, advance, axes_of_ranges, firsts_of};
+use crate::axis::{Axis, advance, axes_of_ranges, count_of, firsts_of, part_of, renew};
 use crate::env::Env;
 use crate::memory::NoMemory;
-use crate::range::Range;
+use crate::range::{Range, copied};
 use crate::stage::{Stage, opening_stage};
 use std::alloc::Global;
 use std::marker::Model;
@@ -15,9 +15,10 @@ use std::marker::Model;
 /// fastest.
 ///
 /// It stands before the first point at first, and `next` leads from point to point. With no
-/// range at all there is one point, which has no number.
+/// range at all there is one point, which has no number. No call but `new` takes memory.
 #[derive(Drop)]
 pub struct Points {
+    ranges: Vec<Range>,
     axes: Vec<Axis>,
     at: Vec<i128>,
     stage: Stage,
@@ -40,18 +41,23 @@ impl Points {
     pub fn new(alloc: Global, ranges: &[Range], env: &Env) -> Result<Points, NoMemory>
         requires ranges { All IsRange ranges.now }
         requires evaluable { All (IsEvaluableRange env.now.values) ranges.now }
-        ensures before { IfOk result (λ p. p.current ≡ None) }
-        ensures points { IfOk result (λ p. p.left ≡ points ranges.now env.now.values) }
+        ensures { IfOk result (λ p. p ≡ opening ranges.now env.now.values) }
     {
         let axes = axes_of_ranges(alloc, ranges, env)?;
         let at = firsts_of(alloc, axes.as_slice())?;
         let stage = opening_stage(axes.as_slice());
-        Ok(Points { axes, at, stage })
+        let ranges = copied(alloc, ranges)?;
+        Ok(Points {
+            ranges,
+            axes,
+            at,
+            stage,
+        })
     }
 
-    /// Goes to the next point; `false` where none is left. Takes no memory.
+    /// Goes to the next point; `false` where none is left.
     pub fn next(&mut self) -> bool
-        ensures step { self.new ≡ next_of self.old.left }
+        ensures step { self.new ≡ moved self.old }
         ensures found { result ≡ is_some self.new.current }
     {
         match self.stage {
@@ -70,12 +76,54 @@ impl Points {
         }
     }
 
-    /// The numbers of the point that it stands at, one for each range. Takes no memory.
+    /// The numbers of the point that it stands at, one for each range.
     pub fn at(&self) -> &[i128]
         requires { IsSome self.now.current }
         ensures { self.now.current ≡ Some result.now }
     {
         self.at.as_slice()
+    }
+
+    /// How many values the first parameter takes; 0 where there is none. All 2^128 numbers count
+    /// as one less.
+    pub fn first_count(&self) -> u128
+        ensures { result ≡ min (length (first_values self.now.parameters)) (2 ^ 128 - 1) }
+    {
+        match self.axes.first() {
+            Some(axis) => count_of(axis),
+            None => 0,
+        }
+    }
+
+    /// Keeps the points whose first parameter is among `count` of its values, from the one of
+    /// number `first` on, and stands before the first of them. No point was come to before.
+    pub fn piece(&mut self, first: u128, count: u128)
+        requires within { first + count ≤ length (first_values self.old.parameters) }
+        requires before { self.old.current ≡ None }
+        requires all_left { self.old.left ≡ tuples self.old.parameters }
+        ensures { self.new ≡ narrowed first count self.old }
+    {
+        if self.axes.is_empty() {
+            return;
+        }
+        self.axes[0] = part_of(&self.axes[0], first, count);
+        self.at[0] = self.axes[0].first;
+        self.stage = opening_stage(self.axes.as_slice());
+    }
+
+    /// Stands before the first point again, now where the variables have these values. A piece
+    /// is forgotten.
+    pub fn restart(&mut self, env: &Env)
+        requires { All (IsEvaluableRange env.now.values) self.old.ranges }
+        ensures { self.new ≡ opening self.old.ranges env.now.values }
+    {
+        renew(
+            self.ranges.as_slice(),
+            env,
+            self.axes.as_mut_slice(),
+            self.at.as_mut_slice(),
+        );
+        self.stage = opening_stage(self.axes.as_slice());
     }
 }
 

@@ -1,4 +1,4 @@
-ghost use Rattle.std.specs.Prelude.{◌≡◌, ◌↔◌, [], length, IsTrue};
+ghost use Rattle.std.specs.Prelude.{◌≡◌, ◌↔◌, ◌<◌, [], length, slice_set, IsTrue};
 
 use std::marker::Model;
 
@@ -35,6 +35,16 @@ impl<T> Sequence<T> {
         ensures { result.now ≡ self.now }
     {
         &self.items
+    }
+
+    /// Puts a value in the place of the item at this index.
+    pub fn set(&mut self, index: usize, value: T)
+    where
+        T: Drop,
+        requires { index < length self.old }
+        ensures { self.new ≡ slice_set self.old index value }
+    {
+        self.items[index] = value;
     }
 
     /// The items as a `Vec` again.

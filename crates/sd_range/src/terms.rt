@@ -1,5 +1,5 @@
-ghost use Rattle.std.specs.Prelude.{◌≡◌, ◌<◌, [], ◌∷◌, ◌++◌, length, IsOk, OnOk, OnErr};
-ghost use Rattle.sd_range.specs.Terms.{IsNormal};
+ghost use Rattle.std.specs.Prelude.{◌≡◌, ◌<◌, ◌≤◌, [], ◌∷◌, ◌++◌, length, IfOk, IsOk, OnOk, OnErr};
+ghost use Rattle.sd_range.specs.Terms.{IsNormal, coefficient_of};
 
 use crate::memory::NoMemory;
 use smallvec::SmallVec;
@@ -48,6 +48,28 @@ impl Terms {
     {
         self.items.push((variable, coefficient))?;
         Ok(())
+    }
+
+    /// The same terms once more.
+    pub fn copy_of(&self, alloc: Global) -> Result<Terms, NoMemory>
+        ensures same { IfOk result (λ copy. copy ≡ self.now) }
+        ensures few { length self.now ≤ 4 → IsOk result }
+    {
+        let mut items = SmallVec::new(alloc);
+        items.extend_from_slice(self.items.as_slice())?;
+        Ok(Terms { items })
+    }
+
+    /// The coefficient of a variable, 0 where no term has it. Takes no memory.
+    pub fn coefficient(&self, variable: u32) -> i128
+        ensures { result ≡ coefficient_of self.now variable }
+    {
+        for (other, coefficient) in self.items.as_slice() {
+            if *other == variable {
+                return *coefficient;
+            }
+        }
+        0
     }
 
     /// Each variable with its coefficient, by rising variables.

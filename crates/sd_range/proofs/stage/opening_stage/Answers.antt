@@ -11,5 +11,5 @@ pub returns-else-are_filled : goal.returns-else-are_filled
 returns-else-are_filled c = record {
   current = refl;
   left = sym (tuples-empty c.args.axes.now (λ filled. none (c.if-are_filled.ensures.1 (All-from_recursion IsFilled c.args.axes.now filled))));
-  ready = tt;
+  ready = refl;
 }
