@@ -2,3 +2,4 @@ pub mod Products
 pub mod ResolutionLemmas
 pub mod FloorLemmas
 pub mod FoldLemmas
+pub mod FloorUnique

@@ -1,5 +1,5 @@
 -- What an old and a new element become where both are written.
-use Rattle.std.specs.Prelude.{ℤ, pos, ◌+ℤ◌, ◌*ℤ◌, ◌-◌, ◌^◌, neg_ℤ, Option, Some, None, List, fold}
+use Rattle.std.specs.Prelude.{◌≢◌, ℤ, pos, ◌+ℤ◌, ◌*ℤ◌, ◌-◌, ◌^◌, neg_ℤ, Option, Some, None, List, fold}
 use Rattle.std.specs.Int.{int_min, int_max, int_bit_and, int_bit_or, int_bit_xor, w64}
 use Rattle.sd_num.specs.Wrapped.{wrapped}
 use Rattle.sd_num.specs.declared.resolution.Resolution.{Resolution}
@@ -14,6 +14,10 @@ resolved And old new = int_bit_and w64 old new
 resolved Or old new = int_bit_or w64 old new
 resolved Xor old new = int_bit_xor w64 old new
 resolved Last old new = new
+
+-- two values may be resolved in either order
+abbrev pub IsCommuting : Resolution → Type 0
+IsCommuting resolution = resolution ≢ Last
 
 -- the element that changes nothing
 abbrev pub identity_of : Resolution → Option ℤ

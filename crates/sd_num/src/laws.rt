@@ -1,18 +1,27 @@
-ghost use Rattle.std.specs.Prelude.{◌≡◌, ◌≢◌, ℤ, List, ◌++◌, map, All, Some, IfSome, FitsSigned, IsPermutation};
+ghost use Rattle.std.specs.Prelude.{◌≡◌, ℤ, List, ◌++◌, map, All, Some, IfSome, FitsSigned, IsPermutation};
 ghost use Rattle.std.specs.List.{flat_map};
 ghost use Rattle.std.specs.Int.{w64};
-ghost use Rattle.sd_num.specs.Resolution.{resolved, resolved_all, identity_of};
+ghost use Rattle.sd_num.specs.Floor.{IsFloorDivision};
+ghost use Rattle.sd_num.specs.Resolution.{IsCommuting, resolved, resolved_all, identity_of};
 
 use crate::Resolution;
 
+/// A division that rounds down has one quotient and one remainder.
+pub fn a_floor_division_has_one_result()
+    ensures { (a b quotient remainder other rest : ℤ)
+        → IsFloorDivision a b quotient remainder → IsFloorDivision a b other rest
+        → (quotient ≡ other) × (remainder ≡ rest) }
+{}
+
 /// Two values may be resolved in either order, but by the last one.
 pub fn resolving_commutes(resolution: Resolution, a: i64, b: i64)
-    ensures { resolution ≢ Resolution.Last → resolved resolution a b ≡ resolved resolution b a }
+    ensures { IsCommuting resolution → resolved resolution a b ≡ resolved resolution b a }
 {}
 
 /// Of three values either two may be resolved first.
 pub fn resolving_associates(resolution: Resolution, a: i64, b: i64, c: i64)
-    ensures { resolved resolution (resolved resolution a b) c ≡ resolved resolution a (resolved resolution b c) }
+    ensures { resolved resolution (resolved resolution a b) c
+        ≡ resolved resolution a (resolved resolution b c) }
 {}
 
 /// An identity changes nothing.
@@ -22,16 +31,27 @@ pub fn an_identity_changes_nothing(resolution: Resolution, value: i64)
 
 /// Values resolved one after another give the same in every order, but by the last one.
 pub fn resolving_in_any_order(resolution: Resolution, old: i64)
-    ensures { resolution ≢ Resolution.Last → (values reordered : List ℤ) → All (FitsSigned w64) values → IsPermutation values reordered → resolved_all resolution old values ≡ resolved_all resolution old reordered }
+    ensures { IsCommuting resolution
+        → (values reordered : List ℤ)
+        → All (FitsSigned w64) values → IsPermutation values reordered
+        → resolved_all resolution old values ≡ resolved_all resolution old reordered }
 {}
 
 /// Values resolved one after another may be taken part by part.
 pub fn resolving_part_by_part(resolution: Resolution, old: i64)
-    ensures { (first second : List ℤ) → resolved_all resolution old (first ++ second) ≡ resolved_all resolution (resolved_all resolution old first) second }
+    ensures { (first second : List ℤ)
+        → resolved_all resolution old (first ++ second)
+        ≡ resolved_all resolution (resolved_all resolution old first) second }
 {}
 
 /// Partial results, which start at the identity, are resolved as all the values in them.
 pub fn partial_results_merge(resolution: Resolution, old: i64)
-    ensures one { (identity : ℤ) (values : List ℤ) → identity_of resolution ≡ Some identity → All (FitsSigned w64) values → resolved resolution old (resolved_all resolution identity values) ≡ resolved_all resolution old values }
-    ensures several { (identity : ℤ) (parts : List (List ℤ)) → identity_of resolution ≡ Some identity → All (All (FitsSigned w64)) parts → resolved_all resolution old (map (resolved_all resolution identity) parts) ≡ resolved_all resolution old (flat_map (λ values. values) parts) }
+    ensures one { (identity : ℤ) (values : List ℤ)
+        → identity_of resolution ≡ Some identity → All (FitsSigned w64) values
+        → resolved resolution old (resolved_all resolution identity values)
+        ≡ resolved_all resolution old values }
+    ensures several { (identity : ℤ) (parts : List (List ℤ))
+        → identity_of resolution ≡ Some identity → All (All (FitsSigned w64)) parts
+        → resolved_all resolution old (map (resolved_all resolution identity) parts)
+        ≡ resolved_all resolution old (flat_map (λ values. values) parts) }
 {}

@@ -1,4 +1,4 @@
-ghost use Rattle.std.specs.Prelude.{◌≡◌};
+ghost use Rattle.std.specs.Prelude.{◌≡◌, ◌↔◌, None};
 ghost use Rattle.sd_num.specs.Resolution.{resolved, identity_of};
 
 use crate::{add, mul};
@@ -42,7 +42,8 @@ pub fn resolve(resolution: Resolution, old: i64, new: i64) -> i64
 
 /// The element that changes nothing. `Last` has none.
 pub fn identity(resolution: Resolution) -> Option<i64>
-    ensures { result ≡ identity_of resolution }
+    ensures value { result ≡ identity_of resolution }
+    ensures none { result ≡ None ↔ resolution ≡ Resolution.Last }
 {
     match resolution {
         Resolution::Sum | Resolution::Or | Resolution::Xor => Some(0),

@@ -1,5 +1,7 @@
 -- The laws of affine expressions.
-use Rattle.std.proofs.Common.{◌≡◌, ◌≢◌, ℕ, ◌<◌, ℤ, pos, neg_ℤ, ◌+ℤ◌, ◌-ℤ◌, ◌*ℤ◌, List, [], ◌∷◌, ◌++◌, not, nat_eq, length, replicate, slice_set, refl, ap, ◌∙◌, arith}
+use Rattle.std.specs.List.{All, AllByRecursion}
+use Rattle.std.proofs.lemmas.List.Elements.{recursion_from_All}
+use Rattle.std.proofs.Common.{◌≡◌, ◌≢◌, zero, suc, sym, ℕ, ◌<◌, ℤ, pos, neg_ℤ, ◌+ℤ◌, ◌-ℤ◌, ◌*ℤ◌, List, [], ◌∷◌, ◌++◌, not, nat_eq, length, replicate, slice_set, refl, ap, ◌∙◌, arith}
 use Rattle.std.specs.List.{filter}
 use Rattle.std.proofs.lemmas.Bool.{eq-eqb, ne_eqb}
 use Rattle.std.proofs.lemmas.Int.{ints}
@@ -129,3 +131,39 @@ same_values a b normal normal' same =
     same_parts a b constant
     (same_coefficients a.terms b.terms normal normal'
     (λ variable. omega (arith, ints, same (unit variable), terms_value-unit a.terms variable normal, terms_value-unit b.terms variable normal')))
+
+-- so many values: those given, and 0 for each that is wanting
+abbrev resized : ℕ → List ℤ → List ℤ
+resized zero values = []
+resized (suc count) [] = pos 0 ∷ resized count []
+resized (suc count) (value ∷ values) = value ∷ resized count values
+
+length-resized : (count : ℕ) (values : List ℤ) → length (resized count values) ≡ count
+length-resized zero values = refl
+length-resized (suc count) [] = ap suc (length-resized count [])
+length-resized (suc count) (value ∷ values) = ap suc (length-resized count values)
+
+-- each variable below that number keeps its value
+variable_value-resized : (count : ℕ) (values : List ℤ) (variable : ℕ) → variable < count → variable_value (resized count values) variable ≡ variable_value values variable
+variable_value-resized zero values variable below = absurd (omega arith)
+variable_value-resized (suc count) [] zero below = refl
+variable_value-resized (suc count) [] (suc variable) below = variable_value-resized count [] variable (omega arith)
+variable_value-resized (suc count) (value ∷ values) zero below = refl
+variable_value-resized (suc count) (value ∷ values) (suc variable) below = variable_value-resized count values variable (omega arith)
+
+-- and so do terms of such variables
+terms_value-resized : (count : ℕ) (terms : List (ℕ × ℤ)) (values : List ℤ) → AllByRecursion (λ term. term.0 < count) terms → terms_value terms (resized count values) ≡ terms_value terms values
+terms_value-resized count [] values known = refl
+terms_value-resized count (term ∷ terms) values known =
+    ap (λ value. (term.1 *ℤ value) +ℤ terms_value terms (resized count values)) (variable_value-resized count values term.0 known.0)
+    ∙ ap (λ rest. (term.1 *ℤ variable_value values term.0) +ℤ rest) (terms_value-resized count terms values known.1)
+
+affine_value-resized : (count : ℕ) (a : Affine) (values : List ℤ) → All (λ term. term.0 < count) a.terms → affine_value a (resized count values) ≡ affine_value a values
+affine_value-resized count a values known = ap (λ rest. a.constant +ℤ rest) (terms_value-resized count a.terms values (recursion_from_All (λ term. term.0 < count) a.terms known))
+
+-- it is enough that the values are one where each variable of both has one
+pub same_known_values : (a b : Affine) (count : ℕ) → IsNormal a.terms → IsNormal b.terms → All (λ term. term.0 < count) a.terms → All (λ term. term.0 < count) b.terms →
+    ((values : List ℤ) → length values ≡ count → affine_value a values ≡ affine_value b values) → a ≡ b
+same_known_values a b count normal normal' known known' same =
+    same_values a b normal normal'
+    (λ values. sym (affine_value-resized count a values known) ∙ same (resized count values) (length-resized count values) ∙ affine_value-resized count b values known')

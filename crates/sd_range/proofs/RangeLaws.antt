@@ -1,5 +1,5 @@
 -- What the values of a range are, and that they rise.
-use Rattle.std.proofs.Common.{◌≡◌, ◌↔◌, ◌<◌, zero, suc, ℕ, ℤ, pos, negsuc, ◌+ℤ◌, ◌*ℤ◌, ◌<ℤ◌, ◌≤ℤ◌, List, [], ◌∷◌, length, get_or, map, sym, ◌∙◌, subst, arith}
+use Rattle.std.proofs.Common.{◌≡◌, inl, inr, ◌↔◌, ◌<◌, zero, suc, ℕ, ℤ, pos, negsuc, ◌+ℤ◌, ◌*ℤ◌, ◌<ℤ◌, ◌≤ℤ◌, List, [], ◌∷◌, length, get_or, map, sym, ◌∙◌, subst, arith}
 use Rattle.std.specs.List.{All, AllByRecursion, AllPairs, Contains, fold}
 use Rattle.std.specs.Int.{int_min}
 use Rattle.std.proofs.lemmas.Int.{ints, clamps, by_lt_z}
@@ -107,19 +107,37 @@ above_bound (suc count) bound begin step rises above =
     (above_bound count bound (begin +ℤ step) step rises (omega (arith, ints)))
 
 -- numbers a step apart rise
-counted-rises : (count : ℕ) (begin step : ℤ) → pos 0 <ℤ step → AllPairs (λ a b. a <ℤ b) (counted_from begin step count)
+pub counted-rises : (count : ℕ) (begin step : ℤ) → pos 0 <ℤ step → AllPairs (λ a b. a <ℤ b) (counted_from begin step count)
 counted-rises zero begin step rises = λ i j d before below. absurd (omega arith)
 counted-rises (suc count) begin step rises =
     AllPairs-cons (λ a b. a <ℤ b) begin (counted_from (begin +ℤ step) step count)
     (above_bound count begin (begin +ℤ step) step rises (omega (arith, ints)))
     (counted-rises count (begin +ℤ step) step rises)
 
+-- the values of a range rise
+pub range-rises : (r : Range) (values : List ℤ) → IsRange r → AllPairs (λ a b. a <ℤ b) (range_values values r)
+range-rises r values ok = counted-rises (count_between (affine_value r.begin values) (least_value r.ends values) r.step) (affine_value r.begin values) r.step ok.rises
+
 -- the values of each range rise
 each-rises : (ranges : List Range) (values : List ℤ) → AllByRecursion IsRange ranges → AllByRecursion (AllPairs (λ a b. a <ℤ b)) (map (range_values values) ranges)
 each-rises [] values each = tt
 each-rises (r ∷ ranges) values each =
-    (counted-rises (count_between (affine_value r.begin values) (least_value r.ends values) r.step) (affine_value r.begin values) r.step each.0.rises, each-rises ranges values each.1)
+    (range-rises r values each.0, each-rises ranges values each.1)
 
 -- the points of ranges come in lexicographic order
 pub points-in_order : (ranges : List Range) (values : List ℤ) → All IsRange ranges → AllPairs Precedes (points ranges values)
 points-in_order ranges values each = tuples-in_order (map (range_values values) ranges) (each-rises ranges values (recursion_from_All IsRange ranges each))
+
+-- no point precedes itself
+precedes-itself : (point : List ℤ) → Precedes point point → ⊥
+precedes-itself [] before = before
+precedes-itself (number ∷ point) (inl less) = omega (arith, ints)
+precedes-itself (number ∷ point) (inr (same, before)) = precedes-itself point before
+
+-- a point that precedes another is not that one
+precedes-distinct : (point later : List ℤ) → Precedes point later → point ≡ later → ⊥
+precedes-distinct point later before same = precedes-itself later (subst (λ p. Precedes p later) same before)
+
+-- the points of ranges are distinct
+pub points-distinct : (ranges : List Range) (values : List ℤ) → All IsRange ranges → AllPairs (λ point later. point ≡ later → ⊥) (points ranges values)
+points-distinct ranges values each = λ i j d before below. precedes-distinct _ _ (points-in_order ranges values each i j d before below)

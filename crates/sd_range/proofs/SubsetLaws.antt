@@ -1,14 +1,17 @@
 -- What the elements of a subset are, and the indices inside a container.
 use Rattle.std.proofs.Common.{◌≡◌, ◌↔◌, inl, inr, zero, suc, ℕ, ℤ, pos, ◌+ℤ◌, ◌<ℤ◌, ◌≤ℤ◌, List, [], ◌∷◌, length, map, IsTrue, Bool, true, false, ◌&&◌, int_le, int_lt, refl, ap, ◌∙◌, subst, arith}
-use Rattle.std.specs.List.{AllZip, Contains}
+use Rattle.std.specs.List.{All, AllByRecursion, AllPairs, AllZip, Contains}
 use Rattle.std.proofs.lemmas.Int.{ints, by_lt_z}
 use Rattle.std.proofs.lemmas.Simd.{map-map}
-use Rattle.sd_range.specs.Points.{tuples, product}
+use Rattle.sd_range.specs.Points.{tuples, product, Precedes}
 use Rattle.sd_range.specs.Range.{counted_from}
-use Rattle.sd_range.specs.Subset.{dim_values, inside, whole}
+use Rattle.sd_range.specs.Subset.{IsDim, dim_values, inside, whole}
 use Rattle.sd_range.specs.declared.subset.Dim.{Dim}
+use Rattle.sd_range.specs.declared.subset.Dim.TheVariants.{Index, Span}
+use Rattle.std.proofs.lemmas.List.Elements.{recursion_from_All}
+use Rattle.sd_range.proofs.RangeLaws.{range-rises, counted-rises}
 use Rattle.sd_range.proofs.Members.{Contains-nil, Contains-first, Contains-later, Contains-cases, AllZip-map, AllZip-from_map, AllZip-weaker}
-use Rattle.sd_range.proofs.TupleLaws.{one_of_each, each_choice, length-tuples}
+use Rattle.sd_range.proofs.TupleLaws.{one_of_each, each_choice, length-tuples, tuples-in_order}
 
 -- an element has in each dimension one of its indices, and each such choice is one
 pub elements-members : (dims : List Dim) (values index : List ℤ) →
@@ -103,3 +106,26 @@ counted_each (extent ∷ extents) = ap (λ count. count ∷ map length (map (cou
 -- there are as many as the product of the extents
 pub whole-count : (extents : List ℕ) → length (whole extents) ≡ product extents
 whole-count extents = length-tuples (map (counted_from (pos 0) (pos 1)) extents) ∙ ap product (counted_each extents)
+
+-- the indices of a dimension rise
+dim-rises : (dim : Dim) (values : List ℤ) → IsDim dim → AllPairs (λ a b. a <ℤ b) (dim_values values dim)
+dim-rises (Index at) values ok = λ i j d before below. absurd (omega arith)
+dim-rises (Span r) values ok = range-rises r values ok
+
+-- those of each dimension do
+dims-rise : (dims : List Dim) (values : List ℤ) → AllByRecursion IsDim dims → AllByRecursion (AllPairs (λ a b. a <ℤ b)) (map (dim_values values) dims)
+dims-rise [] values each = tt
+dims-rise (dim ∷ dims) values each = (dim-rises dim values each.0, dims-rise dims values each.1)
+
+-- the elements of a subset come in row order
+pub elements-in_order : (dims : List Dim) (values : List ℤ) → All IsDim dims → AllPairs Precedes (tuples (map (dim_values values) dims))
+elements-in_order dims values each = tuples-in_order (map (dim_values values) dims) (dims-rise dims values (recursion_from_All IsDim dims each))
+
+-- the numbers below each extent rise
+extents-rise : (extents : List ℕ) → AllByRecursion (AllPairs (λ a b. a <ℤ b)) (map (counted_from (pos 0) (pos 1)) extents)
+extents-rise [] = tt
+extents-rise (extent ∷ extents) = (counted-rises extent (pos 0) (pos 1) (omega (arith, ints)), extents-rise extents)
+
+-- all indices come in row order
+pub whole-in_order : (extents : List ℕ) → AllPairs Precedes (whole extents)
+whole-in_order extents = tuples-in_order (map (counted_from (pos 0) (pos 1)) extents) (extents-rise extents)

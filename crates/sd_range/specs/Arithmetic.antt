@@ -39,9 +39,13 @@ affine_difference a b = combination a (neg_ℤ (pos 1)) b
 abbrev pub affine_product : ℤ → Affine → Affine
 affine_product factor a = combination affine_zero factor a
 
+-- the terms of other variables
+abbrev pub others_of : ℕ → List (ℕ × ℤ) → List (ℕ × ℤ)
+others_of variable terms = filter (λ term. not (nat_eq term.0 variable)) terms
+
 -- the expression less its term of the variable
 abbrev pub without : ℕ → Affine → Affine
-without variable a = record { constant = a.constant; terms = filter (λ term. not (nat_eq term.0 variable)) a.terms }
+without variable a = record { constant = a.constant; terms = others_of variable a.terms }
 
 -- the expression with another in the place of a variable
 abbrev pub substituted : ℕ → Affine → Affine → Affine

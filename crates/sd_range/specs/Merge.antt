@@ -1,7 +1,6 @@
--- The steps of a combination of two lists of terms, and of a list without a variable.
-use Rattle.std.specs.Prelude.{◌≡◌, ◌<◌, ◌+◌, ℤ, List, ℕ, length, not, nat_eq}
+-- The steps of a combination of two lists of terms.
+use Rattle.std.specs.Prelude.{◌≡◌, ◌<◌, ◌+◌, ℤ, List, ℕ, length}
 use Rattle.std.specs.Int.{int_wrap, w128}
-use Rattle.std.specs.List.{filter}
 use Rattle.sd_range.specs.Terms.{IsNormal}
 use Rattle.sd_range.specs.Arithmetic.{put_before, combined}
 use Rattle.sd_range.specs.declared.arithmetic.Next.{Next}
@@ -14,7 +13,3 @@ pub record IsNext (left : List (ℕ × ℤ)) (factor : ℤ) (right : List (ℕ �
   pub normal_left : IsNormal next.left.now
   pub normal_right : IsNormal next.right.now
   pub shorter : length next.left.now + length next.right.now < length left + length right
-
--- the terms of other variables
-abbrev pub others_of : ℕ → List (ℕ × ℤ) → List (ℕ × ℤ)
-others_of variable terms = filter (λ term. not (nat_eq term.0 variable)) terms

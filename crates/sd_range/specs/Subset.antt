@@ -1,7 +1,7 @@
 -- The elements of a subset, and the indices inside a container.
-use Rattle.std.specs.Prelude.{ℕ, ℤ, pos, List, [], ◌∷◌, map, Bool, true, false, ◌&&◌, int_le, int_lt}
+use Rattle.std.specs.Prelude.{ℕ, ℤ, pos, List, [], ◌∷◌, map, Bool, true, false, ◌&&◌, int_le, int_lt, ⊤}
 use Rattle.sd_range.specs.Affine.{affine_value}
-use Rattle.sd_range.specs.Range.{range_values, counted_from}
+use Rattle.sd_range.specs.Range.{IsRange, range_values, counted_from}
 use Rattle.sd_range.specs.Points.{tuples}
 use Rattle.sd_range.specs.declared.subset.Dim.{Dim}
 use Rattle.sd_range.specs.declared.subset.Dim.TheVariants.{Index, Span}
@@ -11,6 +11,11 @@ use Rattle.sd_range.specs.declared.subset.Subset.{Subset}
 abbrev pub dim_values : List ℤ → Dim → List ℤ
 dim_values values (Index at) = affine_value at values ∷ []
 dim_values values (Span r) = range_values values r
+
+-- a dimension of one index, or whose range has one to four ends and a step of at least 1
+abbrev pub IsDim : Dim → Type 0
+IsDim (Index at) = ⊤
+IsDim (Span r) = IsRange r
 
 -- the index tuples of a subset in row order, the last dimension fastest
 abbrev pub elements : Subset → List ℤ → List (List ℤ)

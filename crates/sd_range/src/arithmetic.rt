@@ -1,9 +1,9 @@
 ghost use Rattle.std.specs.Prelude.{◌≡◌, ◌<◌, ◌+◌, ◌++◌, [], ◌∷◌, length, IfOk, OnOk, MatchOption, FitsSigned};
-ghost use Rattle.std.specs.Int.{int_wrap, w128};
+ghost use Rattle.std.specs.Int.{w128};
 ghost use Rattle.std.specs.List.{All};
 ghost use Rattle.sd_range.specs.Terms.{IsNormal};
-ghost use Rattle.sd_range.specs.Arithmetic.{put_before, combined, combination, affine_sum, affine_difference, affine_product, without, substituted, IsRepresentable};
-ghost use Rattle.sd_range.specs.Merge.{IsNext, others_of};
+ghost use Rattle.sd_range.specs.Arithmetic.{put_before, combined, combination, affine_sum, affine_difference, affine_product, others_of, without, substituted, IsRepresentable};
+ghost use Rattle.sd_range.specs.Merge.{IsNext};
 
 use crate::affine::{Affine, with_term};
 use crate::memory::NoMemory;

@@ -14,6 +14,6 @@ pub use points::{
     points_are_in_lexicographic_order, tuples_choose_one_of_each, values_are_steps_up_to_each_end,
 };
 pub use subset::{
-    an_index_is_inside_where_each_number_is_below_its_extent,
+    an_index_is_inside_where_each_number_is_one_of_its_extent,
     elements_choose_an_index_of_each_dimension,
 };

@@ -4,7 +4,7 @@
 //! the right value (`specs/Affine.antt`, `Arithmetic.antt`). `Points` goes through exactly the
 //! points of its ranges or of a piece of them, in lexicographic order (`Points.antt`). The
 //! elements of a subset are defined in `Subset.antt`; `laws` says all this in plain words. Want
-//! of memory is the one refusal; only constructors, copies and arithmetic take any.
+//! of memory is the one refusal; only constructors, `Terms::push`, copies and arithmetic take any.
 #![tactic(auto)]
 
 mod affine;
@@ -25,7 +25,7 @@ pub use env::Env;
 pub use laws::{
     a_difference_has_the_difference_of_values, a_piece_has_the_points_of_its_values,
     a_product_has_the_product_of_the_value, a_substituted_variable_has_the_value_of_its_expression,
-    a_sum_has_the_sum_of_values, an_index_is_inside_where_each_number_is_below_its_extent,
+    a_sum_has_the_sum_of_values, an_index_is_inside_where_each_number_is_one_of_its_extent,
     arithmetic_keeps_the_normal_form, elements_choose_an_index_of_each_dimension,
     equal_values_make_equal_expressions, pieces_partition_the_points,
     points_are_in_lexicographic_order, tuples_choose_one_of_each, values_are_steps_up_to_each_end,

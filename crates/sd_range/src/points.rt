@@ -96,7 +96,8 @@ impl Points {
     }
 
     /// Keeps the points whose first parameter is among `count` of its values, from the one of
-    /// number `first` on, and stands before the first of them. No point was come to before.
+    /// number `first` on, and stands before the first of them. No point was come to before. With
+    /// no parameter the one point stays.
     pub fn piece(&mut self, first: u128, count: u128)
         requires within { first + count ≤ length (first_values self.old.parameters) }
         requires before { self.old.current ≡ None }

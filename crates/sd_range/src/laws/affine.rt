@@ -1,4 +1,5 @@
 ghost use Rattle.std.specs.Prelude.{◌≡◌, ◌↔◌, ◌<◌, ℕ, ℤ, ◌+ℤ◌, ◌-ℤ◌, ◌*ℤ◌, List, length, slice_set};
+ghost use Rattle.std.specs.List.{All};
 ghost use Rattle.sd_range.specs.Terms.{IsNormal};
 ghost use Rattle.sd_range.specs.Affine.{affine_value};
 ghost use Rattle.sd_range.specs.Arithmetic.{affine_sum, affine_difference, affine_product, substituted};
@@ -33,9 +34,10 @@ pub fn a_substituted_variable_has_the_value_of_its_expression()
 
 /// In normal form two expressions are one where they have one value whatever the variables are.
 pub fn equal_values_make_equal_expressions()
-    ensures { (a b : Affine)
+    ensures { (a b : Affine) (count : ℕ)
         → IsNormal a.terms → IsNormal b.terms
-        → ((values : List ℤ) → affine_value a values ≡ affine_value b values)
+        → All (λ term. term.0 < count) a.terms → All (λ term. term.0 < count) b.terms
+        → ((values : List ℤ) → length values ≡ count → affine_value a values ≡ affine_value b values)
         → a ≡ b }
 {}
 

@@ -1,4 +1,4 @@
-ghost use Rattle.std.specs.Prelude.{◌≡◌, ◌↔◌, ◌<◌, ℕ, ℤ, pos, ◌+ℤ◌, ◌*ℤ◌, ◌≤ℤ◌, List, ◌∷◌, map, length, take, drop, sum};
+ghost use Rattle.std.specs.Prelude.{◌≡◌, ◌≢◌, ◌↔◌, ◌<◌, ℕ, ℤ, pos, ◌+ℤ◌, ◌*ℤ◌, ◌≤ℤ◌, List, ◌∷◌, map, length, take, drop, sum};
 ghost use Rattle.std.specs.List.{All, AllPairs, AllZip, Contains, flat_map};
 ghost use Rattle.sd_range.specs.Affine.{affine_value};
 ghost use Rattle.sd_range.specs.Range.{IsRange, range_values};
@@ -23,7 +23,8 @@ pub fn tuples_choose_one_of_each()
 
 /// The points of ranges come in lexicographic order, so each comes once.
 pub fn points_are_in_lexicographic_order()
-    ensures { (ranges : List Range) (values : List ℤ) → All IsRange ranges → AllPairs Precedes (points ranges values) }
+    ensures order { (ranges : List Range) (values : List ℤ) → All IsRange ranges → AllPairs Precedes (points ranges values) }
+    ensures distinct { (ranges : List Range) (values : List ℤ) → All IsRange ranges → AllPairs (λ point later. point ≢ later) (points ranges values) }
 {}
 
 /// A piece keeps the points whose first number is among its values.

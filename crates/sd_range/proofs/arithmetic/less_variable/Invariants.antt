@@ -1,5 +1,5 @@
 use Rattle.std.proofs.Common.{◌≡◌, take}
-use Rattle.sd_range.specs.Merge.{others_of}
+use Rattle.sd_range.specs.Arithmetic.{others_of}
 use Rattle.sd_range.proofs.arithmetic.less_variable.Given as goal
 
 -- the terms of other variables so far
