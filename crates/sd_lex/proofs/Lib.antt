@@ -1,0 +1,10 @@
+pub mod DigitLemmas
+pub mod FoundLemmas
+pub mod LineLemmas
+pub mod BlockLemmas
+pub mod PushLemmas
+pub mod LayoutLemmas
+pub mod LinesLemmas
+pub mod PositionLaws
+pub mod TextLaws
+pub mod SpanLaws

@@ -1,0 +1,15 @@
+pub mod Bytes
+pub mod Sign
+pub mod Digits
+pub mod FoundAt
+pub mod Reading
+pub mod Line
+pub mod Lines
+pub mod Blocks
+pub mod Layout
+pub mod PlainTree
+pub mod TreeFold
+pub mod ExpressionNames
+pub mod StatementKind
+pub mod Position
+pub mod TokenText
