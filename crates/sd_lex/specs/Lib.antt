@@ -7,6 +7,7 @@ pub mod Line
 pub mod Lines
 pub mod Blocks
 pub mod Layout
+pub mod LexerState
 pub mod PlainTree
 pub mod TreeFold
 pub mod ExpressionNames

@@ -1,10 +1,10 @@
 ghost use Rattle.std.specs.Prelude.{◌≡◌, ◌≢◌, ◌≤◌, ◌<◌, ◌+◌, ◌^◌, ◌∷◌, [], ◌++◌, ℕ, List, None, Ok, Err, OnOk, IfErr, IfSome, IsSome, IsTrue, length, map, drop, reverse};
 ghost use Rattle.std.specs.List.{All, list_any};
 ghost use Rattle.sd_lex.specs.Bytes.{is_tab};
-ghost use Rattle.sd_lex.specs.Reading.{after};
 ghost use Rattle.sd_lex.specs.Line.{PhysicalLine, physical_line};
 ghost use Rattle.sd_lex.specs.Line as lines;
-ghost use Rattle.sd_lex.specs.Layout.{mark, brackets_after, blocks_of, line_end, text_end, layout};
+ghost use Rattle.sd_lex.specs.Layout.{brackets_after, text_end};
+ghost use Rattle.sd_lex.specs.LexerState.{next_blocks, rest_of, HasChanged, HasRead};
 ghost use Rattle.sd_lex.specs.Layout as definition;
 
 use crate::blocks::{Place, change_blocks, push_mark};
@@ -130,10 +130,10 @@ impl Lexer {
     /// Opens and closes blocks before a line, if it begins a logical line.
     fn begin_line(&mut self, number: u32, from: u32, bytes: &[u8]) -> Result<(), LexError>
         requires { from + length bytes.now < 2 ^ 32 }
-        ensures some { OnOk result (IsSome (blocks_of self.old.brackets (reverse self.old.widths.items) (physical_line number from bytes.now))) }
-        ensures ok { OnOk result (IfSome (blocks_of self.old.brackets (reverse self.old.widths.items) (physical_line number from bytes.now)) (λ blocks. (reverse self.new.widths.items ≡ blocks.widths) × (self.new.tokens.items ≡ self.old.tokens.items ++ map (mark (from + lines.blanks_of bytes.now) number) blocks.marks))) }
+        ensures some { OnOk result (IsSome (next_blocks self.old (physical_line number from bytes.now))) }
+        ensures ok { OnOk result (IfSome (next_blocks self.old (physical_line number from bytes.now)) (HasChanged (from + lines.blanks_of bytes.now) number self.old self.new)) }
         ensures brackets { OnOk result (self.new.brackets ≡ self.old.brackets) }
-        ensures err { IfErr result (λ error. error ≢ LexError.Memory → (error ≡ LexError.BadIndent number) × (blocks_of self.old.brackets (reverse self.old.widths.items) (physical_line number from bytes.now) ≡ None)) }
+        ensures err { IfErr result (λ error. error ≢ LexError.Memory → (error ≡ LexError.BadIndent number) × (next_blocks self.old (physical_line number from bytes.now) ≡ None)) }
     {
         if self.brackets > 0 || !has_content(bytes) {
             return Ok(());
@@ -160,9 +160,9 @@ impl Lexer {
         requires within { from + length bytes.now ≤ length text.now }
         requires short { length text.now < 2 ^ 31 }
         requires few { self.old.brackets ≤ from }
-        ensures ok { OnOk result ((last : ℕ) (lines : List PhysicalLine) → after self.old.tokens.items (layout text.now last self.old.brackets (reverse self.old.widths.items) (physical_line number from bytes.now ∷ lines)) ≡ after self.new.tokens.items (layout text.now last self.new.brackets (reverse self.new.widths.items) lines)) }
+        ensures ok { OnOk result (HasRead text.now (physical_line number from bytes.now) self.old self.new) }
         ensures few { OnOk result (self.new.brackets ≤ from + length bytes.now) }
-        ensures err { IfErr result (λ error. error ≢ LexError.Memory → (last : ℕ) (lines : List PhysicalLine) → layout text.now last self.old.brackets (reverse self.old.widths.items) (physical_line number from bytes.now ∷ lines) ≡ Err error) }
+        ensures err { IfErr result (λ error. error ≢ LexError.Memory → (last : ℕ) (lines : List PhysicalLine) → rest_of text.now last self.old (physical_line number from bytes.now ∷ lines) ≡ Err error) }
     {
         self.begin_line(number, from, bytes)?;
         let before = self.tokens.len();

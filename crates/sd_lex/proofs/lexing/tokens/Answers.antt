@@ -6,7 +6,8 @@ use Rattle.sd_lex.specs.Bytes.{is_newline}
 use Rattle.sd_lex.specs.Reading.{after}
 use Rattle.sd_lex.specs.Line.{physical_line}
 use Rattle.sd_lex.specs.Lines.{numbered, physical_lines, less_return}
-use Rattle.sd_lex.specs.Layout.{layout, lexed, text_end}
+use Rattle.sd_lex.specs.Layout.{lexed, text_end}
+use Rattle.sd_lex.specs.LexerState.{whole_of}
 use Rattle.sd_lex.proofs.LineLemmas.{after-nothing}
 use Rattle.sd_lex.proofs.LinesLemmas.{length-numbered, last_line, less_return_shorter, first_parts, first_within, first_line}
 use Rattle.sd_lex.proofs.SpanLaws.{tokens_of_text}
@@ -34,7 +35,7 @@ returns-in_err-push-clause-err c =
     let behind = numbered (c.loop-length.number + 1) (from + (at + 1)) (slice_split is_newline (drop (from + (at + 1)) text)) in
     rw (p.1, p.2)
     (λ differs. sym c.loop-length.invariant.rest
-    ∙ ap (λ lines. after c.loop-length.lexer.tokens.items (layout text last c.loop-length.lexer.brackets (reverse c.loop-length.lexer.widths.items) lines)) head
+    ∙ ap (whole_of text last c.loop-length.lexer) head
     ∙ ap (after c.loop-length.lexer.tokens.items) (c.in_err-push.ensures.err differs last behind))
 
 pub loop-length-preserved : goal.loop-length-preserved
@@ -54,7 +55,7 @@ loop-length-preserved c =
       few_brackets = omega (arith, c.in_ok-push.ensures.few, fewer, length-take at (drop from text));
       count = omega (arith, c.loop-length.invariant.count, ap length (first_parts text c.loop-length.number from at found));
       rest = sym (c.in_ok-push.ensures.ok last behind)
-          ∙ ap (λ lines. after c.loop-length.lexer.tokens.items (layout text last c.loop-length.lexer.brackets (reverse c.loop-length.lexer.widths.items) lines)) (sym head)
+          ∙ ap (whole_of text last c.loop-length.lexer) (sym head)
           ∙ c.loop-length.invariant.rest;
     }
 
@@ -71,7 +72,7 @@ returns-in_err-push-2-clause-err c =
     let last = length (physical_lines text) in
     rw (p.1, p.2)
     (λ differs. sym c.loop-length.invariant.rest
-    ∙ ap (λ lines. after c.loop-length.lexer.tokens.items (layout text last c.loop-length.lexer.brackets (reverse c.loop-length.lexer.widths.items) lines)) head
+    ∙ ap (whole_of text last c.loop-length.lexer) head
     ∙ ap (after c.loop-length.lexer.tokens.items) (c.in_err-push-2.ensures.err differs last []))
 
 pub returns-clause-ok : goal.returns-clause-ok
@@ -87,7 +88,7 @@ returns-clause-ok c =
     let same : last ≡ number = omega (arith, c.loop-length.invariant.count, ap length alone) in
     let pushed = c.push-2.new.self in
     sym c.loop-length.invariant.rest
-    ∙ ap (λ lines. after c.loop-length.lexer.tokens.items (layout text last c.loop-length.lexer.brackets (reverse c.loop-length.lexer.widths.items) lines)) head
+    ∙ ap (whole_of text last c.loop-length.lexer) head
     ∙ c.in_ok-push-2.ensures.ok last []
     ∙ ap (λ n. Ok (pushed.tokens.items ++ text_end (length text) n pushed.brackets (reverse pushed.widths.items))) same
     ∙ ap Ok (sym c.in_ok-finish.ensures.ok)

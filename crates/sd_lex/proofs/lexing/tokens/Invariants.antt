@@ -1,9 +1,9 @@
-use Rattle.std.proofs.Common.{◌≡◌, ◌≤◌, ◌+◌, ◌-◌, length, drop, reverse}
+use Rattle.std.proofs.Common.{◌≡◌, ◌≤◌, ◌+◌, ◌-◌, length, drop}
 use Rattle.std.specs.List.{slice_split}
 use Rattle.sd_lex.specs.Bytes.{is_newline}
-use Rattle.sd_lex.specs.Reading.{after}
 use Rattle.sd_lex.specs.Lines.{numbered, physical_lines}
-use Rattle.sd_lex.specs.Layout.{layout, lexed}
+use Rattle.sd_lex.specs.Layout.{lexed}
+use Rattle.sd_lex.specs.LexerState.{whole_of}
 use Rattle.sd_lex.proofs.lexing.tokens.Given as goal
 
 -- the lines that are left come behind the tokens so far
@@ -13,7 +13,7 @@ invariant-loop-length l = record {
   few : l.number ≤ l.from + 1;
   few_brackets : l.lexer.brackets ≤ l.from;
   count : l.number + length (slice_split is_newline (drop l.from l.text)) ≡ length (physical_lines l.text) + 1;
-  rest : after l.lexer.tokens.items (layout l.text (length (physical_lines l.text)) l.lexer.brackets (reverse l.lexer.widths.items) (numbered l.number l.from (slice_split is_newline (drop l.from l.text)))) ≡ lexed l.text;
+  rest : whole_of l.text (length (physical_lines l.text)) l.lexer (numbered l.number l.from (slice_split is_newline (drop l.from l.text))) ≡ lexed l.text;
 }
 
 abbrev pub decreases-loop-length : goal.decreases-loop-length
