@@ -1,0 +1,9 @@
+pub mod Changes
+pub mod ExampleParts
+pub mod ChangeExamples
+pub mod LeafExamples
+pub mod RunExamples
+pub mod PoolExamples
+pub mod Outcomes
+pub mod Settling
+pub mod Finished

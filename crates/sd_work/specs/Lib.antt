@@ -1,0 +1,13 @@
+pub mod Memory
+pub mod Change
+pub mod Leaf
+pub mod Move
+pub mod LeafMove
+pub mod Exit
+pub mod Residual
+pub mod Moves
+pub mod Fire
+pub mod Settle
+pub mod Step
+pub mod Run
+pub mod Harmless

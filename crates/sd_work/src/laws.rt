@@ -1,0 +1,56 @@
+ghost use Rattle.std.specs.Prelude.{◌≡◌, ℕ, ℤ, true, List, [], ◌∷◌, Option, FitsSigned};
+ghost use Rattle.std.specs.Int.{w64};
+ghost use Rattle.sd_num.specs.declared.resolution.Resolution.{Resolution};
+ghost use Rattle.sd_work.specs.Memory.{Memory, Memories, Reference, look, waiting};
+ghost use Rattle.sd_work.specs.Change.{Change, apply, became, outer, own_after, written};
+ghost use Rattle.sd_work.specs.Residual.{Term, finished};
+ghost use Rattle.sd_work.specs.Moves.{moves};
+ghost use Rattle.sd_work.specs.Settle.{settled};
+ghost use Rattle.sd_work.specs.Step.{Outcome};
+ghost use Rattle.sd_work.specs.Run.{Left, Run};
+ghost use Rattle.sd_work.specs.Harmless.{AreHarmless, SparesElement, SparesStream};
+
+/// What is written to an element is the new value, or the old one resolved with it.
+pub fn an_element_is_replaced_or_resolved()
+    ensures same { (by : Option Resolution) (value old : ℤ) → FitsSigned w64 value → FitsSigned w64 old
+        → written by value old ≡ became by old value }
+    ensures fits { (by : Option Resolution) (value old : ℤ) → FitsSigned w64 (written by value old) }
+{}
+
+/// Changes at different places may be made in either order, and so may values that are resolved
+/// into one element by one resolution that commutes.
+pub fn changes_at_different_places_commute()
+    ensures { (change other : Change) → AreHarmless change other → (memories : Memories)
+        → apply change (apply other memories) ≡ apply other (apply change memories) }
+{}
+
+/// A change elsewhere is not seen.
+pub fn a_change_elsewhere_is_not_seen()
+    ensures element { (reference : Reference) (change : Change) → SparesElement reference change
+        → (memories : Memories) → look reference (apply change memories) ≡ look reference memories }
+    ensures stream { (level container : ℕ) (change : Change) → SparesStream level container change
+        → (memories : Memories)
+        → waiting level container (apply change memories) ≡ waiting level container memories }
+{}
+
+/// A change splits at an owner into what it leaves in the owner's memory and what it is outside.
+pub fn a_change_splits_at_an_owner()
+    ensures { (change : Change) (own : Memory) (memories : Memories)
+        → apply change (own ∷ memories) ≡ own_after change own ∷ apply (outer change) memories }
+{}
+
+/// Where nothing is left to do there is no move.
+pub fn a_finished_term_has_no_move<P>()
+    ensures { (term : Term P) (memories : Memories) → finished term ≡ true → moves term memories ≡ [] }
+{}
+
+/// Settling goes once through a term: to settle it again changes nothing.
+pub fn settling_once_is_enough<P>()
+    ensures { (term : Term P) → settled (settled term) ≡ settled term }
+{}
+
+/// A run by picks has at most one outcome, however many moves it is allowed.
+pub fn a_run_has_one_outcome<P>()
+    ensures { (term : Term P) (turns : ℕ) (picks : List ℕ) (outcome other : Outcome P Left)
+        → Run term turns picks outcome → Run term turns picks other → outcome ≡ other }
+{}
