@@ -7,3 +7,12 @@ pub mod PoolExamples
 pub mod Outcomes
 pub mod Settling
 pub mod Finished
+pub mod Leads
+pub mod WithoutPools
+pub mod LeftmostRuns
+pub mod LeftmostLists
+pub mod Leftmost
+pub mod Halting
+pub mod BigRuns
+pub mod BigExamples
+pub mod WellFormedExamples

@@ -7,7 +7,7 @@ use Rattle.sd_work.specs.Leaf.{Pending, write_value, push_to}
 use Rattle.sd_work.specs.Residual.{Term, owning, pool, idle, list, Items, also}
 use Rattle.sd_work.proofs.ExampleParts.{cell, value_of, task, sets, two, unordered, then, points, graph, run_of, trace_of, done, spent}
 
-abbrev memory : (element : ℤ) → (values : List ℤ) → Memory
+abbrev pub memory : (element : ℤ) → (values : List ℤ) → Memory
 memory element values = array (element ∷ []) ∷ stream values ∷ []
 
 -- a consume scope over the stream that is container 1 at this level
@@ -25,7 +25,7 @@ below (pos zero) = []
 below (pos (suc n)) = push_to 0 1 (pos n) ∷ []
 below (negsuc n) = []
 
-abbrev counts_down : Term ℕ
+abbrev pub counts_down : Term ℕ
 counts_down = consume 0 (λ value. task 1 [] (λ values. write_value value (cell 0 0 0) (Some Sum) ∷ below value))
 
 a_pool_that_pushes_to_itself : run_of [] (graph counts_down (memory (pos 0) (pos 3 ∷ []))) 4 ≡ done (memory (pos 6) []) 0
@@ -43,7 +43,7 @@ a_take_is_a_move = refl
 
 -- ---- which value is taken: each writes the one element, so the last one stays
 
-abbrev writes : Term ℕ
+abbrev pub writes : Term ℕ
 writes = consume 0 (λ value. sets 1 (cell 0 0 0) value)
 
 the_oldest_value_is_taken_first : run_of [] (graph writes (memory (pos 0) (pos 7 ∷ pos 8 ∷ pos 9 ∷ []))) 3 ≡ done (memory (pos 9) []) 0
@@ -66,7 +66,7 @@ unfolding int_wrap
 active_terms_go_in_the_order_of_taking = refl
 
 -- an element container is private to its active term
-abbrev by_element : Term ℕ
+abbrev pub by_element : Term ℕ
 by_element = consume 0 (λ value. owning (array (value ∷ []) ∷ []) (task 1 (cell 0 0 0 ∷ []) (λ values. write_value (value_of values 0) (cell 1 0 0) (Some Sum) ∷ [])))
 
 an_active_term_has_its_element : run_of (1 ∷ 1 ∷ []) (graph by_element (memory (pos 0) (pos 7 ∷ pos 8 ∷ []))) 2 ≡ done (memory (pos 15) []) 0
@@ -104,7 +104,7 @@ a_finished_pool_has_no_take = refl
 -- ---- in a map that holds the pool but not its stream, all earlier points are finished first
 
 -- each point adds up what waits in the stream outside, and then pushes its own number
-abbrev passes_on : ℤ → Term ℕ
+abbrev pub passes_on : ℤ → Term ℕ
 passes_on number = then
     (consume 0 (λ value. task 1 [] (λ values. write_value value (cell 0 0 0) (Some Sum) ∷ [])))
     (pushes 0 number)

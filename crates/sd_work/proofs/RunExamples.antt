@@ -14,10 +14,10 @@ use Rattle.sd_work.proofs.ExampleParts.{cell, value_of, task, sets, two, unorder
 
 -- ---- two points that write one element
 
-abbrev pair : Memory
+abbrev pub pair : Memory
 pair = array (pos 0 ∷ pos 0 ∷ []) ∷ []
 
-abbrev two_points : Term ℕ
+abbrev pub two_points : Term ℕ
 two_points = graph (points (two (sets 1 (cell 0 0 0) (pos 5)) (sets 2 (cell 0 0 0) (pos 6)))) pair
 
 points_go_in_order : run_of [] two_points 2 ≡ done (array (pos 6 ∷ pos 0 ∷ []) ∷ []) 0
@@ -76,10 +76,10 @@ an_item_waits_for_those_before_it : trace_of (1 ∷ 1 ∷ []) (graph (list Items
 an_item_waits_for_those_before_it = refl
 
 -- the orders used here lead from lower to higher numbers, also over a part between
-parts_in_turn_are_in_order : IsOrder in_turn
+pub parts_in_turn_are_in_order : IsOrder in_turn
 parts_in_turn_are_in_order = record { rises = λ j k h. grind (arith, h); passes = λ i j k p q. grind (arith, p, q) }
 
-parts_without_order_are_in_order : IsOrder unordered
+pub parts_without_order_are_in_order : IsOrder unordered
 parts_without_order_are_in_order = record { rises = λ j k h. cc; passes = λ i j k p q. p }
 
 -- a place at which no move is changes nothing
@@ -89,12 +89,12 @@ no_move_changes_nothing = refl
 
 -- ---- private containers: each point counts in its own one, which begins at zero, and writes it outside
 
-abbrev counts : ℕ → Term ℕ
+abbrev pub counts : ℕ → Term ℕ
 counts k = owning (array (pos 0 ∷ []) ∷ []) (then
     (task 1 (cell 1 0 k ∷ cell 0 0 0 ∷ []) (λ values. write_value (value_of values 0 +ℤ value_of values 1) (cell 0 0 0) None ∷ []))
     (leaf 2 (copy_of ((cell 0 0 0, cell 1 1 k) ∷ []))))
 
-abbrev lists : Memory
+abbrev pub lists : Memory
 lists = array (pos 3 ∷ pos 4 ∷ []) ∷ array (pos 0 ∷ pos 0 ∷ []) ∷ []
 
 private_containers_are_apart : run_of [] (graph (points (two (counts 0) (counts 1))) lists) 2 ≡ done (array (pos 3 ∷ pos 4 ∷ []) ∷ array (pos 3 ∷ pos 4 ∷ []) ∷ []) 0
@@ -110,14 +110,14 @@ private_containers_are_apart_in_any_order = refl
 abbrev guard : ℕ → List (Option Reference) → (List ℤ → Result Bool FaultKind) → Option (Guard ℕ)
 guard line reads holds = Some (record { place = line; reads = reads; holds = holds })
 
-abbrev round : ℕ → Values → Term ℕ
+abbrev pub round : ℕ → Values → Term ℕ
 round zero values = list Items unordered none
 round (suc state) values = then
     (task 1 [] (λ none_read. write_value (value_of values 0) (cell 0 0 1) (Some Sum) ∷ []))
     (task 2 (cell 0 0 0 ∷ []) (λ read. write_value (value_of read 0 -ℤ pos 1) (cell 0 0 0) None ∷ []))
 
 -- from the empty state 0 to state 1, round it while the element is above 0, and on to the empty state 0 no more
-abbrev leads : ℕ → Values → List (Exit ℕ)
+abbrev pub leads : ℕ → Values → List (Exit ℕ)
 leads zero values = record { when = None; marked = false; state = 1; values = pos 1 ∷ [] } ∷ []
 leads (suc state) values = record {
   when = guard 3 (cell 0 0 0 ∷ []) (λ read. Ok (int_lt (pos 0) (value_of read 0)));
@@ -126,7 +126,7 @@ leads (suc state) values = record {
   values = (value_of values 0 +ℤ pos 1) ∷ [];
 } ∷ []
 
-abbrev loop : Memory → Term ℕ
+abbrev pub loop : Memory → Term ℕ
 loop memory = begun round leads memory []
 
 -- three rounds of two turns, and two turns for the transitions between them
@@ -144,7 +144,7 @@ unfolding int_wrap
 a_marked_transition_spends_a_turn = refl
 
 -- the same as a nested run beside another item: its containers are its own, and its end gives the state on
-abbrev nested_loop : Term ℕ
+abbrev pub nested_loop : Term ℕ
 nested_loop = graph (list Items unordered (two (loop (array (pos 1 ∷ pos 0 ∷ []) ∷ [])) (sets 4 (cell 0 0 0) (pos 5)))) pair
 
 a_nested_run_keeps_its_containers : run_of [] nested_loop 3 ≡ done (array (pos 5 ∷ pos 0 ∷ []) ∷ []) 0

@@ -11,3 +11,6 @@ pub mod Settle
 pub mod Step
 pub mod Run
 pub mod Harmless
+pub mod BigStep
+pub mod WellFormed
+pub mod BigRun

@@ -25,16 +25,16 @@ opening term turns = record { term = settled term; turns = turns }
 abbrev pub next_moves : {P : Type 0} → Machine P → List Path
 next_moves machine = moves machine.term []
 
--- a turn spent, where one is wanted
-abbrev pub spend : {P A : Type 0} → (turn : Bool) → (turns : ℕ) → (ℕ → Outcome P A) → Outcome P A
-spend true zero go_on = Spent
-spend true (suc turns) go_on = go_on turns
-spend false turns go_on = go_on turns
+-- a turn spent, where one is wanted and left
+abbrev pub spend : {A : Type 0} → (spent : A) → (turn : Bool) → (turns : ℕ) → (ℕ → A) → A
+spend spent true zero go_on = spent
+spend spent true (suc turns) go_on = go_on turns
+spend spent false turns go_on = go_on turns
 
 -- the machine after a move: the turn goes first, so a want of turns goes before the move's fault; what is left is settled. No move changes nothing
 abbrev pub moved : {P : Type 0} → Machine P → Move P (Term P) → Outcome P (Machine P)
-moved machine (fails turn fault) = spend turn machine.turns (λ turns. Faulted fault)
-moved machine (goes turn change left) = spend turn machine.turns (λ turns. Done (record { term = settled left; turns = turns }))
+moved machine (fails turn fault) = spend Spent turn machine.turns (λ turns. Faulted fault)
+moved machine (goes turn change left) = spend Spent turn machine.turns (λ turns. Done (record { term = settled left; turns = turns }))
 moved machine no_move = Done machine
 
 -- the step by the move at this place

@@ -1,4 +1,4 @@
-ghost use Rattle.std.specs.Prelude.{◌≡◌, ℕ, ℤ, true, List, [], ◌∷◌, Option, FitsSigned};
+ghost use Rattle.std.specs.Prelude.{◌≡◌, ℕ, ℤ, true, List, [], ◌∷◌, Option, Some, FitsSigned};
 ghost use Rattle.std.specs.Int.{w64};
 ghost use Rattle.sd_num.specs.declared.resolution.Resolution.{Resolution};
 ghost use Rattle.sd_work.specs.Memory.{Memory, Memories, Reference, look, waiting};
@@ -7,7 +7,9 @@ ghost use Rattle.sd_work.specs.Residual.{Term, finished};
 ghost use Rattle.sd_work.specs.Moves.{moves};
 ghost use Rattle.sd_work.specs.Settle.{settled};
 ghost use Rattle.sd_work.specs.Step.{Outcome};
-ghost use Rattle.sd_work.specs.Run.{Left, Run};
+ghost use Rattle.sd_work.specs.Run.{Left, Run, Sequential};
+ghost use Rattle.sd_work.specs.BigRun.{big_run};
+ghost use Rattle.sd_work.specs.WellFormed.{IsOrdered, HasNoPool, PaysCycles};
 ghost use Rattle.sd_work.specs.Harmless.{AreHarmless, SparesElement, SparesStream};
 
 /// What is written to an element is the new value, or the old one resolved with it.
@@ -53,4 +55,18 @@ pub fn settling_once_is_enough<P>()
 pub fn a_run_has_one_outcome<P>()
     ensures { (term : Term P) (turns : ℕ) (picks : List ℕ) (outcome other : Outcome P Left)
         → Run term turns picks outcome → Run term turns picks other → outcome ≡ other }
+{}
+
+/// A run of a graph without pools that is done from left to right ends as its sequential run does:
+/// with the same memory and turns, the same fault, or a want of turns.
+pub fn a_run_from_left_to_right_is_sequential<P>()
+    ensures { (term : Term P) (most turns : ℕ) (outcome : Outcome P Left) → IsOrdered term → HasNoPool term
+        → big_run term most turns ≡ Some outcome → Sequential term turns outcome }
+{}
+
+/// Every run of a term without pools ends, by whatever picks, where each cycle of transitions
+/// spends a turn.
+pub fn every_run_ends<P>()
+    ensures { (term : Term P) (turns : ℕ) (picks : List ℕ) → HasNoPool term → PaysCycles term
+        → (outcome : Outcome P Left) × Run term turns picks outcome }
 {}

@@ -1,7 +1,7 @@
 //! Residual work: what is left to do of a run, apart from graphs. `specs/` defines memories and
 //! their changes, the terms of residual work, their next moves, steps and runs by picks
-//! (`docs/SEMANTICS.md` has each in plain words). By `laws`, changes at different places commute
-//! and are not seen elsewhere, to settle again changes nothing, and a run has at most one outcome.
+//! (`docs/SEMANTICS.md` has each in plain words). By `laws`, changes at different places commute,
+//! a run has at most one outcome, and without pools it has one, which work from left to right gives.
 //! There is no code here but the kinds of faults.
 #![tactic(auto)]
 
@@ -11,6 +11,7 @@ mod laws;
 pub use fault::FaultKind;
 pub use laws::{
     a_change_elsewhere_is_not_seen, a_change_splits_at_an_owner, a_finished_term_has_no_move,
-    a_run_has_one_outcome, an_element_is_replaced_or_resolved, changes_at_different_places_commute,
+    a_run_from_left_to_right_is_sequential, a_run_has_one_outcome,
+    an_element_is_replaced_or_resolved, changes_at_different_places_commute, every_run_ends,
     settling_once_is_enough,
 };

@@ -1,0 +1,88 @@
+-- Leftmost moves are those of a run without picks.
+use Rattle.std.proofs.Common.{◌≡◌, ℕ, zero, suc, ◌+◌, ◌%◌, List, [], ◌∷◌, length, Some, Bool, true, false, refl, ap, sym, subst, ◌∙◌, arith, slice_index_or}
+use Rattle.sd_work.specs.Memory.{Memories}
+use Rattle.sd_work.specs.Change.{Change, nothing, write, push, take, apply}
+use Rattle.sd_work.specs.Move.{Fault, Move, fails, goes, no_move}
+use Rattle.sd_work.specs.Residual.{Term}
+use Rattle.sd_work.specs.Moves.{Path, moves}
+use Rattle.sd_work.specs.Fire.{fire}
+use Rattle.sd_work.specs.Settle.{settled}
+use Rattle.sd_work.specs.Step.{Machine, Done, Faulted, Spent, moved, step}
+use Rattle.sd_work.specs.Run.{go_on, run_by, run}
+use Rattle.sd_work.specs.WellFormed.{HasNoPool}
+use Rattle.sd_work.proofs.Leads.{Pays, Leads, FailsBy, FailsNow, Stops}
+use Rattle.sd_work.proofs.WithoutPools.{settled-none, fired-none}
+
+abbrev pub machine : {P : Type 0} → Term P → ℕ → Machine P
+machine term turns = record { term = term; turns = turns }
+
+nothing_stays : (change : Change) → apply change [] ≡ []
+nothing_stays nothing = refl
+nothing_stays (write to by value) = refl
+nothing_stays (push level container value) = refl
+nothing_stays (take level container position) = refl
+
+pub leads-nothing : {P : Type 0} (k : ℕ) (t : Term P) (n : ℕ) (t' : Term P) (s' : Memories) (n' : ℕ) → Leads k t [] n t' s' n' → s' ≡ []
+leads-nothing zero t n t' s' n' a = sym a.1
+leads-nothing (suc k) t n t' s' n' a = leads-nothing k a.4 a.5 t' s' n' (subst (λ w. Leads k a.4 w a.5 t' s' n') (nothing_stays a.3) a.9)
+
+first_is_chosen : (p : Path) (ps : List Path) → slice_index_or (p ∷ ps) (0 % length (p ∷ ps)) p ≡ p
+first_is_chosen p ps = let h : 0 % suc (length ps) ≡ 0 = omega arith in ap (λ k. slice_index_or (p ∷ ps) k p) h
+
+-- without picks the first move is made
+first_move : {P : Type 0} (k : ℕ) (t : Term P) (n : ℕ) (p : Path) (ps : List Path) → moves t [] ≡ p ∷ ps → run (suc k) [] (machine t n) ≡ go_on (moved (machine t n) (fire t p [])) (run k [])
+first_move k t n p ps q =
+    ap (λ paths. run_by paths [] (machine t n) (run k [])) q
+    ∙ ap (λ w. go_on (step w (machine t n)) (run k [])) (first_is_chosen p ps)
+
+-- a move that goes on, of a term that is settled as it is
+pub moves_on : {P : Type 0} (t : Term P) (n m : ℕ) (b : Bool) (u : Change) (x : Term P) → Pays b n m → settled x ≡ x → moved (machine t n) (goes b u x) ≡ Done (machine x m)
+moves_on t n m false u x pays same = λ i. Done (machine (same i) (pays i))
+moves_on t n m true u x pays same = ap (λ n. moved (machine t n) (goes true u x)) pays ∙ ap (λ left. Done (machine left m)) same
+
+pub run-leads : {P : Type 0} (k : ℕ) (t : Term P) (n : ℕ) (t' : Term P) (s' : Memories) (n' : ℕ) → HasNoPool t → Leads k t [] n t' s' n' → (j : ℕ) → run (k + j) [] (machine t n) ≡ run j [] (machine t' n')
+run-leads zero t n t' s' n' h a j = let z : 0 + j ≡ j = omega arith in ap (λ i. run i [] (machine t n)) z ∙ (λ i. run j [] (machine (a.0 i) (a.2 i)))
+run-leads (suc k) t n t' s' n' h a j =
+    let z : suc k + j ≡ suc (k + j) = omega arith in
+    let left : HasNoPool a.4 = fired-none t h a.0 [] a.2 a.3 a.4 a.7 in
+    let rest : Leads k a.4 [] a.5 t' s' n' = subst (λ w. Leads k a.4 w a.5 t' s' n') (nothing_stays a.3) a.9 in
+    ap (λ i. run i [] (machine t n)) z ∙ first_move (k + j) t n a.0 a.1 a.6
+    ∙ ap (λ move. go_on (moved (machine t n) move) (run (k + j) [])) a.7
+    ∙ ap (λ end. go_on end (run (k + j) [])) (moves_on t n a.5 a.2 a.3 a.4 a.8 (settled-none a.4 left))
+    ∙ run-leads k a.4 a.5 t' s' n' left rest j
+
+-- what leftmost moves lead to has no pool either
+pub leads-none : {P : Type 0} (k : ℕ) (t : Term P) (s : Memories) (n : ℕ) (t' : Term P) (s' : Memories) (n' : ℕ) → HasNoPool t → Leads k t s n t' s' n' → HasNoPool t'
+leads-none zero t s n t' s' n' h a = subst HasNoPool a.0 h
+leads-none (suc k) t s n t' s' n' h a = leads-none k a.4 (apply a.3 s) a.5 t' s' n' (fired-none t h a.0 s a.2 a.3 a.4 a.7) a.9
+
+-- a move that does not go on ends the run
+fault_ends : {P : Type 0} (t : Term P) (n : ℕ) (move : Move P (Term P)) (fault : Fault P) → FailsBy move n (Faulted fault) → moved (machine t n) move ≡ Faulted fault
+fault_ends t n (fails false f) fault h = cc
+fault_ends t zero (fails true f) fault h = cc
+fault_ends t (suc n) (fails true f) fault h = cc
+fault_ends t zero (goes true u x) fault h = cc
+fault_ends t (suc n) (goes true u x) fault h = elim h [ ]
+fault_ends t n (goes false u x) fault h = elim h [ ]
+fault_ends t n no_move fault h = elim h [ ]
+
+want_ends : {P : Type 0} (t : Term P) (n : ℕ) (move : Move P (Term P)) → FailsBy move n Spent → moved (machine t n) move ≡ Spent
+want_ends t n (fails false f) h = cc
+want_ends t zero (fails true f) h = refl
+want_ends t (suc n) (fails true f) h = cc
+want_ends t zero (goes true u x) h = refl
+want_ends t (suc n) (goes true u x) h = elim h [ ]
+want_ends t n (goes false u x) h = elim h [ ]
+want_ends t n no_move h = elim h [ ]
+
+pub stops-fault : {P : Type 0} (t : Term P) (n : ℕ) (fault : Fault P) → HasNoPool t → (a : Stops t [] n (Faulted fault)) → run (a.0 + 1) [] (machine t n) ≡ Some (Faulted fault)
+stops-fault t n fault h a =
+    let at : FailsNow a.1 [] a.3 (Faulted fault) = subst (λ w. FailsNow a.1 w a.3 (Faulted fault)) (leads-nothing a.0 t n a.1 a.2 a.3 a.4) a.5 in
+    run-leads a.0 t n a.1 a.2 a.3 h a.4 1 ∙ first_move 0 a.1 a.3 at.0 at.1 at.2
+    ∙ ap (λ end. go_on end (run 0 [])) (fault_ends a.1 a.3 (fire a.1 at.0 []) fault at.3)
+
+pub stops-spent : {P : Type 0} (t : Term P) (n : ℕ) → HasNoPool t → (a : Stops t [] n Spent) → run (a.0 + 1) [] (machine t n) ≡ Some Spent
+stops-spent t n h a =
+    let at : FailsNow a.1 [] a.3 Spent = subst (λ w. FailsNow a.1 w a.3 Spent) (leads-nothing a.0 t n a.1 a.2 a.3 a.4) a.5 in
+    run-leads a.0 t n a.1 a.2 a.3 h a.4 1 ∙ first_move 0 a.1 a.3 at.0 at.1 at.2
+    ∙ ap (λ end. go_on end (run 0 [])) (want_ends a.1 a.3 (fire a.1 at.0 []) at.3)
