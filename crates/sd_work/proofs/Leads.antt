@@ -1,6 +1,5 @@
 -- What leftmost moves lead to.
-use Rattle.std.proofs.Common.{◌≡◌, ℕ, zero, suc, List, ◌∷◌, Some, None, Bool, true, false}
-use Rattle.std.specs.Bool.{⊤}
+use Rattle.std.proofs.Common.{◌≡◌, ℕ, zero, suc, ◌≤◌, List, ◌∷◌, Some, None, Bool, true, false}
 use Rattle.sd_work.specs.Memory.{Memories}
 use Rattle.sd_work.specs.Change.{Change, apply}
 use Rattle.sd_work.specs.Move.{Move, fails, goes, no_move}
@@ -38,9 +37,13 @@ FailsNow t s n o = (p : Path) × (ps : List Path) × (moves t s ≡ p ∷ ps) ×
 abbrev pub Stops : {P : Type 0} → Term P → Memories → ℕ → Outcome P Reached → Type 0
 Stops {P} t s n o = (k : ℕ) × (t' : Term P) × (s' : Memories) × (n' : ℕ) × Leads k t s n t' s' n' × FailsNow t' s' n' o
 
--- the leftmost moves agree with what was done all at once, where that came to an end
-abbrev pub Agrees : {P : Type 0} → Term P → Memories → ℕ → Coming P → Type 0
-Agrees {P} t s n (Some (Done now)) = (k : ℕ) × (t' : Term P) × Leads k t s n t' now.memories now.turns × (finished t' ≡ true)
-Agrees t s n (Some (Faulted fault)) = Stops t s n (Faulted fault)
-Agrees t s n (Some Spent) = Stops t s n Spent
-Agrees t s n None = ⊤
+-- at least so many leftmost moves are made
+abbrev pub Makes : {P : Type 0} → (least : ℕ) → Term P → Memories → ℕ → Type 0
+Makes {P} least t s n = (k : ℕ) × (t' : Term P) × (s' : Memories) × (n' : ℕ) × (least ≤ k) × Leads k t s n t' s' n'
+
+-- the leftmost moves agree with what was done all at once, where that came to an end; else there are at least so many of them
+abbrev pub Agrees : {P : Type 0} → (least : ℕ) → Term P → Memories → ℕ → Coming P → Type 0
+Agrees {P} least t s n (Some (Done now)) = (k : ℕ) × (t' : Term P) × Leads k t s n t' now.memories now.turns × (finished t' ≡ true)
+Agrees least t s n (Some (Faulted fault)) = Stops t s n (Faulted fault)
+Agrees least t s n (Some Spent) = Stops t s n Spent
+Agrees least t s n None = Makes least t s n

@@ -9,25 +9,36 @@ use Rattle.sd_work.specs.Fire.{fire, fire_part}
 use Rattle.sd_work.specs.Step.{Outcome, Done, Faulted, Spent}
 use Rattle.sd_work.specs.BigStep.{Reached, Coming, and_then}
 use Rattle.sd_work.proofs.Finished.{moves-finished}
-use Rattle.sd_work.proofs.Leads.{Leads, FailsBy, FailsNow, Stops, Agrees}
+use Rattle.sd_work.proofs.Leads.{Leads, FailsBy, FailsNow, Stops, Makes, Agrees}
 
 -- moves, and then more of them
 pub leads_more : {P : Type 0} (k j : ℕ) (t : Term P) (s : Memories) (n : ℕ) (t' : Term P) (s' : Memories) (n' : ℕ) (t'' : Term P) (s'' : Memories) (n'' : ℕ) →
-    Leads k t s n t' s' n' → Leads j t' s' n' t'' s'' n'' → (i : ℕ) × Leads i t s n t'' s'' n''
-leads_more {P} zero j t s n t' s' n' t'' s'' n'' a b = (j, go)
-  where
-    go : Leads j t s n t'' s'' n''
-    go = subst (λ (w : Term P). Leads j w s n t'' s'' n'') (sym a.0) (subst (λ w. Leads j t' w n t'' s'' n'') (sym a.1) (subst (λ w. Leads j t' s' w t'' s'' n'') (sym a.2) b))
+    Leads k t s n t' s' n' → Leads j t' s' n' t'' s'' n'' → Leads (k + j) t s n t'' s'' n''
+leads_more {P} zero j t s n t' s' n' t'' s'' n'' a b =
+    let same : j ≡ 0 + j = omega arith in
+    subst (λ i. Leads i t s n t'' s'' n'') same
+    (subst (λ (w : Term P). Leads j w s n t'' s'' n'') (sym a.0) (subst (λ w. Leads j t' w n t'' s'' n'') (sym a.1) (subst (λ w. Leads j t' s' w t'' s'' n'') (sym a.2) b)))
 leads_more (suc k) j t s n t' s' n' t'' s'' n'' a b =
-    let h = leads_more k j a.4 (apply a.3 s) a.5 t' s' n' t'' s'' n'' a.9 b in
-    (suc h.0, (a.0, a.1, a.2, a.3, a.4, a.5, a.6, a.7, a.8, h.1))
+    let same : suc (k + j) ≡ suc k + j = omega arith in
+    subst (λ i. Leads i t s n t'' s'' n'') same
+    (a.0, a.1, a.2, a.3, a.4, a.5, a.6, a.7, a.8, leads_more k j a.4 (apply a.3 s) a.5 t' s' n' t'' s'' n'' a.9 b)
+
+pub makes_then : {P : Type 0} (least most k : ℕ) → most ≤ k + least → (t : Term P) (s : Memories) (n : ℕ) (t' : Term P) (s' : Memories) (n' : ℕ) → Leads k t s n t' s' n' → Makes least t' s' n' → Makes most t s n
+makes_then least most k w t s n t' s' n' a b =
+    let h : least ≤ b.0 = b.4 in
+    let up : most ≤ k + b.0 = omega arith in
+    (k + b.0, b.1, b.2, b.3, up, leads_more k b.0 t s n t' s' n' b.1 b.2 b.3 a b.5)
 
 -- moves, and then what agrees
-pub agrees_then : {P : Type 0} (k : ℕ) (t : Term P) (s : Memories) (n : ℕ) (t' : Term P) (s' : Memories) (n' : ℕ) (o : Coming P) → Leads k t s n t' s' n' → Agrees t' s' n' o → Agrees t s n o
-agrees_then k t s n t' s' n' (Some (Done now)) a b = let h = leads_more k b.0 t s n t' s' n' b.1 now.memories now.turns a b.2 in (h.0, b.1, h.1, b.3)
-agrees_then k t s n t' s' n' (Some (Faulted f)) a b = let h = leads_more k b.0 t s n t' s' n' b.1 b.2 b.3 a b.4 in (h.0, b.1, b.2, b.3, h.1, b.5)
-agrees_then k t s n t' s' n' (Some Spent) a b = let h = leads_more k b.0 t s n t' s' n' b.1 b.2 b.3 a b.4 in (h.0, b.1, b.2, b.3, h.1, b.5)
-agrees_then k t s n t' s' n' None a b = tt
+pub agrees_then : {P : Type 0} (least most k : ℕ) → most ≤ k + least → (t : Term P) (s : Memories) (n : ℕ) (t' : Term P) (s' : Memories) (n' : ℕ) (o : Coming P) → Leads k t s n t' s' n' → Agrees least t' s' n' o → Agrees most t s n o
+agrees_then least most k w t s n t' s' n' (Some (Done now)) a b = (k + b.0, b.1, leads_more k b.0 t s n t' s' n' b.1 now.memories now.turns a b.2, b.3)
+agrees_then least most k w t s n t' s' n' (Some (Faulted f)) a b = (k + b.0, b.1, b.2, b.3, leads_more k b.0 t s n t' s' n' b.1 b.2 b.3 a b.4, b.5)
+agrees_then least most k w t s n t' s' n' (Some Spent) a b = (k + b.0, b.1, b.2, b.3, leads_more k b.0 t s n t' s' n' b.1 b.2 b.3 a b.4, b.5)
+agrees_then least most k w t s n t' s' n' None a b = makes_then least most k w t s n t' s' n' a b
+
+-- with fewer moves
+pub agrees_less : {P : Type 0} (least less : ℕ) → less ≤ least → (t : Term P) (s : Memories) (n : ℕ) (o : Coming P) → Agrees least t s n o → Agrees less t s n o
+agrees_less least less w t s n o a = let h : less ≤ 0 + least = omega arith in agrees_then least less 0 h t s n t s n o (refl, refl, refl) a
 
 -- a failure of a part is one of the whole
 fails_map : {P A B : Type 0} (f : A → B) (m : Move P A) (n : ℕ) (o : Outcome P Reached) → FailsBy m n o → FailsBy (map_move f m) n o
@@ -167,14 +178,14 @@ module _ {P : Type 0} (kind : Parts) (before : ℕ → ℕ → Bool) (o : IsOrde
   list_stops t s n z h = (h.0, list kind before (◌⊕◌ pre (also h.1 ts)), h.2, h.3, list_leads h.0 t s n h.1 h.2 h.3 h.4, list_fails h.1 h.2 h.3 z h.5)
 
   -- a list whose first unfinished part agrees
-  pub list_agrees : (t : Term P) (s : Memories) (n : ℕ) (r : Coming P) (go : Memories → ℕ → Coming P) →
-      ((t' : Term P) (s' : Memories) (m : ℕ) → finished t' ≡ true → Agrees (list kind before (◌⊕◌ pre (also t' ts))) s' m (go s' m)) → Agrees t s n r → Agrees (list kind before (◌⊕◌ pre (also t ts))) s n (and_then r go)
-  list_agrees t s n (Some (Done now)) go h a =
-      agrees_then a.0 (list kind before (◌⊕◌ pre (also t ts))) s n (list kind before (◌⊕◌ pre (also a.1 ts))) now.memories now.turns (go now.memories now.turns)
+  pub list_agrees : (d : ℕ) (t : Term P) (s : Memories) (n : ℕ) (r : Coming P) (go : Memories → ℕ → Coming P) →
+      ((t' : Term P) (s' : Memories) (m : ℕ) → finished t' ≡ true → Agrees d (list kind before (◌⊕◌ pre (also t' ts))) s' m (go s' m)) → Agrees d t s n r → Agrees d (list kind before (◌⊕◌ pre (also t ts))) s n (and_then r go)
+  list_agrees d t s n (Some (Done now)) go h a =
+      agrees_then d d a.0 (omega arith) (list kind before (◌⊕◌ pre (also t ts))) s n (list kind before (◌⊕◌ pre (also a.1 ts))) now.memories now.turns (go now.memories now.turns)
       (list_leads a.0 t s n a.1 now.memories now.turns a.2) (h a.1 now.memories now.turns a.3)
-  list_agrees t s n (Some (Faulted f)) go h a = list_stops t s n (Faulted f) a
-  list_agrees t s n (Some Spent) go h a = list_stops t s n Spent a
-  list_agrees t s n None go h a = tt
+  list_agrees d t s n (Some (Faulted f)) go h a = list_stops t s n (Faulted f) a
+  list_agrees d t s n (Some Spent) go h a = list_stops t s n Spent a
+  list_agrees d t s n None go h a = (a.0, list kind before (◌⊕◌ pre (also a.1 ts)), a.2, a.3, a.4, list_leads a.0 t s n a.1 a.2 a.3 a.5)
 
 pub plus_assoc : {P : Type 0} (ts : Terms P) (t : Term P) (us : Terms P) → ◌⊕◌ (◌⊕◌ ts (also t none)) us ≡ ◌⊕◌ ts (also t us)
 plus_assoc none t us = refl

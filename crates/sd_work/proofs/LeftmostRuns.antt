@@ -1,5 +1,5 @@
 -- Leftmost moves are those of a run without picks.
-use Rattle.std.proofs.Common.{◌≡◌, ℕ, zero, suc, ◌+◌, ◌%◌, List, [], ◌∷◌, length, Some, Bool, true, false, refl, ap, sym, subst, ◌∙◌, arith, slice_index_or}
+use Rattle.std.proofs.Common.{◌≡◌, ℕ, zero, suc, ◌+◌, ◌≤◌, ◌%◌, List, [], ◌∷◌, length, Some, None, Bool, true, false, refl, ap, sym, subst, ◌∙◌, arith, slice_index_or}
 use Rattle.sd_work.specs.Memory.{Memories}
 use Rattle.sd_work.specs.Change.{Change, nothing, write, push, take, apply}
 use Rattle.sd_work.specs.Move.{Fault, Move, fails, goes, no_move}
@@ -50,6 +50,18 @@ run-leads (suc k) t n t' s' n' h a j =
     ∙ ap (λ move. go_on (moved (machine t n) move) (run (k + j) [])) a.7
     ∙ ap (λ end. go_on end (run (k + j) [])) (moves_on t n a.5 a.2 a.3 a.4 a.8 (settled-none a.4 left))
     ∙ run-leads k a.4 a.5 t' s' n' left rest j
+
+-- a run has no outcome within no more looks than there are leftmost moves
+pub run-none : {P : Type 0} (looks k : ℕ) → looks ≤ k → (t : Term P) (n : ℕ) (t' : Term P) (s' : Memories) (n' : ℕ) → HasNoPool t → Leads k t [] n t' s' n' → run looks [] (machine t n) ≡ None
+run-none zero k up t n t' s' n' h a = refl
+run-none (suc j) zero up t n t' s' n' h a = let no : ⊥ = omega arith in elim no [ ]
+run-none (suc j) (suc k) up t n t' s' n' h a =
+    let left : HasNoPool a.4 = fired-none t h a.0 [] a.2 a.3 a.4 a.7 in
+    let rest : Leads k a.4 [] a.5 t' s' n' = subst (λ w. Leads k a.4 w a.5 t' s' n') (nothing_stays a.3) a.9 in
+    first_move j t n a.0 a.1 a.6
+    ∙ ap (λ move. go_on (moved (machine t n) move) (run j [])) a.7
+    ∙ ap (λ end. go_on end (run j [])) (moves_on t n a.5 a.2 a.3 a.4 a.8 (settled-none a.4 left))
+    ∙ run-none j k (omega arith) a.4 a.5 t' s' n' left rest
 
 -- what leftmost moves lead to has no pool either
 pub leads-none : {P : Type 0} (k : ℕ) (t : Term P) (s : Memories) (n : ℕ) (t' : Term P) (s' : Memories) (n' : ℕ) → HasNoPool t → Leads k t s n t' s' n' → HasNoPool t'

@@ -65,3 +65,12 @@ abbrev mutual
   pub PayActiveCycles : {P : Type 0} → Actives P → Type 0
   PayActiveCycles idle = ⊤
   PayActiveCycles (busy value part active) = PaysCycles part × PayActiveCycles active
+
+-- a run of a graph
+abbrev pub IsRun : {P : Type 0} → Term P → Type 0
+IsRun (leaf place work) = ⊥
+IsRun (list kind before parts) = ⊥
+IsRun (owning own part) = ⊥
+IsRun (nested body exits own state values part) = ⊤
+IsRun (ended own) = ⊤
+IsRun (pool level container body active closed) = ⊥

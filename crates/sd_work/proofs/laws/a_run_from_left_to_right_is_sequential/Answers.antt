@@ -1,5 +1,8 @@
-use Rattle.sd_work.proofs.BigRuns.{big_run-sequential}
+use Rattle.sd_work.proofs.BigRuns.{big_run-sequential, sequential-big_run}
 use Rattle.sd_work.proofs.laws.a_run_from_left_to_right_is_sequential.Goals as goal
 
-pub returns : goal.returns
-returns g c = big_run-sequential
+pub returns-clause-sequential : goal.returns-clause-sequential
+returns-clause-sequential g c = big_run-sequential
+
+pub returns-clause-answers : goal.returns-clause-answers
+returns-clause-answers g c = sequential-big_run
