@@ -1,5 +1,5 @@
 -- The move at a place of a term.
-use Rattle.std.specs.Prelude.{ℕ, zero, suc, ℤ, List, [], ◌∷◌, Option, Some, None, Result, Ok, Err, cond, false, slice_get}
+use Rattle.std.specs.Prelude.{ℕ, zero, suc, ℤ, List, [], ◌∷◌, Option, Some, None, Result, Ok, Err, Bool, cond, false, slice_get}
 use Rattle.sd_work.specs.Memory.{Memory, Memories, waiting}
 use Rattle.sd_work.specs.Change.{nothing, take, outer, own_after}
 use Rattle.sd_work.specs.Move.{Fault, Move, fails, goes, no_move, map_move}
@@ -26,10 +26,10 @@ and_last idle value part = busy value part idle
 and_last (busy first other active) value part = busy first other (and_last active value part)
 
 -- a value is taken, and an active term for it begins
-abbrev pub take_move : {P : Type 0} → (level container : ℕ) → (ℤ → Term P) → Actives P → (position : ℕ) → Option ℤ → Move P (Term P)
-take_move level container body active position None = no_move
-take_move level container body active position (Some value) =
-    goes false (take level container position) (pool level container body (and_last active value (body value)) false)
+abbrev pub take_move : {P : Type 0} → (level container : ℕ) → (ℤ → Term P) → Actives P → (closed : Bool) → (position : ℕ) → Option ℤ → Move P (Term P)
+take_move level container body active closed position None = no_move
+take_move level container body active closed position (Some value) =
+    goes false (take level container position) (pool level container body (and_last active value (body value)) closed)
 
 -- a leaf and a transition have one move, which any place within them stands for; runs use the places of next moves alone
 abbrev mutual
@@ -46,7 +46,7 @@ abbrev mutual
   fire (pool level container body active closed) [] memories = no_move
   fire (pool level container body active closed) (zero ∷ []) memories = no_move
   fire (pool level container body active closed) (zero ∷ position ∷ path) memories =
-      take_move level container body active position (slice_get (waiting level container memories) position)
+      take_move level container body active closed position (slice_get (waiting level container memories) position)
   fire (pool level container body active closed) (suc n ∷ []) memories = no_move
   fire (pool level container body active closed) (suc n ∷ number ∷ path) memories =
       map_move (λ left. pool level container body left closed) (fire_active active number path memories)

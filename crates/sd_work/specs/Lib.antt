@@ -11,6 +11,7 @@ pub mod Settle
 pub mod Step
 pub mod Run
 pub mod Harmless
+pub mod Touch
 pub mod BigStep
 pub mod WellFormed
 pub mod BigRun

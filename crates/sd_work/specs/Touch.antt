@@ -1,0 +1,94 @@
+-- What work may still touch, and when two touches do not conflict.
+use Rattle.std.specs.Prelude.{◌≡◌, ◌≢◌, ◌⊎◌, ℕ, suc, ℤ, List, [], ◌∷◌, Option, Some, None, Ok, ⊤}
+use Rattle.sd_num.specs.declared.resolution.Resolution.{Resolution}
+use Rattle.sd_work.specs.Memory.{Reference}
+use Rattle.sd_work.specs.Leaf.{Pending, write_value, transfer, push_to, Leaf, reading, doing}
+use Rattle.sd_work.specs.Exit.{Values, Guard, Exit}
+use Rattle.sd_work.specs.Harmless.{SameCommuting, AreTwo}
+use Rattle.sd_work.specs.Residual.{Term, leaf, list, owning, nested, ended, pool, Terms, none, also, Actives, idle, busy}
+
+-- an element read; an element written, with its resolution; a stream pushed into; a stream taken from
+pub data Touch : Type 0 where
+  reads : (from : Reference) → Touch
+  writes : (to : Reference) → (by : Option Resolution) → Touch
+  pushes : (level container : ℕ) → Touch
+  takes : (level container : ℕ) → Touch
+
+-- two touches do not conflict: both read, both push, both resolve by one resolution that commutes, or they are of different places
+abbrev pub AreCompatible : Touch → Touch → Type 0
+AreCompatible (reads from) (writes to by) = from ≢ to
+AreCompatible (writes to by) (reads from) = to ≢ from
+AreCompatible (writes to by) (writes into other) = to ≡ into → SameCommuting by other
+AreCompatible (pushes level container) (takes other_level other) = AreTwo level container other_level other
+AreCompatible (takes level container) (pushes other_level other) = AreTwo level container other_level other
+AreCompatible (takes level container) (takes other_level other) = AreTwo level container other_level other
+AreCompatible touch other = ⊤
+
+-- an element outside of an owner, as it is named inside
+abbrev pub inner_reference : Reference → Reference
+inner_reference reference = record { level = suc reference.level; container = reference.container; element = reference.element }
+
+-- a touch outside of an owner, as it is named inside
+abbrev pub inner : Touch → Touch
+inner (reads from) = reads (inner_reference from)
+inner (writes to by) = writes (inner_reference to) by
+inner (pushes level container) = pushes (suc level) container
+inner (takes level container) = takes (suc level) container
+
+-- an access that is not inside touches nothing
+abbrev pub IsRead : Option Reference → Touch → Type 0
+IsRead None touch = ⊥
+IsRead (Some from) touch = touch ≡ reads from
+
+abbrev pub IsWrite : Option Reference → Option Resolution → Touch → Type 0
+IsWrite None by touch = ⊥
+IsWrite (Some to) by touch = touch ≡ writes to by
+
+abbrev pub AreRead : List (Option Reference) → Touch → Type 0
+AreRead [] touch = ⊥
+AreRead (next ∷ left) touch = IsRead next touch ⊎ AreRead left touch
+
+abbrev pub PendingTouches : Pending → Touch → Type 0
+PendingTouches (write_value value to by) touch = IsWrite to by touch
+PendingTouches (transfer from to by) touch = IsRead from touch ⊎ IsWrite to by touch
+PendingTouches (push_to level container value) touch = touch ≡ pushes level container
+
+abbrev pub SomePending : List Pending → Touch → Type 0
+SomePending [] touch = ⊥
+SomePending (next ∷ left) touch = PendingTouches next touch ⊎ SomePending left touch
+
+-- an instance touches what it reads, and what it may do by any values that its evaluation is given
+abbrev pub LeafTouches : Leaf → Touch → Type 0
+LeafTouches (reading begun left values evaluation) touch =
+    AreRead left touch ⊎ ((given : List ℤ) × (effects : List Pending) × (evaluation given ≡ Ok effects) × SomePending effects touch)
+LeafTouches (doing left) touch = SomePending left touch
+
+abbrev pub GuardTouches : {P : Type 0} → Option (Guard P) → Touch → Type 0
+GuardTouches None touch = ⊥
+GuardTouches (Some guard) touch = AreRead guard.reads touch
+
+abbrev pub SomeExit : {P : Type 0} → List (Exit P) → Touch → Type 0
+SomeExit [] touch = ⊥
+SomeExit (exit ∷ exits) touch = GuardTouches exit.when touch ⊎ SomeExit exits touch
+
+-- a term touches what its parts do, now or in any state and by any values of variables that it may come to; a pool takes from its stream
+abbrev mutual
+  pub Touches : {P : Type 0} → Term P → Touch → Type 0
+  Touches (leaf place work) touch = LeafTouches work touch
+  Touches (list kind before parts) touch = SomePart parts touch
+  Touches (owning own part) touch = Touches part (inner touch)
+  Touches (nested body exits own state values part) touch =
+      Touches part (inner touch)
+      ⊎ (((state : ℕ) × (values : Values) × Touches (body state values) (inner touch))
+      ⊎ ((state : ℕ) × (values : Values) × SomeExit (exits state values) (inner touch)))
+  Touches (ended own) touch = ⊥
+  Touches (pool level container body active closed) touch =
+      (touch ≡ takes level container) ⊎ (SomeActive active touch ⊎ ((value : ℤ) × Touches (body value) touch))
+
+  pub SomePart : {P : Type 0} → Terms P → Touch → Type 0
+  SomePart none touch = ⊥
+  SomePart (also part parts) touch = Touches part touch ⊎ SomePart parts touch
+
+  pub SomeActive : {P : Type 0} → Actives P → Touch → Type 0
+  SomeActive idle touch = ⊥
+  SomeActive (busy value part active) touch = Touches part touch ⊎ SomeActive active touch
