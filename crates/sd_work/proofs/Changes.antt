@@ -46,7 +46,8 @@ written-resolved r commutes v w old =
     ∙ exchanged r commutes (wrapped old) (wrapped w) (wrapped v) (SFits-int_wrap w64 old) (SFits-int_wrap w64 w) (SFits-int_wrap w64 v)
     ∙ sym (ap (λ x. resolved r x (wrapped w)) (wrapped-resolved r v old))
 
-written-written : (by to : Option Resolution) → SameCommuting by to → (v w old : ℤ) → written by v (written to w old) ≡ written to w (written by v old)
+-- two values are written in either order where one resolution that commutes resolves both
+pub written-written : (by to : Option Resolution) → SameCommuting by to → (v w old : ℤ) → written by v (written to w old) ≡ written to w (written by v old)
 written-written None to h v w old = elim h [ ]
 written-written (Some r) None h v w old = elim h [ ]
 written-written (Some r) (Some q) h v w old =

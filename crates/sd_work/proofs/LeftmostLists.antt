@@ -59,7 +59,7 @@ abbrev pub ◌⊕◌ : {P : Type 0} → Terms P → Terms P → Terms P
 ◌⊕◌ (also t ts) us = also t (◌⊕◌ ts us)
 
 -- how many they are
-abbrev count_of : {P : Type 0} → Terms P → ℕ
+abbrev pub count_of : {P : Type 0} → Terms P → ℕ
 count_of none = 0
 count_of (also t ts) = suc (count_of ts)
 
@@ -110,7 +110,7 @@ prefix_moves before bs k (also t pre) ts s e =
     ∙ prefix_moves before bs (suc k) pre ts s h.1 ∙ ap (λ w. moves_of_parts before bs w ts s) same
 
 -- a part waits for none of a number that is not lower
-ready_late : (before : ℕ → ℕ → Bool) → IsOrder before → (j k : ℕ) (bs : List Bool) → k ≤ j → ready_from before j bs k ≡ true
+pub ready_late : (before : ℕ → ℕ → Bool) → IsOrder before → (j k : ℕ) (bs : List Bool) → k ≤ j → ready_from before j bs k ≡ true
 ready_late before o j k [] h = refl
 ready_late before o j k (b ∷ bs) h =
     both_true (b || not (before j k)) (ready_from before (suc j) bs k) (or_right b (not (before j k)) (not_false (before j k) (not_before before o j k h))) (ready_late before o (suc j) k bs (omega arith))

@@ -1,5 +1,5 @@
 -- Residual work: what is left to do.
-use Rattle.std.specs.Prelude.{◌≡◌, ℕ, suc, ◌<◌, ℤ, List, [], ◌∷◌, Bool, true, false, not, ◌&&◌, ◌||◌}
+use Rattle.std.specs.Prelude.{◌≡◌, ℕ, zero, suc, ◌<◌, ℤ, List, [], ◌∷◌, Bool, true, false, not, ◌&&◌, ◌||◌}
 use Rattle.sd_work.specs.Memory.{Memory}
 use Rattle.sd_work.specs.Leaf.{Leaf, is_done}
 use Rattle.sd_work.specs.Exit.{Values, Exit}
@@ -65,6 +65,12 @@ flags_of (also part parts) = finished part ∷ flags_of parts
 abbrev pub ready_from : (ℕ → ℕ → Bool) → (j : ℕ) → (flags : List Bool) → (k : ℕ) → Bool
 ready_from before j [] k = true
 ready_from before j (flag ∷ flags) k = (flag || not (before j k)) && ready_from before (suc j) flags k
+
+-- part k of a list; where there is none, a run that has ended, which does nothing
+abbrev pub part_at : {P : Type 0} → Terms P → (k : ℕ) → Term P
+part_at none k = ended []
+part_at (also part parts) zero = part
+part_at (also part parts) (suc k) = part_at parts k
 
 -- part k may go on: each part that is before it is finished
 abbrev pub is_ready : (ℕ → ℕ → Bool) → (flags : List Bool) → (k : ℕ) → Bool

@@ -1,0 +1,128 @@
+-- The order in which a pool takes its values makes no difference.
+use Rattle.std.proofs.Common.{◌≡◌, ℕ, zero, suc, ◌+◌, List, [], ◌∷◌, ℤ, Bool, true, false, cond, eqb, refl, sym, ◌∙◌, ap, subst, arith}
+use Rattle.sd_work.specs.Memory.{Contents, array, stream, Memory, values_of, waiting}
+use Rattle.sd_work.specs.Residual.{Term, pool, Actives, idle}
+use Rattle.sd_work.specs.Touch.{takes}
+use Rattle.sd_work.specs.Step.{Machine, opening}
+use Rattle.sd_work.specs.Run.{Left, memory_of}
+use Rattle.sd_confluence.specs.Alike.{HoldAlike, AreContentsAlike, AreAlike, LeaveAlike, how_often}
+use Rattle.sd_confluence.specs.Safe.{IsPoolSafe, MayInterleave, pool_over}
+use Rattle.sd_confluence.specs.Event.{Event, events, values_pushed, values_taken, DoneWith, AreEventsAlike}
+use Rattle.sd_confluence.proofs.Works.{Work, Works, no_works, scope, basin}
+use Rattle.sd_confluence.proofs.WorkRuns.{Engine}
+use Rattle.sd_confluence.proofs.Images.{work_of, active_of}
+use Rattle.sd_confluence.proofs.SafeImage.{safe-image}
+use Rattle.sd_confluence.proofs.AlikeImages.{alike-frame, left-alike}
+use Rattle.sd_confluence.proofs.Nearer.{engine, sound-of}
+use Rattle.sd_confluence.proofs.Comes.{left_of, Comes, comes-run, run-comes}
+use Rattle.sd_confluence.proofs.Confluent.{confluent}
+use Rattle.sd_confluence.proofs.Counting.{NoTake, Counted, counts, values_in, same-values}
+
+-- alike memories hold alike in each stream
+stream_alike : (own other : Memory) → AreAlike own other → (st : ℕ) → HoldAlike (waiting 0 st (own ∷ [])) (waiting 0 st (other ∷ []))
+stream_alike [] [] h st v = refl
+stream_alike [] (d ∷ other) h st v = elim h [ ]
+stream_alike (c ∷ own) [] h st v = elim h [ ]
+stream_alike (c ∷ own) (d ∷ other) h zero v = one c d h.0
+  where
+    one : (c d : Contents) → AreContentsAlike c d → how_often (values_of c) v ≡ how_often (values_of d) v
+    one (array xs) (array ys) g = refl
+    one (array xs) (stream ys) g = elim g [ ]
+    one (stream xs) (array ys) g = elim g [ ]
+    one (stream xs) (stream ys) g = g v
+stream_alike (c ∷ own) (d ∷ other) h (suc st) v = stream_alike own other h.1 st v
+
+-- the works of a safe pool take from no stream outside of them
+no_take : {P : Type 0} (body : ℤ → Term P) (active : Actives P) → IsPoolSafe body active → NoTake active body
+no_take body active f l c h = f (takes l c) (takes l c) h h refl refl
+
+-- as many takes where as many works were begun
+same_taken : (b : Bool) (t u n m : ℕ) → n ≡ m → t + cond b 0 0 ≡ cond b n 0 → u + cond b 0 0 ≡ cond b m 0 → t ≡ u
+same_taken true t u n m e f g = omega (arith, e, f, g)
+same_taken false t u n m e f g = omega (arith, f, g)
+
+-- what stands in an image of an owned pool
+abbrev active_in : {P : Type 0} → Work P → ℤ → Works P
+active_in (scope own (basin l c body active closed)) = active
+active_in w = λ v. no_works
+
+pub taking-order : {P : Type 0} (own other : Memory) (container : ℕ) (body : ℤ → Term P) (turns : ℕ) (picks others : List ℕ) (left : Left) (happened : List Event) →
+    MayInterleave (pool_over own container body) → AreAlike own other → DoneWith (pool_over own container body) turns picks left happened →
+    (end : Left) × (also : List Event) × DoneWith (pool_over other container body) turns others end also × LeaveAlike left end × AreEventsAlike happened also
+taking-order {P} own other container body turns picks others left happened may same done =
+    (left_of y, es2, (c.0, comes-run c.0 others (opening B turns) y c.2, refl), subst (λ w. LeaveAlike w (left_of y)) (sym r.2) (left-alike x y (sym c.3)), alike)
+  where
+    A : Term P
+    A = pool_over own container body
+
+    B : Term P
+    B = pool_over other container body
+
+    r : (e : Machine P) × Comes done.0 picks (opening A turns) e × (left ≡ left_of e)
+    r = run-comes done.0 picks (opening A turns) left done.1
+
+    x : Machine P
+    x = r.0
+
+    mayB : MayInterleave B
+    mayB = record { ordered = may.ordered; safe = may.safe; whole = may.whole }
+
+    c : (j : ℕ) × (y : Machine P) × Comes j others (opening B turns) y × (engine y.term y.turns ≡ engine x.term x.turns)
+    c = confluent A B (ap (λ f. scope f (work_of (pool 0 container body idle false))) (alike-frame own other same)) (sound-of A may) (sound-of B mayB) (safe-image A may.safe) turns done.0 picks x r.1 others
+
+    y : Machine P
+    y = c.1
+
+    es1 : List Event
+    es1 = events done.0 picks (opening A turns)
+
+    es2 : List Event
+    es2 = events c.0 others (opening B turns)
+
+    first : Counted own container body idle es1 x
+    first = counts done.0 picks own container body idle _ turns x (no_take body idle may.safe.2) r.1
+
+    second : Counted other container body idle es2 y
+    second = counts c.0 others other container body idle _ turns y (no_take body idle may.safe.2) c.2
+
+    works : active_of first.1 ≡ active_of second.1
+    works =
+        sym (ap (λ (m : Machine P). active_in (work_of m.term)) first.4) ∙ ap (λ (w : Engine P). active_in w.work) (sym c.3)
+        ∙ ap (λ (m : Machine P). active_in (work_of m.term)) second.4
+
+    memories : AreAlike first.0 second.0
+    memories =
+        subst (λ m. AreAlike m second.0) (ap (λ (m : Machine P). memory_of m.term) first.4)
+        (subst (λ m. AreAlike (memory_of x.term) m) (ap (λ (m : Machine P). memory_of m.term) second.4) (left-alike x y (sym c.3)).memories)
+
+    taken : (st : ℕ) → HoldAlike (values_taken st es1) (values_taken st es2)
+    taken st v =
+        same_taken (eqb st container) (how_often (values_taken st es1) v) (how_often (values_taken st es2) v) (how_often (values_in first.1) v) (how_often (values_in second.1) v)
+        (same-values first.1 second.1 works v) (first.6 st v) (second.6 st v)
+
+    pushed : (st : ℕ) → HoldAlike (values_pushed st es1) (values_pushed st es2)
+    pushed st v =
+        let begin : how_often (waiting 0 st (own ∷ [])) v ≡ how_often (waiting 0 st (other ∷ [])) v = stream_alike own other same st v in
+        let finish : how_often (waiting 0 st (first.0 ∷ [])) v ≡ how_often (waiting 0 st (second.0 ∷ [])) v = stream_alike first.0 second.0 memories st v in
+        let t = taken st v in
+        let a = first.5 st v in
+        let b = second.5 st v in
+        omega (arith, begin, finish, t, a, b)
+
+    alike : AreEventsAlike happened es2
+    alike st = (subst (λ es. HoldAlike (values_taken st es) (values_taken st es2)) done.2 (taken st), subst (λ es. HoldAlike (values_pushed st es) (values_pushed st es2)) done.2 (pushed st))
+
+-- each value that waited or was pushed is taken or waits
+pub none-lost : {P : Type 0} (own : Memory) (container : ℕ) (body : ℤ → Term P) (turns : ℕ) (picks : List ℕ) (left : Left) (happened : List Event) →
+    MayInterleave (pool_over own container body) → DoneWith (pool_over own container body) turns picks left happened → (st : ℕ) (value : ℤ) →
+    how_often (waiting 0 st (left.memory ∷ [])) value + how_often (values_taken st happened) value ≡ how_often (waiting 0 st (own ∷ [])) value + how_often (values_pushed st happened) value
+none-lost {P} own container body turns picks left happened may done st value =
+    subst (λ m. how_often (waiting 0 st (m ∷ [])) value + how_often (values_taken st happened) value ≡ how_often (waiting 0 st (own ∷ [])) value + how_often (values_pushed st happened) value)
+    (sym (ap (λ (m : Machine P). memory_of m.term) first.4) ∙ sym (ap (λ (l : Left). l.memory) r.2))
+    (subst (λ es. how_often (waiting 0 st (first.0 ∷ [])) value + how_often (values_taken st es) value ≡ how_often (waiting 0 st (own ∷ [])) value + how_often (values_pushed st es) value) done.2 (first.5 st value))
+  where
+    r : (e : Machine P) × Comes done.0 picks (opening (pool_over own container body) turns) e × (left ≡ left_of e)
+    r = run-comes done.0 picks (opening (pool_over own container body) turns) left done.1
+
+    first : Counted own container body idle (events done.0 picks (opening (pool_over own container body) turns)) r.0
+    first = counts done.0 picks own container body idle _ turns r.0 (no_take body idle may.safe.2) r.1

@@ -1,0 +1,39 @@
+ghost use Rattle.std.specs.Prelude.{◌≡◌, ◌+◌, ℕ, ℤ, List, [], ◌∷◌};
+ghost use Rattle.sd_work.specs.Memory.{Memory, waiting};
+ghost use Rattle.sd_work.specs.Residual.{Term};
+ghost use Rattle.sd_work.specs.Step.{Done};
+ghost use Rattle.sd_work.specs.Run.{Left, Run};
+ghost use Rattle.sd_confluence.specs.Safe.{MayInterleave, pool_over};
+ghost use Rattle.sd_confluence.specs.Alike.{how_often, AreAlike, LeaveAlike};
+ghost use Rattle.sd_confluence.specs.Event.{Event, values_pushed, values_taken, DoneWith, AreEventsAlike};
+
+/// Of two runs of work that may interleave, by any picks, the one is done where the other is, and they leave
+/// memories alike and as many turns. Without picks a run is the sequential one.
+pub fn every_interleaving_ends_alike<P>()
+    ensures { (term : Term P) (turns : ℕ) (picks others : List ℕ) (left : Left) → MayInterleave term
+        → Run term turns picks (Done left)
+        → (end : Left) × Run term turns others (Done end) × LeaveAlike left end }
+{}
+
+/// Of two runs of one safe pool, from memories that are alike and by any picks, the one is done where the other is.
+/// They leave the same, and from each stream they took, and into each they pushed, each value equally often.
+pub fn the_order_of_taking_makes_no_difference<P>()
+    ensures { (own other : Memory) (container : ℕ) (body : ℤ → Term P) (turns : ℕ) (picks others : List ℕ)
+        (left : Left) (happened : List Event)
+        → MayInterleave (pool_over own container body) → AreAlike own other
+        → DoneWith (pool_over own container body) turns picks left happened
+        → (end : Left) × (also : List Event) × DoneWith (pool_over other container body) turns others end also
+        × LeaveAlike left end × AreEventsAlike happened also }
+{}
+
+/// In a run of one safe pool no value of a stream is lost and none is made: each that waited at the
+/// begin or was pushed is taken or waits at the end.
+pub fn each_value_is_taken_or_waits<P>()
+    ensures { (own : Memory) (container : ℕ) (body : ℤ → Term P) (turns : ℕ) (picks : List ℕ)
+        (left : Left) (happened : List Event)
+        → MayInterleave (pool_over own container body)
+        → DoneWith (pool_over own container body) turns picks left happened
+        → (stream : ℕ) (value : ℤ)
+        → how_often (waiting 0 stream (left.memory ∷ [])) value + how_often (values_taken stream happened) value
+        ≡ how_often (waiting 0 stream (own ∷ [])) value + how_often (values_pushed stream happened) value }
+{}
