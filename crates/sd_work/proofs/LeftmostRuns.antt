@@ -16,7 +16,7 @@ use Rattle.sd_work.proofs.WithoutPools.{settled-none, fired-none}
 abbrev pub machine : {P : Type 0} → Term P → ℕ → Machine P
 machine term turns = record { term = term; turns = turns }
 
-nothing_stays : (change : Change) → apply change [] ≡ []
+pub nothing_stays : (change : Change) → apply change [] ≡ []
 nothing_stays nothing = refl
 nothing_stays (write to by value) = refl
 nothing_stays (push level container value) = refl

@@ -12,7 +12,15 @@ pub mod WithoutPools
 pub mod LeftmostRuns
 pub mod LeftmostLists
 pub mod Leftmost
+pub mod Kept
+pub mod NextMoves
+pub mod Comes
 pub mod Halting
+pub mod Weights
+pub mod Quiet
+pub mod Falls
+pub mod HaltingPools
 pub mod BigRuns
 pub mod BigExamples
 pub mod WellFormedExamples
+pub mod NewExamples

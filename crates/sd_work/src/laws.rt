@@ -10,6 +10,7 @@ ghost use Rattle.sd_work.specs.Step.{Outcome};
 ghost use Rattle.sd_work.specs.Run.{Left, Run, Sequential};
 ghost use Rattle.sd_work.specs.BigRun.{big_run};
 ghost use Rattle.sd_work.specs.WellFormed.{IsOrdered, HasNoPool, PaysCycles, IsRun};
+ghost use Rattle.sd_work.specs.New.{UnfoldsNew};
 ghost use Rattle.sd_work.specs.Harmless.{AreHarmless, SparesElement, SparesStream};
 
 /// What is written to an element is the new value, or the old one resolved with it.
@@ -69,9 +70,11 @@ pub fn a_run_from_left_to_right_is_sequential<P>()
         → Sequential term turns outcome → (most : ℕ) × (big_run term most turns ≡ Some outcome) }
 {}
 
-/// Every run of a term without pools ends, by whatever picks, where each cycle of transitions
-/// spends a turn.
+/// Every run ends, by whatever picks, where each cycle of transitions spends a turn and the term
+/// has no pool, or what it unfolds is new.
 pub fn every_run_ends<P>()
-    ensures { (term : Term P) (turns : ℕ) (picks : List ℕ) → HasNoPool term → PaysCycles term
-        → (outcome : Outcome P Left) × Run term turns picks outcome }
+    ensures without_pools { (term : Term P) (turns : ℕ) (picks : List ℕ) → HasNoPool term
+        → PaysCycles term → (outcome : Outcome P Left) × Run term turns picks outcome }
+    ensures with_pools { (term : Term P) (turns : ℕ) (picks : List ℕ) → PaysCycles term
+        → UnfoldsNew term → (outcome : Outcome P Left) × Run term turns picks outcome }
 {}
