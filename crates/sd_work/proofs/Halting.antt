@@ -16,7 +16,7 @@ use Rattle.sd_work.specs.Run.{Left, memory_of, chosen_number, go_on, run_by, run
 use Rattle.sd_work.specs.WellFormed.{HasNoPool, HaveNoPool, Rises, HasRanks, PaysCycles, PayCycles}
 use Rattle.sd_work.proofs.WithoutPools.{settled-none, fired-none}
 use Rattle.sd_work.proofs.LeftmostRuns.{machine, moves_on}
-use Rattle.sd_work.proofs.Leftmost.{effect_next, effect_some}
+use Rattle.sd_work.proofs.LeftmostOwners.{effect_next, effect_some}
 
 -- moves that spend no turn come to an end, whatever stands in memory
 data Quiet {P : Type 0} : Term P → Type 0 where
@@ -345,12 +345,12 @@ comes_on {P} n t picks quietly paying np f = at_moves (moves t []) refl
         let no : HasNoPool x = fired-none t np w [] true u x e in
         let pay : PaysCycles x = subst (Leaves PaysCycles) e (pays_kept t np f w []) in
         let h = paying w u x b e c no pay in
-        (suc h.0, h.1, one_move h.0 n (suc b) t picks p ps q w d (goes true u x) e c ∙ ap (λ y. go_on y (run h.0 (drop 1 picks))) (moves_on t (suc b) b true u x refl (settled-none x no)) ∙ h.2)
+        (suc h.0, h.1, one_move h.0 n (suc b) t picks p ps q w d (goes true u x) e c ∙ ap (λ y. go_on y (run h.0 (drop 1 picks))) (moves_on t (suc b) b true u x x refl (settled-none x no)) ∙ h.2)
     after p ps q w d (goes false u x) e g b c =
         let no : HasNoPool x = fired-none t np w [] false u x e in
         let pay : PaysCycles x = subst (Leaves PaysCycles) e (pays_kept t np f w []) in
         let h = quietly w u x e no pay in
-        (suc h.0, h.1, one_move h.0 n n t picks p ps q w d (goes false u x) e refl ∙ ap (λ y. go_on y (run h.0 (drop 1 picks))) (moves_on t n n false u x refl (settled-none x no)) ∙ h.2)
+        (suc h.0, h.1, one_move h.0 n n t picks p ps q w d (goes false u x) e refl ∙ ap (λ y. go_on y (run h.0 (drop 1 picks))) (moves_on t n n false u x x refl (settled-none x no)) ∙ h.2)
     after p ps q w d no_move e g b c = elim g [ ]
 
     at_moves : (ps : List Path) → moves t [] ≡ ps → Comes n t picks

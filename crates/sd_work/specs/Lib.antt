@@ -14,4 +14,5 @@ pub mod Harmless
 pub mod Touch
 pub mod BigStep
 pub mod WellFormed
+pub mod OrderedPools
 pub mod BigRun
