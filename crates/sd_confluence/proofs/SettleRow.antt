@@ -6,7 +6,8 @@ use Rattle.sd_work.specs.Moves.{Path}
 use Rattle.sd_work.specs.Touch.{takes, SomePart, SomeActive}
 use Rattle.sd_work.specs.Settle.{is_empty, is_first_left, settle, settle_parts, settle_active}
 use Rattle.sd_work.specs.WellFormed.{IsOrdered, AreOrdered, AreActiveOrdered}
-use Rattle.sd_work.proofs.LeftmostLists.{◌⊕◌, count_of, ready_late, plus_assoc}
+use Rattle.sd_work.proofs.Fronts.{◌⊕◌, count_of}
+use Rattle.sd_work.proofs.LeftmostLists.{ready_late, plus_assoc}
 use Rattle.sd_confluence.specs.Safe.{TakesNothing}
 use Rattle.sd_confluence.proofs.Waits.{Clear, PointsWait, Waits, AllWait, ActiveWait, clear_part, clear_inside}
 use Rattle.sd_confluence.proofs.ClosedPools.{ClosedAreIdle, AllClosedAreIdle, ActiveClosedAreIdle, settle-false, settle_active-finished}

@@ -16,7 +16,7 @@ use Rattle.sd_work.specs.Run.{Left, run, Run}
 use Rattle.sd_work.specs.WellFormed.{HasNoPool, HaveNoPool, Rises, HasRanks, PaysCycles, PayCycles}
 use Rattle.sd_work.proofs.WithoutPools.{settled-none, fired-none}
 use Rattle.sd_work.proofs.LeftmostRuns.{machine}
-use Rattle.sd_work.proofs.Leftmost.{effect_next}
+use Rattle.sd_work.proofs.LeftmostOwners.{effect_next}
 use Rattle.sd_work.proofs.Kept.{Leaves, pays_kept}
 use Rattle.sd_work.proofs.Comes.{Comes, comes_on}
 

@@ -9,10 +9,9 @@ use Rattle.sd_work.specs.Fire.{fire}
 use Rattle.sd_work.specs.Settle.{settled}
 use Rattle.sd_work.specs.Step.{Machine, Done, Faulted, Spent, moved, step}
 use Rattle.sd_work.specs.Run.{go_on, run_by, run}
-use Rattle.sd_work.specs.WellFormed.{HasNoPool}
-use Rattle.sd_work.proofs.Leads.{Pays, Leads, FailsBy, FailsNow, Stops}
-use Rattle.sd_work.proofs.WithoutPools.{settled-none, fired-none}
+use Rattle.sd_work.proofs.Leads.{front, Pays, Feeds, Leads, FailsBy, FailsNow, Stops}
 
+-- a machine with this term, settled or not
 abbrev pub machine : {P : Type 0} → Term P → ℕ → Machine P
 machine term turns = record { term = term; turns = turns }
 
@@ -22,9 +21,9 @@ nothing_stays (write to by value) = refl
 nothing_stays (push level container value) = refl
 nothing_stays (take level container position) = refl
 
-pub leads-nothing : {P : Type 0} (k : ℕ) (t : Term P) (n : ℕ) (t' : Term P) (s' : Memories) (n' : ℕ) → Leads k t [] n t' s' n' → s' ≡ []
-leads-nothing zero t n t' s' n' a = sym a.1
-leads-nothing (suc k) t n t' s' n' a = leads-nothing k a.4 a.5 t' s' n' (subst (λ w. Leads k a.4 w a.5 t' s' n') (nothing_stays a.3) a.9)
+leads-nothing : {P : Type 0} (W : Feeds) (k : ℕ) (t : Term P) (n : ℕ) (t' : Term P) (s' : Memories) (n' : ℕ) → Leads W k t [] n t' s' n' → s' ≡ []
+leads-nothing W zero t n t' s' n' a = sym a.1
+leads-nothing W (suc k) t n t' s' n' a = leads-nothing W k a.5 a.6 t' s' n' (subst (λ w. Leads W k a.5 w a.6 t' s' n') (nothing_stays a.3) a.12)
 
 first_is_chosen : (p : Path) (ps : List Path) → slice_index_or (p ∷ ps) (0 % length (p ∷ ps)) p ≡ p
 first_is_chosen p ps = let h : 0 % suc (length ps) ≡ 0 = omega arith in ap (λ k. slice_index_or (p ∷ ps) k p) h
@@ -35,38 +34,36 @@ first_move k t n p ps q =
     ap (λ paths. run_by paths [] (machine t n) (run k [])) q
     ∙ ap (λ w. go_on (step w (machine t n)) (run k [])) (first_is_chosen p ps)
 
--- a move that goes on, of a term that is settled as it is
-pub moves_on : {P : Type 0} (t : Term P) (n m : ℕ) (b : Bool) (u : Change) (x : Term P) → Pays b n m → settled x ≡ x → moved (machine t n) (goes b u x) ≡ Done (machine x m)
-moves_on t n m false u x pays same = λ i. Done (machine (same i) (pays i))
-moves_on t n m true u x pays same = ap (λ n. moved (machine t n) (goes true u x)) pays ∙ ap (λ left. Done (machine left m)) same
+-- a move that goes on, and what is left is settled
+pub moves_on : {P : Type 0} (t : Term P) (n m : ℕ) (b : Bool) (u : Change) (y x : Term P) → Pays b n m → settled y ≡ x → moved (machine t n) (goes b u y) ≡ Done (machine x m)
+moves_on t n m false u y x pays same = λ i. Done (machine (same i) (pays i))
+moves_on t n m true u y x pays same = ap (λ n. moved (machine t n) (goes true u y)) pays ∙ ap (λ left. Done (machine left m)) same
 
-pub run-leads : {P : Type 0} (k : ℕ) (t : Term P) (n : ℕ) (t' : Term P) (s' : Memories) (n' : ℕ) → HasNoPool t → Leads k t [] n t' s' n' → (j : ℕ) → run (k + j) [] (machine t n) ≡ run j [] (machine t' n')
-run-leads zero t n t' s' n' h a j = let z : 0 + j ≡ j = omega arith in ap (λ i. run i [] (machine t n)) z ∙ (λ i. run j [] (machine (a.0 i) (a.2 i)))
-run-leads (suc k) t n t' s' n' h a j =
+-- what is left after a leftmost move, settled
+settled_left : {P : Type 0} (u : Change) (y x : Term P) → front (apply u []) y ≡ front (apply u []) x → settled y ≡ settled x
+settled_left u y x e = subst (λ s. front s y ≡ front s x) (nothing_stays u) e
+
+-- leftmost moves are moves of the run without picks
+pub run-leads : {P : Type 0} (W : Feeds) (k : ℕ) (t : Term P) (n : ℕ) (t' : Term P) (s' : Memories) (n' : ℕ) → Leads W k t [] n t' s' n' → (j : ℕ) → run (k + j) [] (machine (settled t) n) ≡ run j [] (machine (settled t') n')
+run-leads W zero t n t' s' n' a j = let z : 0 + j ≡ j = omega arith in ap (λ i. run i [] (machine (settled t) n)) z ∙ (λ i. run j [] (machine (a.0 i) (a.2 i)))
+run-leads W (suc k) t n t' s' n' a j =
     let z : suc k + j ≡ suc (k + j) = omega arith in
-    let left : HasNoPool a.4 = fired-none t h a.0 [] a.2 a.3 a.4 a.7 in
-    let rest : Leads k a.4 [] a.5 t' s' n' = subst (λ w. Leads k a.4 w a.5 t' s' n') (nothing_stays a.3) a.9 in
-    ap (λ i. run i [] (machine t n)) z ∙ first_move (k + j) t n a.0 a.1 a.6
-    ∙ ap (λ move. go_on (moved (machine t n) move) (run (k + j) [])) a.7
-    ∙ ap (λ end. go_on end (run (k + j) [])) (moves_on t n a.5 a.2 a.3 a.4 a.8 (settled-none a.4 left))
-    ∙ run-leads k a.4 a.5 t' s' n' left rest j
+    let later : Leads W k a.5 [] a.6 t' s' n' = subst (λ w. Leads W k a.5 w a.6 t' s' n') (nothing_stays a.3) a.12 in
+    ap (λ i. run i [] (machine (settled t) n)) z ∙ first_move (k + j) (settled t) n a.0 a.1 a.7
+    ∙ ap (λ move. go_on (moved (machine (settled t) n) move) (run (k + j) [])) a.8
+    ∙ ap (λ end. go_on end (run (k + j) [])) (moves_on (settled t) n a.6 a.2 a.3 a.4 (settled a.5) a.11 (settled_left a.3 a.4 a.5 a.9))
+    ∙ run-leads W k a.5 a.6 t' s' n' later j
 
 -- a run has no outcome within no more looks than there are leftmost moves
-pub run-none : {P : Type 0} (looks k : ℕ) → looks ≤ k → (t : Term P) (n : ℕ) (t' : Term P) (s' : Memories) (n' : ℕ) → HasNoPool t → Leads k t [] n t' s' n' → run looks [] (machine t n) ≡ None
-run-none zero k up t n t' s' n' h a = refl
-run-none (suc j) zero up t n t' s' n' h a = let no : ⊥ = omega arith in elim no [ ]
-run-none (suc j) (suc k) up t n t' s' n' h a =
-    let left : HasNoPool a.4 = fired-none t h a.0 [] a.2 a.3 a.4 a.7 in
-    let rest : Leads k a.4 [] a.5 t' s' n' = subst (λ w. Leads k a.4 w a.5 t' s' n') (nothing_stays a.3) a.9 in
-    first_move j t n a.0 a.1 a.6
-    ∙ ap (λ move. go_on (moved (machine t n) move) (run j [])) a.7
-    ∙ ap (λ end. go_on end (run j [])) (moves_on t n a.5 a.2 a.3 a.4 a.8 (settled-none a.4 left))
-    ∙ run-none j k (omega arith) a.4 a.5 t' s' n' left rest
-
--- what leftmost moves lead to has no pool either
-pub leads-none : {P : Type 0} (k : ℕ) (t : Term P) (s : Memories) (n : ℕ) (t' : Term P) (s' : Memories) (n' : ℕ) → HasNoPool t → Leads k t s n t' s' n' → HasNoPool t'
-leads-none zero t s n t' s' n' h a = subst HasNoPool a.0 h
-leads-none (suc k) t s n t' s' n' h a = leads-none k a.4 (apply a.3 s) a.5 t' s' n' (fired-none t h a.0 s a.2 a.3 a.4 a.7) a.9
+pub run-none : {P : Type 0} (W : Feeds) (looks k : ℕ) → looks ≤ k → (t : Term P) (n : ℕ) (t' : Term P) (s' : Memories) (n' : ℕ) → Leads W k t [] n t' s' n' → run looks [] (machine (settled t) n) ≡ None
+run-none W zero k up t n t' s' n' a = refl
+run-none W (suc j) zero up t n t' s' n' a = let no : ⊥ = omega arith in elim no [ ]
+run-none W (suc j) (suc k) up t n t' s' n' a =
+    let later : Leads W k a.5 [] a.6 t' s' n' = subst (λ w. Leads W k a.5 w a.6 t' s' n') (nothing_stays a.3) a.12 in
+    first_move j (settled t) n a.0 a.1 a.7
+    ∙ ap (λ move. go_on (moved (machine (settled t) n) move) (run j [])) a.8
+    ∙ ap (λ end. go_on end (run j [])) (moves_on (settled t) n a.6 a.2 a.3 a.4 (settled a.5) a.11 (settled_left a.3 a.4 a.5 a.9))
+    ∙ run-none W j k (omega arith) a.5 a.6 t' s' n' later
 
 -- a move that does not go on ends the run
 fault_ends : {P : Type 0} (t : Term P) (n : ℕ) (move : Move P (Term P)) (fault : Fault P) → FailsBy move n (Faulted fault) → moved (machine t n) move ≡ Faulted fault
@@ -87,14 +84,16 @@ want_ends t (suc n) (goes true u x) h = elim h [ ]
 want_ends t n (goes false u x) h = elim h [ ]
 want_ends t n no_move h = elim h [ ]
 
-pub stops-fault : {P : Type 0} (t : Term P) (n : ℕ) (fault : Fault P) → HasNoPool t → (a : Stops t [] n (Faulted fault)) → run (a.0 + 1) [] (machine t n) ≡ Some (Faulted fault)
-stops-fault t n fault h a =
-    let at : FailsNow a.1 [] a.3 (Faulted fault) = subst (λ w. FailsNow a.1 w a.3 (Faulted fault)) (leads-nothing a.0 t n a.1 a.2 a.3 a.4) a.5 in
-    run-leads a.0 t n a.1 a.2 a.3 h a.4 1 ∙ first_move 0 a.1 a.3 at.0 at.1 at.2
-    ∙ ap (λ end. go_on end (run 0 [])) (fault_ends a.1 a.3 (fire a.1 at.0 []) fault at.3)
+-- a fault after leftmost moves is the run's outcome
+pub stops-fault : {P : Type 0} (W : Feeds) (t : Term P) (n : ℕ) (fault : Fault P) → (a : Stops W t [] n (Faulted fault)) → run (a.0 + 1) [] (machine (settled t) n) ≡ Some (Faulted fault)
+stops-fault W t n fault a =
+    let at : FailsNow a.1 [] a.3 (Faulted fault) = subst (λ w. FailsNow a.1 w a.3 (Faulted fault)) (leads-nothing W a.0 t n a.1 a.2 a.3 a.4) a.5 in
+    run-leads W a.0 t n a.1 a.2 a.3 a.4 1 ∙ first_move 0 (settled a.1) a.3 at.0 at.1 at.2
+    ∙ ap (λ end. go_on end (run 0 [])) (fault_ends (settled a.1) a.3 (fire (settled a.1) at.0 []) fault at.3)
 
-pub stops-spent : {P : Type 0} (t : Term P) (n : ℕ) → HasNoPool t → (a : Stops t [] n Spent) → run (a.0 + 1) [] (machine t n) ≡ Some Spent
-stops-spent t n h a =
-    let at : FailsNow a.1 [] a.3 Spent = subst (λ w. FailsNow a.1 w a.3 Spent) (leads-nothing a.0 t n a.1 a.2 a.3 a.4) a.5 in
-    run-leads a.0 t n a.1 a.2 a.3 h a.4 1 ∙ first_move 0 a.1 a.3 at.0 at.1 at.2
-    ∙ ap (λ end. go_on end (run 0 [])) (want_ends a.1 a.3 (fire a.1 at.0 []) at.3)
+-- and so is a want of turns
+pub stops-spent : {P : Type 0} (W : Feeds) (t : Term P) (n : ℕ) → (a : Stops W t [] n Spent) → run (a.0 + 1) [] (machine (settled t) n) ≡ Some Spent
+stops-spent W t n a =
+    let at : FailsNow a.1 [] a.3 Spent = subst (λ w. FailsNow a.1 w a.3 Spent) (leads-nothing W a.0 t n a.1 a.2 a.3 a.4) a.5 in
+    run-leads W a.0 t n a.1 a.2 a.3 a.4 1 ∙ first_move 0 (settled a.1) a.3 at.0 at.1 at.2
+    ∙ ap (λ end. go_on end (run 0 [])) (want_ends (settled a.1) a.3 (fire (settled a.1) at.0 []) at.3)

@@ -10,7 +10,7 @@ use Rattle.sd_work.specs.Exit.{Values, Exit, first_exit}
 use Rattle.sd_work.specs.Residual.{Term, leaf, list, owning, nested, ended, pool, Terms, none, also, Actives, idle, busy, finished, flags_of, is_ready}
 use Rattle.sd_work.specs.Moves.{Path, moves_in, takes_from, moves, moves_of_parts, moves_of_active}
 use Rattle.sd_work.specs.Fire.{owned, transition, take_move, fire, fire_part, fire_active}
-use Rattle.sd_work.proofs.Leftmost.{effect_some}
+use Rattle.sd_work.proofs.LeftmostOwners.{effect_some}
 
 -- there is a move
 abbrev pub IsMove : {P A : Type 0} → Move P A → Type 0

@@ -15,4 +15,5 @@ pub mod Touch
 pub mod BigStep
 pub mod WellFormed
 pub mod New
+pub mod OrderedPools
 pub mod BigRun
