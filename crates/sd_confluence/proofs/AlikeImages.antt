@@ -1,26 +1,21 @@
 -- Memories are alike exactly where their images are equal.
-use Rattle.std.proofs.Common.{◌≡◌, ℕ, ℤ, [], ◌∷◌, refl, sym, ◌∙◌, ap}
+use Rattle.std.proofs.Common.{◌≡◌, [], ◌∷◌, refl, sym, ◌∙◌, ap}
 use Rattle.sd_work.specs.Memory.{Contents, array, stream, Memory}
 use Rattle.sd_work.specs.Residual.{Term, leaf, list, owning, nested, ended, pool}
 use Rattle.sd_work.specs.Step.{Machine}
 use Rattle.sd_work.specs.Run.{memory_of}
 use Rattle.sd_confluence.specs.Alike.{AreContentsAlike, AreAlike, LeaveAlike}
-use Rattle.sd_confluence.proofs.BagMemory.{Holding, cells, bag, Frame}
+use Rattle.sd_confluence.proofs.BagMemory.{Holding, cells, bag, Frame, count_in}
 use Rattle.sd_confluence.proofs.Works.{Work, thread, group, scope, nest, over, basin}
 use Rattle.sd_confluence.proofs.Images.{holding_of, frame_of, work_of}
-use Rattle.sd_confluence.proofs.Comes.{left_of}
+use Rattle.sd_confluence.proofs.Reaching.{left_of}
 use Rattle.sd_confluence.proofs.Nearer.{engine}
-
--- how often each value is in a bag
-abbrev counts_of : Holding → ℤ → ℕ
-counts_of (cells elements) value = 0
-counts_of (bag count) value = count value
 
 contents_alike : (c d : Contents) → holding_of c ≡ holding_of d → AreContentsAlike c d
 contents_alike (array xs) (array ys) e = cc
 contents_alike (array xs) (stream ys) e = cc
 contents_alike (stream xs) (array ys) e = cc
-contents_alike (stream xs) (stream ys) e = λ v. ap (λ h. counts_of h v) e
+contents_alike (stream xs) (stream ys) e = λ v. ap (λ h. count_in h v) e
 
 abbrev first_holding : Holding → Frame → Holding
 first_holding d [] = d

@@ -10,10 +10,6 @@ use Rattle.sd_work.proofs.Changes.{changed_at-changed_at, same_reference, writte
 use Rattle.sd_confluence.specs.Alike.{same_value}
 use Rattle.sd_confluence.proofs.BagMemory.{Holding, cells, bag, Frame, Stack, nth, on_cells, on_bag, add_one_of, drop_one_of, count_in, held, plain_holding, plain_frame, plain, Update, keep, put, add, remove, updated, outer_put, outer_update, own_update}
 
--- changes at two places commute, and at one place where the two changes do
-pub at_comm : {A : Type 0} (i j : ℕ) (f g : A → A) → (i ≡ j → (x : A) → f (g x) ≡ g (f x)) → (xs : List A) → changed_at i f (changed_at j g xs) ≡ changed_at j g (changed_at i f xs)
-at_comm i j f g h xs = changed_at-changed_at i j f g h xs
-
 -- what is seen of a place is kept by a change elsewhere, and by one that keeps what is seen
 pub nth_at : {A B : Type 0} (d : A) (q : A → B) (i j : ℕ) (f : A → A) → (i ≡ j → (x : A) → q (f x) ≡ q x) → (xs : List A) → q (nth d i (changed_at j f xs)) ≡ q (nth d i xs)
 nth_at d q i j f h [] = refl
@@ -63,11 +59,11 @@ ApartChanges u v = ⊤
 
 bags_updated : (l c m d : ℕ) (f g : (ℤ → ℕ) → ℤ → ℕ) → (l ≡ m → c ≡ d → (xs : ℤ → ℕ) → f (g xs) ≡ g (f xs)) → (s : Stack) →
     changed_at l (changed_at c (on_bag f)) (changed_at m (changed_at d (on_bag g)) s) ≡ changed_at m (changed_at d (on_bag g)) (changed_at l (changed_at c (on_bag f)) s)
-bags_updated l c m d f g h s = at_comm l m _ _ (λ e x. at_comm c d _ _ (λ e' k. bags_comm f g (h e e') k) x) s
+bags_updated l c m d f g h s = changed_at-changed_at l m _ _ (λ e x. changed_at-changed_at c d _ _ (λ e' k. bags_comm f g (h e e') k) x) s
 
 kinds_updated : (l c m d : ℕ) (f : List ℤ → List ℤ) (g : (ℤ → ℕ) → ℤ → ℕ) (s : Stack) →
     changed_at l (changed_at c (on_cells f)) (changed_at m (changed_at d (on_bag g)) s) ≡ changed_at m (changed_at d (on_bag g)) (changed_at l (changed_at c (on_cells f)) s)
-kinds_updated l c m d f g s = at_comm l m _ _ (λ e x. at_comm c d _ _ (λ e' k. kinds_comm f g k) x) s
+kinds_updated l c m d f g s = changed_at-changed_at l m _ _ (λ e x. changed_at-changed_at c d _ _ (λ e' k. kinds_comm f g k) x) s
 
 -- two updates with compatible touches commute
 pub apply_comm : (u v : Update) → ApartChanges u v → (s : Stack) → updated u (updated v s) ≡ updated v (updated u s)
@@ -76,8 +72,8 @@ apply_comm (put r by x) keep h s = refl
 apply_comm (add l c x) keep h s = refl
 apply_comm (remove l c x) keep h s = refl
 apply_comm (put r by x) (put q to y) h s =
-    at_comm r.level q.level _ _ (λ e f. at_comm r.container q.container _ _ (λ e' c.
-    cells_comm _ _ (at_comm r.element q.element _ _ (λ e''. written-written by to (h (same_reference r q e e' e'')) x y)) c) f) s
+    changed_at-changed_at r.level q.level _ _ (λ e f. changed_at-changed_at r.container q.container _ _ (λ e' c.
+    cells_comm _ _ (changed_at-changed_at r.element q.element _ _ (λ e''. written-written by to (h (same_reference r q e e' e'')) x y)) c) f) s
 apply_comm (put r by x) (add l c y) h s = kinds_updated r.level r.container l c _ _ s
 apply_comm (put r by x) (remove l c y) h s = kinds_updated r.level r.container l c _ _ s
 apply_comm (add l c x) (put q to y) h s = sym (kinds_updated q.level q.container l c _ _ s)

@@ -7,10 +7,10 @@ use Rattle.sd_work.specs.Exit.{first_exit}
 use Rattle.sd_work.specs.Residual.{Term, leaf, list, owning, nested, ended, pool, Terms, none, also, Actives, idle, busy, finished, none_active}
 use Rattle.sd_work.specs.Moves.{Path}
 use Rattle.sd_work.specs.Fire.{owned, transition, and_last, fire, fire_part, fire_active}
+use Rattle.sd_work.proofs.Leaving.{Leaves, leaves_any, leaves_map, leaves_owned, leaves_transition, leaves_take}
 use Rattle.sd_confluence.specs.Safe.{IsSafe, AreSafe, AreActiveSafe}
 use Rattle.sd_confluence.proofs.Images.{IsNext, IsNextAt, IsNextIn, IsNextHere}
 use Rattle.sd_confluence.proofs.ClosedPools.{ClosedAreIdle, AllClosedAreIdle, ActiveClosedAreIdle}
-use Rattle.sd_confluence.proofs.Kept.{Leaves, leaves_map, leaves_owned, leaves_transition, leaves_take, leaves_leaf}
 
 idle_last : {P : Type 0} (active : Actives P) (v : ℤ) (t : Term P) → ActiveClosedAreIdle active → ClosedAreIdle t → ActiveClosedAreIdle (and_last active v t)
 idle_last idle v t a w = (w, tt)
@@ -25,20 +25,19 @@ nested_idle false p C m n g h c = h c
 
 mutual
   pub closed-kept : {P : Type 0} (t : Term P) (p : Path) (s : Memories) → IsNext t p s → ClosedAreIdle t → Leaves ClosedAreIdle (fire t p s)
-  closed-kept (leaf place work) p s c w = leaves_leaf place ClosedAreIdle (λ x. tt) (leaf_move place work s)
+  closed-kept (leaf place work) p s c w = leaves_any (leaf place) ClosedAreIdle (λ x. tt) (leaf_move place work s)
   closed-kept (list kind before parts) [] s c w = tt
   closed-kept (list kind before parts) (k ∷ p) s c w = leaves_map (list kind before) AllClosedAreIdle ClosedAreIdle (λ x g. g) (fire_part parts k p s) (closed_part parts k p s c.1 w)
-  closed-kept (owning own part) p s c w = leaves_owned owning own ClosedAreIdle ClosedAreIdle (λ f x g. g) (fire part p (own ∷ s)) (closed-kept part p (own ∷ s) c w)
+  closed-kept (owning own part) p s c w = leaves_owned ClosedAreIdle ClosedAreIdle owning own (λ f x g. g) (fire part p (own ∷ s)) (closed-kept part p (own ∷ s) c w)
   closed-kept (nested body exits own state values part) p s c w =
       nested_idle (finished part) p (IsNext part p (own ∷ s)) (transition body exits own (first_exit (exits state values) (own ∷ s))) (owned (λ memory left. nested body exits memory state values left) own (fire part p (own ∷ s)))
-      (leaves_transition body exits own ClosedAreIdle tt (λ k e. (w.1 k e, w.1)) (first_exit (exits state values) (own ∷ s)))
-      (λ d. leaves_owned (λ f x. nested body exits f state values x) own ClosedAreIdle ClosedAreIdle (λ f x g. (g, w.1)) (fire part p (own ∷ s)) (closed-kept part p (own ∷ s) d w.0)) c
+      (leaves_transition ClosedAreIdle body exits own tt (λ k e. (w.1 k e, w.1)) (first_exit (exits state values) (own ∷ s)))
+      (λ d. leaves_owned ClosedAreIdle ClosedAreIdle (λ f x. nested body exits f state values x) own (λ f x g. (g, w.1)) (fire part p (own ∷ s)) (closed-kept part p (own ∷ s) d w.0)) c
   closed-kept (ended own) p s c w = tt
   closed-kept (pool level container body active closed) [] s c w = tt
   closed-kept (pool level container body active closed) (zero ∷ []) s c w = tt
   closed-kept (pool level container body active closed) (zero ∷ k ∷ p) s c w =
-      leaves_take level container body active closed k ClosedAreIdle
-      (λ v. (idle_last active v (body v) w.0 (w.1 v), w.1, open_still closed (none_active (and_last active v (body v)) ≡ true) c.0)) (slice_get (waiting level container s) k)
+      leaves_take ClosedAreIdle level container body active closed (λ v. (idle_last active v (body v) w.0 (w.1 v), w.1, open_still closed (none_active (and_last active v (body v)) ≡ true) c.0)) k (slice_get (waiting level container s) k)
   closed-kept (pool level container body active closed) (suc zero ∷ []) s c w = tt
   closed-kept (pool level container body active closed) (suc zero ∷ k ∷ p) s c w =
       leaves_map (λ x. pool level container body x closed) ActiveClosedAreIdle ClosedAreIdle (λ x g. (g, w.1, open_still closed (none_active x ≡ true) c.0)) (fire_active active k p s) (closed_active active k p s c.1 w.0)

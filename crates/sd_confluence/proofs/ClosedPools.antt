@@ -5,6 +5,7 @@ use Rattle.sd_work.specs.Memory.{Memories, waiting}
 use Rattle.sd_work.specs.Exit.{Values}
 use Rattle.sd_work.specs.Residual.{Parts, Term, leaf, list, owning, nested, ended, pool, Terms, none, also, Actives, idle, busy, finished, all_finished, none_active, is_ready}
 use Rattle.sd_work.specs.Settle.{is_empty, is_first_left, settle, settle_parts, settle_active}
+use Rattle.sd_work.proofs.Flags.{both}
 
 -- each closed pool has no active term, also in what is unfolded later
 abbrev mutual
@@ -24,10 +25,6 @@ abbrev mutual
   pub ActiveClosedAreIdle : {P : Type 0} → Actives P → Type 0
   ActiveClosedAreIdle idle = ⊤
   ActiveClosedAreIdle (busy value part active) = ClosedAreIdle part × ActiveClosedAreIdle active
-
-both : (a b : Bool) → (a && b) ≡ true → (a ≡ true) × (b ≡ true)
-both true b e = (refl, e)
-both false b e = cc
 
 closed_stays : (a : Bool) → a || false ≡ a
 closed_stays true = refl

@@ -4,13 +4,14 @@ use Rattle.sd_work.specs.Memory.{Memories, waiting}
 use Rattle.sd_work.specs.Exit.{first_exit}
 use Rattle.sd_work.specs.Residual.{Term, leaf, list, owning, nested, ended, pool, Terms, none, also, Actives, idle, busy, finished, all_finished, none_active, flags_of, is_ready}
 use Rattle.sd_work.specs.Moves.{Path}
+use Rattle.sd_work.proofs.Flags.{and_false}
 use Rattle.sd_confluence.specs.Alike.{same_value, how_often}
-use Rattle.sd_confluence.proofs.Values.{same-true, same-refl}
+use Rattle.sd_confluence.proofs.Values.{same-refl}
 use Rattle.sd_confluence.proofs.BagMemory.{Stack, keep, plain}
-use Rattle.sd_confluence.proofs.Works.{Work, group, scope, nest, basin, Works, and_work, is_over, Route, part_number, acting, closing, makes, map_answer, follow, owned_answer, put_active, act, act_at, Can, CanAt, CanHere}
+use Rattle.sd_confluence.proofs.Works.{group, scope, nest, basin, and_work, is_over, Route, part_number, acting, closing, makes, map_answer, follow, owned_answer, put_active, act, act_at, Can, CanAt, CanHere}
 use Rattle.sd_confluence.proofs.Images.{frame_of, stack_of, work_of, works_of, active_of, value_at, number_at, named}
-use Rattle.sd_confluence.proofs.Link.{finished_is, flags_is}
-use Rattle.sd_confluence.proofs.NextLinked.{held_image, busy_done}
+use Rattle.sd_confluence.proofs.Link.{finished_is, flags_is, same_put}
+use Rattle.sd_confluence.proofs.NextLinked.{held_image, busy_done, acting_can, can_put}
 
 -- the pool at a place closed: a part's number in each list on the way, in a pool an active term's number
 abbrev mutual
@@ -93,11 +94,7 @@ mutual
   pub unfinished-closing_part : {P : Type 0} (ts : Terms P) (k : ℕ) (p : Path) (s : Memories) → MayClosePart ts k p s → all_finished ts ≡ false
   unfinished-closing_part none k p s c = elim c [ ]
   unfinished-closing_part (also t ts) zero p s c = ap (λ b. b && all_finished ts) (unfinished-closing t p s c)
-  unfinished-closing_part (also t ts) (suc k) p s c = go (finished t) (unfinished-closing_part ts k p s c)
-    where
-      go : (b : Bool) → all_finished ts ≡ false → (b && all_finished ts) ≡ false
-      go true e = e
-      go false e = refl
+  unfinished-closing_part (also t ts) (suc k) p s c = and_false (finished t) (all_finished ts) (unfinished-closing_part ts k p s c)
 
 still_on : {P : Type 0} (t : Term P) (p : Path) (s : Memories) → MayClose t p s → is_over (work_of t) ≡ false
 still_on t p s c = sym (finished_is t) ∙ unfinished-closing t p s c
@@ -107,15 +104,6 @@ somebody : {P : Type 0} (ts : Actives P) (k : ℕ) (p : Path) (s : Memories) →
 somebody idle k p s c = elim c [ ]
 somebody (busy v t ts) zero p s c = (v, refl)
 somebody (busy v t ts) (suc k) p s c = somebody ts k p s c
-
-acting_can : {P : Type 0} (l c : ℕ) (body : ℤ → Work P) (active : ℤ → Works P) (closed : Bool) (o : Option ℤ) (i : ℤ → ℕ) (q : Route) (s : Stack) (v : ℤ) → o ≡ Some v → closed ≡ false → CanAt (active v) (i v) q s →
-    Can (basin l c body active closed) (named o (λ w. acting w (i w) ∷ q)) s
-acting_can l c body active closed None i q s v e f a = cc
-acting_can l c body active closed (Some w) i q s v e f a = let h : v ≡ w = cc in (f, subst (λ x. CanAt (active x) (i x) q s) h a)
-
-can_put : {P : Type 0} (b : Bool) (us : Works P) (t : Work P) (i : ℕ) (p : Route) (s : Stack) → CanAt us i p s → CanAt (cond b (and_work t us) us) (cond b (suc i) i) p s
-can_put true us t i p s c = c
-can_put false us t i p s c = c
 
 mutual
   -- a closing is a next move
@@ -154,13 +142,6 @@ others (busy x t ts) zero p v e w d =
     ap (λ b. cond b (and_work (work_of (close t p)) (active_of ts w)) (active_of ts w)) f
     ∙ sym (ap (λ b. cond b (and_work (work_of t) (active_of ts w)) (active_of ts w)) f)
 others (busy x t ts) (suc k) p v e w d = ap (λ us. cond (same_value x w) (and_work (work_of t) us) us) (others ts k p v e w d)
-
-same_put : {P : Type 0} (active xs : Actives P) (v : ℤ) → ((w : ℤ) → same_value v w ≡ false → active_of xs w ≡ active_of active w) → active_of xs ≡ put_active v (active_of xs v) (active_of active)
-same_put active xs v h = λ i w. go w (same_value v w) refl i
-  where
-    go : (w : ℤ) (b : Bool) → same_value v w ≡ b → active_of xs w ≡ cond b (active_of xs v) (active_of active w)
-    go w true e = ap (active_of xs) (sym (same-true v w e))
-    go w false e = h w e
 
 pool_acts : {P : Type 0} (l c : ℕ) (body : ℤ → Term P) (active xs : Actives P) (closed : Bool) (o : Option ℤ) (i : ℤ → ℕ) (q : Route) (s : Stack) (v : ℤ) → o ≡ Some v →
     act_at (active_of active v) (i v) q s ≡ makes false keep (active_of xs v) → ((w : ℤ) → same_value v w ≡ false → active_of xs w ≡ active_of active w) →

@@ -1,7 +1,7 @@
 -- Where one run comes to an end, every other run from the same image comes to an end with the same image.
-use Rattle.std.proofs.Common.{◌≡◌, ℕ, zero, suc, ◌≤◌, ◌<◌, List, [], ◌∷◌, drop, Bool, true, false, refl, sym, ◌∙◌, ap, subst, arith, inl, inr}
+use Rattle.std.proofs.Common.{◌≡◌, ℕ, zero, suc, ◌≤◌, ◌<◌, List, [], ◌∷◌, drop, Bool, refl, sym, ◌∙◌, ap, subst, arith, inl, inr}
 use Rattle.sd_work.specs.Change.{Change}
-use Rattle.sd_work.specs.Move.{Fault, Move, fails, goes, no_move}
+use Rattle.sd_work.specs.Move.{Move, fails, goes, no_move}
 use Rattle.sd_work.specs.Residual.{Term}
 use Rattle.sd_work.specs.Moves.{Path}
 use Rattle.sd_work.specs.Fire.{fire}
@@ -9,6 +9,8 @@ use Rattle.sd_work.specs.Settle.{settled}
 use Rattle.sd_work.specs.Step.{Machine, Done, opening, next_moves, moved, step}
 use Rattle.sd_work.specs.Run.{chosen_number}
 use Rattle.sd_work.proofs.Leads.{Pays}
+use Rattle.sd_work.proofs.Paths.{AllOf, all_at, chosen}
+use Rattle.sd_work.proofs.LeftmostRuns.{machine, moves_on}
 use Rattle.sd_confluence.proofs.BagMemory.{Update}
 use Rattle.sd_confluence.proofs.Works.{stops, makes, no_answer, Route, act, Can}
 use Rattle.sd_confluence.proofs.WorkTouches.{Safe}
@@ -19,9 +21,9 @@ use Rattle.sd_confluence.proofs.Images.{work_of, route_of, update_of, IsNext}
 use Rattle.sd_confluence.proofs.Link.{Matches, linked}
 use Rattle.sd_confluence.proofs.NextLinked.{can_linked}
 use Rattle.sd_confluence.proofs.Progress.{Settled, progress}
-use Rattle.sd_confluence.proofs.Listed.{AllOf, all-next, all-at, none-next}
-use Rattle.sd_confluence.proofs.Comes.{chosen, Comes}
-use Rattle.sd_confluence.proofs.Nearer.{engine, machine, Sound, settled-sound, settled-nearer, settled-before, sound-settled, sound-left, stepped-on}
+use Rattle.sd_confluence.proofs.Listed.{all-next, none-next}
+use Rattle.sd_confluence.proofs.Reaching.{Reaches, failed, paid}
+use Rattle.sd_confluence.proofs.Nearer.{engine, Sound, settled-sound, settled-nearer, settled-before, sound-settled, sound-left}
 
 -- what each machine of a run is
 pub record Ready {P : Type 0} (m : Machine P) : Type 0 where
@@ -65,7 +67,7 @@ closer {P} m p n e r f a c = go (fire m.term p []) refl (linked m.term p [])
         let d = settled-nearer x sound h.0 turns e safe rest in
         record {
           next = machine (settled x) turns;
-          stepped = ap (moved m) g ∙ stepped-on m.term m.turns turns b u x (subst (λ y. Pays y m.turns turns) bools w.3);
+          stepped = ap (moved m) g ∙ moves_on m.term m.turns turns b u x (settled x) (subst (λ y. Pays y m.turns turns) bools w.3) refl;
           ready = record { sound = sound-settled x sound; settled = settled-sound x sound };
           safe = d.2;
           left = d.0;
@@ -80,7 +82,7 @@ ended_image m r q route c = let w = progress m.term route [] r.settled c in none
 chosen_next : {P : Type 0} (m : Machine P) (picks : List ℕ) (p : Path) (ps : List Path) → next_moves m ≡ p ∷ ps → IsNext m.term (chosen picks p ps) []
 chosen_next {P} m picks p ps q =
     let all = subst (AllOf (λ w. IsNext m.term w [])) q (all-next m.term []) in
-    all-at (λ w. IsNext m.term w []) p (chosen_number picks (p ∷ ps)) (p ∷ ps) all.0 all
+    all_at (λ w. IsNext m.term w []) p (chosen_number picks (p ∷ ps)) (p ∷ ps) all.0 all
 
 -- a machine without a listed move has the image at the end
 finished_image : {P : Type 0} (m : Machine P) (e : Engine P) (n : ℕ) → Ready m → Ends n (engine m.term m.turns) e → next_moves m ≡ [] → engine m.term m.turns ≡ e
@@ -89,11 +91,11 @@ finished_image m e (suc n) r a q = absurd (ended_image m r q a.0 a.1)
 
 -- one look, and then a run from whatever is nearer
 look_on : {P : Type 0} (n : ℕ) (m : Machine P) (e : Engine P) → Ready m → Safe (work_of m.term) → Ends n (engine m.term m.turns) e → (picks : List ℕ) →
-    ((j : ℕ) → j < n → (y : Machine P) → Ready y → Safe (work_of y.term) → Ends j (engine y.term y.turns) e → (k : ℕ) × (x : Machine P) × Comes k (drop 1 picks) y x × (engine x.term x.turns ≡ e)) →
-    (k : ℕ) × (x : Machine P) × Comes k picks m x × (engine x.term x.turns ≡ e)
+    ((j : ℕ) → j < n → (y : Machine P) → Ready y → Safe (work_of y.term) → Ends j (engine y.term y.turns) e → (k : ℕ) × (x : Machine P) × Reaches k (drop 1 picks) y x × (engine x.term x.turns ≡ e)) →
+    (k : ℕ) × (x : Machine P) × Reaches k picks m x × (engine x.term x.turns ≡ e)
 look_on {P} n m e r f a picks later = at (next_moves m) refl
   where
-    at : (l : List Path) → next_moves m ≡ l → (k : ℕ) × (x : Machine P) × Comes k picks m x × (engine x.term x.turns ≡ e)
+    at : (l : List Path) → next_moves m ≡ l → (k : ℕ) × (x : Machine P) × Reaches k picks m x × (engine x.term x.turns ≡ e)
     at [] q = (1, m, inl (q, refl), finished_image m e n r a q)
     at (p ∷ ps) q =
         let c = closer m (chosen picks p ps) n e r f a (chosen_next m picks p ps q) in
@@ -102,12 +104,12 @@ look_on {P} n m e r f a picks later = at (next_moves m) refl
 
 -- with an end of the image ahead, a run by any picks comes to an end with this image
 walk : {P : Type 0} (bound n : ℕ) → n ≤ bound → (m : Machine P) (e : Engine P) → Ready m → Safe (work_of m.term) → Ends n (engine m.term m.turns) e → (picks : List ℕ) →
-    (k : ℕ) × (x : Machine P) × Comes k picks m x × (engine x.term x.turns ≡ e)
+    (k : ℕ) × (x : Machine P) × Reaches k picks m x × (engine x.term x.turns ≡ e)
 walk zero n up m e r f a picks = look_on n m e r f a picks (λ j less y z s g. absurd (omega arith))
 walk (suc bound) n up m e r f a picks = look_on n m e r f a picks (λ j less y z s g. walk bound j (omega arith) y e z s g (drop 1 picks))
 
 -- a run to an end is one of the image
-run_ends : {P : Type 0} (k : ℕ) (picks : List ℕ) (m x : Machine P) → Ready m → Comes k picks m x → (j : ℕ) × Ends j (engine m.term m.turns) (engine x.term x.turns)
+run_ends : {P : Type 0} (k : ℕ) (picks : List ℕ) (m x : Machine P) → Ready m → Reaches k picks m x → (j : ℕ) × Ends j (engine m.term m.turns) (engine x.term x.turns)
 run_ends zero picks m x r h = elim h [ ]
 run_ends (suc k) picks m x r (inl h) = (0, (ap (λ w. engine w.term w.turns) h.1, λ q c. ended_image m r h.0 q c))
 run_ends {P} (suc k) picks m x r (inr h) = go (fire m.term c []) refl (linked m.term c []) h.4 (λ z. run_ends k (drop 1 picks) h.3 x z h.5)
@@ -133,25 +135,15 @@ run_ends {P} (suc k) picks m x r (inr h) = go (fire m.term c []) refl (linked m.
         let back = settled-before y sound rest.0 n (engine x.term x.turns) (subst (λ w. Ends rest.0 (engine w.term w.turns) (engine x.term x.turns)) (sym same) rest.1) in
         (suc back.0, (route, can_linked m.term c [] next, engine y n, ap (answered (work_of m.term) m.turns) k ∙ moved_on (work_of m.term) m.turns n b (update_of u []) (work_of y) pays, back.1))
 
-    paid : (n : ℕ) (b : Bool) (u : Change) (y : Term P) → m.turns ≡ n → moved (machine m.term n) (goes b u y) ≡ Done h.3 → (l : ℕ) × Pays b m.turns l × (machine (settled y) l ≡ h.3)
-    paid zero true u y t e = cc
-    paid (suc n) true u y t e = (n, t, cc)
-    paid n false u y t e = (n, t, cc)
-
     go : (move : Move P (Term P)) → fire m.term c [] ≡ move → Matches work_of [] move (act (work_of m.term) route []) → step c m ≡ Done h.3 →
         (Ready h.3 → (j : ℕ) × Ends j (engine h.3.term h.3.turns) (engine x.term x.turns)) → (j : ℕ) × Ends j (engine m.term m.turns) (engine x.term x.turns)
-    go (fails b z) g k d later = failed b z m.turns (ap (moved m) (sym g) ∙ d)
-      where
-        failed : (b : Bool) (z : Fault P) (n : ℕ) → moved (machine m.term n) (fails b z) ≡ Done h.3 → (j : ℕ) × Ends j (engine m.term m.turns) (engine x.term x.turns)
-        failed false z n e = cc
-        failed true z zero e = cc
-        failed true z (suc n) e = cc
+    go (fails b z) g k d later = absurd (failed b m.turns z h.3 (ap (moved m) (sym g) ∙ d))
     go no_move g k d later = elim (subst IsAnswer k answers) [ ]
-    go (goes b u y) g k d later = let w = paid m.turns b u y refl (ap (moved m) (sym g) ∙ d) in gone b u y w.0 g k w.1 w.2 later
+    go (goes b u y) g k d later = let w = paid m.term m.turns b u y h.3 (ap (moved m) (sym g) ∙ d) in gone b u y w.0 g k w.1 w.2 later
 
 -- where one run comes to an end, every other run from the same image comes to an end with the same image
-pub confluent : {P : Type 0} (A B : Term P) → work_of A ≡ work_of B → Sound A → Sound B → Safe (work_of A) → (turns k : ℕ) (picks : List ℕ) (x : Machine P) → Comes k picks (opening A turns) x → (others : List ℕ) →
-    (j : ℕ) × (y : Machine P) × Comes j others (opening B turns) y × (engine y.term y.turns ≡ engine x.term x.turns)
+pub confluent : {P : Type 0} (A B : Term P) → work_of A ≡ work_of B → Sound A → Sound B → Safe (work_of A) → (turns k : ℕ) (picks : List ℕ) (x : Machine P) → Reaches k picks (opening A turns) x → (others : List ℕ) →
+    (j : ℕ) × (y : Machine P) × Reaches j others (opening B turns) y × (engine y.term y.turns ≡ engine x.term x.turns)
 confluent {P} A B same a b f turns k picks x h others =
     let end : Engine P = engine x.term x.turns in
     let first = run_ends k picks (opening A turns) x (record { sound = sound-settled A a; settled = settled-sound A a }) h in

@@ -1,24 +1,27 @@
 -- What a run of one pool does to its streams: values are pushed, and those that are taken become active.
-use Rattle.std.proofs.Common.{◌≡◌, ℕ, zero, suc, ◌+◌, List, [], ◌∷◌, ◌++◌, drop, Option, Some, None, ℤ, Bool, true, false, cond, eqb, slice_get, refl, sym, ◌∙◌, ap, subst, arith, inl, inr, ◌⊎◌}
+use Rattle.std.proofs.Common.{◌≡◌, ℕ, zero, suc, ◌+◌, List, [], ◌∷◌, ◌++◌, drop, Option, Some, None, ℤ, Bool, true, false, cond, eqb, slice_get, refl, sym, ◌∙◌, ap, subst, arith, inl, inr}
 use Rattle.sd_work.specs.Memory.{Memory, Memories, waiting}
-use Rattle.sd_work.specs.Change.{Change, nothing, write, push, take, own_after}
-use Rattle.sd_work.specs.Move.{Fault, Move, fails, goes, no_move, map_move}
+use Rattle.sd_work.specs.Change.{Change, nothing, write, push, take, own_after, outer}
+use Rattle.sd_work.specs.Move.{Move, fails, goes, no_move, map_move}
 use Rattle.sd_work.specs.Residual.{Term, owning, pool, Actives, idle, busy}
 use Rattle.sd_work.specs.Moves.{Path}
 use Rattle.sd_work.specs.Fire.{owned, and_last, take_move, fire, fire_active}
 use Rattle.sd_work.specs.Settle.{settle_active, settled}
-use Rattle.sd_work.specs.Step.{Machine, Outcome, Done, Faulted, Spent, spend, moved, step}
+use Rattle.sd_work.specs.Step.{Machine, Outcome, Done, moved, step}
 use Rattle.sd_work.specs.Touch.{Touch, takes, Touches, SomeActive}
+use Rattle.sd_work.proofs.Leaving.{Leaves}
+use Rattle.sd_work.proofs.Paths.{chosen}
 use Rattle.sd_confluence.specs.Alike.{same_value, how_often}
 use Rattle.sd_confluence.specs.Safe.{PoolTouches}
 use Rattle.sd_confluence.specs.Event.{Event, pushed_if, taken_if, event_of, event_of_move, event_at, events_on, events_by, events, values_pushed, values_taken}
 use Rattle.sd_confluence.proofs.Works.{Works, no_works, and_work}
 use Rattle.sd_confluence.proofs.Images.{work_of, active_of}
-use Rattle.sd_confluence.proofs.Comes.{chosen, Comes}
-use Rattle.sd_confluence.proofs.Kept.{Leaves, TouchesAtMost, touches-kept}
+use Rattle.sd_confluence.proofs.Reaching.{Reaches, failed, paid}
+use Rattle.sd_confluence.proofs.Kept.{TouchesAtMost, touches-kept, AtMostActive, less_last}
 use Rattle.sd_confluence.proofs.TakesTouched.{TakesOf, takes_more, Changes, changes_map, takes-touched}
 use Rattle.sd_confluence.proofs.SettleKept.{settle_active-touches}
-use Rattle.sd_confluence.proofs.StreamCounts.{count-append, taken-sum, pushed-sum, pushes-only, same-eqb, change-counts}
+use Rattle.sd_confluence.proofs.StreamCounts.{taken-sum, pushed-sum, pushes-only, same-eqb, change-counts}
+use Rattle.sd_confluence.proofs.Values.{count-append}
 
 -- ---- the values that are worked on
 
@@ -49,10 +52,6 @@ values_last : {P : Type 0} (active : Actives P) (w : ℤ) (t : Term P) → value
 values_last idle w t = refl
 values_last (busy x u us) w t = ap (λ xs. x ∷ xs) (values_last us w t)
 
-touches_last : {P : Type 0} (active : Actives P) (w : ℤ) (t : Term P) (a : Touch) → SomeActive (and_last active w t) a → SomeActive active a ⊎ Touches t a
-touches_last idle w t a h = elim h [ inl x ↦ inr x | inr x ↦ inl x ]
-touches_last (busy x u us) w t a h = elim h [ inl y ↦ inl (inl y) | inr y ↦ elim (touches_last us w t a y) [ inl z ↦ inl (inr z) | inr z ↦ inr z ] ]
-
 values_settled : {P : Type 0} (may_go : Bool) (cleared : List Bool) (s : Memories) (active : Actives P) → values_in (settle_active may_go cleared s active) ≡ values_in active
 values_settled may_go cleared s idle = refl
 values_settled may_go cleared s (busy w t ts) = ap (λ xs. w ∷ xs) (values_settled may_go cleared s ts)
@@ -63,16 +62,12 @@ values_settled may_go cleared s (busy w t ts) = ap (λ xs. w ∷ xs) (values_set
 abbrev pub NoTake : {P : Type 0} → Actives P → (ℤ → Term P) → Type 0
 NoTake active body = (level other : ℕ) → PoolTouches body active (takes level other) → ⊥
 
--- other active terms which touch no more
-abbrev TouchNoMore : {P : Type 0} → Actives P → Actives P → Type 0
-TouchNoMore active left = (a : Touch) → SomeActive left a → SomeActive active a
-
 no_take_more : {P : Type 0} (active left : Actives P) (body : ℤ → Term P) → ((a : Touch) → SomeActive left a → PoolTouches body active a) → NoTake active body → NoTake left body
 no_take_more active left body h free l c t = free l c (elim t [ inl x ↦ h (takes l c) x | inr x ↦ inr x ])
 
 -- a move of an active term takes from what these touch, keeps their values, and leaves ones that touch no more
 abbrev Acted : {P : Type 0} → Actives P → Change → Actives P → Type 0
-Acted active u left = TakesOf u (SomeActive active) × (values_in left ≡ values_in active) × TouchNoMore active left
+Acted active u left = TakesOf u (SomeActive active) × (values_in left ≡ values_in active) × AtMostActive active left
 
 with_left : {P : Type 0} (t : Term P) (m : Move P (Term P)) → Changes (λ u x. TakesOf u (Touches t)) m → Leaves (TouchesAtMost t) m → Changes (λ u x. TakesOf u (Touches t) × TouchesAtMost t x) m
 with_left t (fails turn fault) g h = tt
@@ -141,14 +136,9 @@ made own container body active left closed n u x free grows e = (
 went : {P : Type 0} (own : Memory) (container : ℕ) (body : ℤ → Term P) (active left : Actives P) (closed : Bool) (n : ℕ) (turn : Bool) (u : Change) (x : Machine P) →
     NoTake left body → WorkGrows container active left (event_of own u) →
     moved (record { term = owning own (pool 0 container body active closed); turns = n }) (owned owning own (goes turn u (pool 0 container body left closed))) ≡ Done x → Counted own container body active (event_of own u) x
-went own container body active left closed zero true u x free grows e = cc
-went own container body active left closed (suc n) true u x free grows e = made own container body active left closed n u x free grows (done _ x e)
-went own container body active left closed n false u x free grows e = made own container body active left closed n u x free grows (done _ x e)
-
-failed : {P A : Type 0} (turn : Bool) (n : ℕ) (fault : Fault P) (x : A) → ◌≡◌ {A = Outcome P A} (spend Spent turn n (λ turns. Faulted fault)) (Done x) → ⊥
-failed true zero fault x e = cc
-failed true (suc n) fault x e = cc
-failed false n fault x e = cc
+went own container body active left closed n turn u x free grows e =
+    let r = paid (owning own (pool 0 container body active closed)) n turn (outer u) (owning (own_after u own) (pool 0 container body left closed)) x e in
+    made own container body active left closed r.0 u x free grows r.2
 
 -- a value that is taken is worked on
 take_grows : {P : Type 0} (own : Memory) (container : ℕ) (active : Actives P) (t : Term P) (j : ℕ) (w : ℤ) → slice_get (waiting 0 container (own ∷ [])) j ≡ Some w →
@@ -190,7 +180,7 @@ fired {P} own container body active closed n (zero ∷ j ∷ p) x free e = go (s
     go None h d = stays own container body active closed n x free (done _ x d)
     go (Some w) h d =
         went own container body active (and_last active w (body w)) closed n false (take 0 container j) x
-        (no_take_more active (and_last active w (body w)) body (λ a t. elim (touches_last active w (body w) a t) [ inl y ↦ inl y | inr y ↦ inr (w, y) ]) free)
+        (no_take_more active (and_last active w (body w)) body (λ a t. elim (less_last active w (body w) a t) [ inl y ↦ inl y | inr y ↦ inr (w, y) ]) free)
         (take_grows own container active (body w) j w h) d
 fired {P} own container body active closed n (suc i ∷ k ∷ p) x free e = go (fire_active active k p (own ∷ [])) (acted active k p (own ∷ [])) e
   where
@@ -227,7 +217,7 @@ joined own container body active es fs x e first second = (
 
 -- in a run of one pool whose works take nothing from outside, each value that is pushed waits at the end or is taken, and those taken are worked on
 pub counts : {P : Type 0} (k : ℕ) (picks : List ℕ) (own : Memory) (container : ℕ) (body : ℤ → Term P) (active : Actives P) (closed : Bool) (n : ℕ) (e : Machine P) → NoTake active body →
-    Comes k picks (pool_machine own container body active closed n) e → Counted own container body active (events k picks (pool_machine own container body active closed n)) e
+    Reaches k picks (pool_machine own container body active closed n) e → Counted own container body active (events k picks (pool_machine own container body active closed n)) e
 counts zero picks own container body active closed n e free h = elim h [ ]
 counts {P} (suc k) picks own container body active closed n e free (inl h) =
     let m : Machine P = pool_machine own container body active closed n in
@@ -236,7 +226,7 @@ counts {P} (suc k) picks own container body active closed n e free (inr h) =
     let m : Machine P = pool_machine own container body active closed n in
     let path : Path = chosen picks h.0 h.1 in
     let first : Counted own container body active (event_at m.term path) h.3 = fired own container body active closed n path h.3 free h.4 in
-    let second = counts k (drop 1 picks) first.0 container body first.1 first.2 first.3 e first.7 (subst (λ y. Comes k (drop 1 picks) y e) first.4 h.5) in
+    let second = counts k (drop 1 picks) first.0 container body first.1 first.2 first.3 e first.7 (subst (λ y. Reaches k (drop 1 picks) y e) first.4 h.5) in
     subst (λ es. Counted own container body active es e)
     (sym (ap (λ l. events_by l picks m (events k (drop 1 picks))) h.2 ∙ ap (λ o. event_at m.term path ++ events_on o (events k (drop 1 picks))) h.4))
     (joined own container body active (event_at m.term path) (events k (drop 1 picks) h.3) h.3 e first

@@ -1,13 +1,12 @@
 -- What changes and reads of memories are of their image.
-use Rattle.std.proofs.Common.{◌≡◌, ℕ, zero, suc, pred, List, [], ◌∷◌, ◌++◌, Option, Some, None, ℤ, pos, Bool, true, false, cond, not, slice_get, slice_index_or, refl, sym, ◌∙◌, ap, subst}
+use Rattle.std.proofs.Common.{◌≡◌, ℕ, zero, suc, List, [], ◌∷◌, ◌++◌, Option, Some, None, ℤ, pos, not, slice_get, slice_index_or, refl, ◌∙◌, ap}
 use Rattle.sd_num.specs.Wrapped.{wrapped}
 use Rattle.sd_work.specs.Memory.{Contents, array, stream, Memory, Memories, Reference, elements_of, values_of, contents_of, seen, waiting}
 use Rattle.sd_work.specs.Change.{Change, nothing, write, push, take, written, changed_at, without, with_elements, with_values, apply, outer, outer_write, innermost, own_after}
 use Rattle.sd_work.specs.Leaf.{write_value, transfer, push_to, Leaf, reading, doing}
 use Rattle.sd_work.specs.LeafMove.{write_move, read_move, leaf_move}
 use Rattle.sd_work.specs.Exit.{Exit, Guard, all_seen, with_value, decided, passed, or_later, first_exit}
-use Rattle.sd_confluence.specs.Alike.{same_value, how_often}
-use Rattle.sd_confluence.proofs.Values.{same-true, same-refl}
+use Rattle.sd_confluence.proofs.Values.{count-last, count-taken, without-none}
 use Rattle.sd_confluence.proofs.BagMemory.{Holding, bag, Frame, on_cells, on_bag, add_one_of, drop_one_of, plain_holding, plain_frame, plain, keep, updated, outer_put, outer_update, top, own_update}
 use Rattle.sd_confluence.proofs.Images.{holding_of, frame_of, stack_of, remove_found, update_of}
 
@@ -36,60 +35,17 @@ written_in : (f : List ℤ → List ℤ) (k : Contents) → holding_of (with_ele
 written_in f (array elements) = refl
 written_in f (stream values) = refl
 
-count_last : (vs : List ℤ) (v w : ℤ) → how_often (vs ++ v ∷ []) w ≡ cond (same_value v w) (suc (how_often vs w)) (how_often vs w)
-count_last [] v w = refl
-count_last (x ∷ vs) v w = ap (λ n. cond (same_value x w) (suc n) n) (count_last vs v w) ∙ go (same_value x w) (same_value v w) (how_often vs w)
-  where
-    go : (a b : Bool) (n : ℕ) → cond a (suc (cond b (suc n) n)) (cond b (suc n) n) ≡ cond b (suc (cond a (suc n) n)) (cond a (suc n) n)
-    go true true n = refl
-    go true false n = refl
-    go false true n = refl
-    go false false n = refl
-
 pushed_in : (v : ℤ) (k : Contents) → holding_of (with_values (λ values. values ++ v ∷ []) k) ≡ on_bag (add_one_of v) (holding_of k)
 pushed_in v (array elements) = refl
-pushed_in v (stream values) = ap bag (λ i w. count_last values v w i)
-
--- a value that stands at a position of a list stands in it
-pub waits : (vs : List ℤ) (k : ℕ) (v : ℤ) → slice_get vs k ≡ Some v → (n : ℕ) × (how_often vs v ≡ suc n)
-waits [] k v e = cc
-waits (y ∷ vs) zero v e = let h : y ≡ v = cc in (how_often vs v, ap (λ b. cond b (suc (how_often vs v)) (how_often vs v)) (ap (λ z. same_value z v) h ∙ same-refl v))
-waits (y ∷ vs) (suc k) v e = let r = waits vs k v e in up (same_value y v) r.0 r.1
-  where
-    up : (b : Bool) (n : ℕ) → how_often vs v ≡ suc n → (m : ℕ) × (cond b (suc (how_often vs v)) (how_often vs v) ≡ suc m)
-    up true n q = (suc n, ap suc q)
-    up false n q = (n, q)
-
-count_without : (k : ℕ) (vs : List ℤ) (v w : ℤ) → slice_get vs k ≡ Some v → how_often (without k vs) w ≡ cond (same_value v w) (pred (how_often vs w)) (how_often vs w)
-count_without k [] v w e = cc
-count_without zero (x ∷ vs) v w e =
-    let h : x ≡ v = cc in
-    subst (λ y. how_often vs w ≡ cond (same_value y w) (pred (cond (same_value x w) (suc (how_often vs w)) (how_often vs w))) (cond (same_value x w) (suc (how_often vs w)) (how_often vs w))) h
-    (go (same_value x w) (how_often vs w))
-  where
-    go : (a : Bool) (n : ℕ) → n ≡ cond a (pred (cond a (suc n) n)) (cond a (suc n) n)
-    go true n = refl
-    go false n = refl
-count_without (suc k) (x ∷ vs) v w e = ap (λ n. cond (same_value x w) (suc n) n) (count_without k vs v w e) ∙ go (same_value x w) (same_value v w) refl
-  where
-    go : (a b : Bool) → same_value v w ≡ b → cond a (suc (cond b (pred (how_often vs w)) (how_often vs w))) (cond b (pred (how_often vs w)) (how_often vs w)) ≡ cond b (pred (cond a (suc (how_often vs w)) (how_often vs w))) (cond a (suc (how_often vs w)) (how_often vs w))
-    go true true t = let r = waits vs k w (e ∙ ap Some (same-true v w t)) in ap (λ n. suc (pred n)) r.1 ∙ sym r.1
-    go true false t = refl
-    go false true t = refl
-    go false false t = refl
+pushed_in v (stream values) = ap bag (λ i w. count-last values v w i)
 
 taken_from : (k : ℕ) (v : ℤ) (x : Contents) → slice_get (values_of x) k ≡ Some v → holding_of (with_values (without k) x) ≡ on_bag (drop_one_of v) (holding_of x)
 taken_from k v (array elements) e = cc
-taken_from k v (stream values) e = ap bag (λ i w. count_without k values v w e i)
-
-without_none : (k : ℕ) (vs : List ℤ) → slice_get vs k ≡ None → without k vs ≡ vs
-without_none k [] e = refl
-without_none zero (x ∷ vs) e = cc
-without_none (suc k) (x ∷ vs) e = ap (λ y. x ∷ y) (without_none k vs e)
+taken_from k v (stream values) e = ap bag (λ i w. count-taken k values v w e i)
 
 not_taken : (k : ℕ) (x : Contents) → slice_get (values_of x) k ≡ None → with_values (without k) x ≡ x
 not_taken k (array elements) e = refl
-not_taken k (stream values) e = ap stream (without_none k values e)
+not_taken k (stream values) e = ap stream (without-none k values e)
 
 -- the image of changed memories is the changed image
 pub image_change : (u : Change) (s : Memories) → stack_of (apply u s) ≡ updated (update_of u s) (stack_of s)

@@ -1,71 +1,19 @@
 -- What the moves of work keep: its order, what it touches at most, and that no later point takes from outside.
-use Rattle.std.proofs.Common.{◌≡◌, ℕ, zero, suc, ℤ, List, [], ◌∷◌, Option, Some, None, Result, Ok, Err, Bool, true, false, cond, not, refl, inl, inr, ◌⊎◌, slice_get}
-use Rattle.std.specs.Bool.{⊤}
+use Rattle.std.proofs.Common.{◌≡◌, ℕ, zero, suc, ℤ, List, [], ◌∷◌, Option, Some, None, Result, Ok, Err, not, refl, inl, inr, ◌⊎◌, slice_get}
 use Rattle.sd_num.specs.declared.resolution.Resolution.{Resolution}
 use Rattle.sd_work.specs.declared.fault.FaultKind.{FaultKind}
-use Rattle.sd_work.specs.Memory.{Memory, Memories, Reference, seen, waiting}
-use Rattle.sd_work.specs.Change.{own_after}
+use Rattle.sd_work.specs.Memory.{Memories, Reference, seen, waiting}
 use Rattle.sd_work.specs.Leaf.{Pending, write_value, transfer, push_to, Leaf, reading, doing}
-use Rattle.sd_work.specs.Move.{Fault, Move, fails, goes, no_move, map_move}
 use Rattle.sd_work.specs.LeafMove.{write_move, read_move, evaluation_move, leaf_move, do_move}
-use Rattle.sd_work.specs.Exit.{Values, Exit, first_exit}
+use Rattle.sd_work.specs.Exit.{first_exit}
 use Rattle.sd_work.specs.Residual.{Term, leaf, list, owning, nested, ended, pool, Terms, none, also, part_at, Actives, idle, busy, finished}
 use Rattle.sd_work.specs.Moves.{Path}
-use Rattle.sd_work.specs.Fire.{owned, transition, and_last, take_move, fire, fire_part, fire_active}
+use Rattle.sd_work.specs.Fire.{and_last, fire, fire_part, fire_active}
 use Rattle.sd_work.specs.Touch.{Touch, takes, inner, LeafTouches, Touches, SomePart, SomeActive}
 use Rattle.sd_work.specs.WellFormed.{IsOrdered, AreOrdered, AreActiveOrdered}
+use Rattle.sd_work.proofs.Leaving.{Leaves, leaves_any, leaves_map, leaves_so, leaves_both, leaves_owned, leaves_cond, leaves_transition, leaves_take}
 use Rattle.sd_confluence.specs.Safe.{TakesNothing}
 use Rattle.sd_confluence.proofs.Waits.{Waits, AllWait, ActiveWait}
-
--- what holds of what a move leaves
-abbrev pub Leaves : {P A : Type 0} → (A → Type 0) → Move P A → Type 0
-Leaves H (fails turn fault) = ⊤
-Leaves H (goes turn change left) = H left
-Leaves H no_move = ⊤
-
-pub leaves_map : {P A B : Type 0} (f : A → B) (G : A → Type 0) (H : B → Type 0) → ((x : A) → G x → H (f x)) → (m : Move P A) → Leaves G m → Leaves H (map_move f m)
-leaves_map f G H h (fails turn fault) g = tt
-leaves_map f G H h (goes turn change left) g = h left g
-leaves_map f G H h no_move g = tt
-
-leaves_so : {P A : Type 0} (G H : A → Type 0) → ((x : A) → G x → H x) → (m : Move P A) → Leaves G m → Leaves H m
-leaves_so G H h (fails turn fault) g = tt
-leaves_so G H h (goes turn change left) g = h left g
-leaves_so G H h no_move g = tt
-
-leaves_both : {P A : Type 0} (G H : A → Type 0) (m : Move P A) → Leaves G m → Leaves H m → Leaves (λ x. G x × H x) m
-leaves_both G H (fails turn fault) g h = tt
-leaves_both G H (goes turn change left) g h = (g, h)
-leaves_both G H no_move g h = tt
-
-pub leaves_owned : {P : Type 0} (whole : Memory → Term P → Term P) (own : Memory) (G H : Term P → Type 0) → ((memory : Memory) (x : Term P) → G x → H (whole memory x)) →
-    (m : Move P (Term P)) → Leaves G m → Leaves H (owned whole own m)
-leaves_owned whole own G H h (fails turn fault) g = tt
-leaves_owned whole own G H h (goes turn change left) g = h (own_after change own) left g
-leaves_owned whole own G H h no_move g = tt
-
-leaves_cond : {P A : Type 0} (H : A → Type 0) (b : Bool) (m n : Move P A) → Leaves H m → Leaves H n → Leaves H (cond b m n)
-leaves_cond H true m n g h = g
-leaves_cond H false m n g h = h
-
--- a transition leaves an ended run, or the run with the body of a state
-pub leaves_transition : {P : Type 0} (body : ℕ → Values → Term P) (exits : ℕ → Values → List (Exit P)) (own : Memory) (H : Term P → Type 0) → H (ended own) →
-    ((k : ℕ) (e : Values) → H (nested body exits own k e (body k e))) → (r : Result (Option (Exit P)) (Fault P)) → Leaves H (transition body exits own r)
-leaves_transition body exits own H a h (Err fault) = tt
-leaves_transition body exits own H a h (Ok None) = a
-leaves_transition body exits own H a h (Ok (Some exit)) = h exit.state exit.values
-
--- a take leaves the pool with one more active term
-pub leaves_take : {P : Type 0} (level container : ℕ) (body : ℤ → Term P) (active : Actives P) (closed : Bool) (k : ℕ) (H : Term P → Type 0) →
-    ((v : ℤ) → H (pool level container body (and_last active v (body v)) closed)) → (o : Option ℤ) → Leaves H (take_move level container body active closed k o)
-leaves_take level container body active closed k H h None = tt
-leaves_take level container body active closed k H h (Some v) = h v
-
--- any leaf that is left
-pub leaves_leaf : {P : Type 0} (place : P) (H : Term P → Type 0) → ((w : Leaf) → H (leaf place w)) → (m : Move P Leaf) → Leaves H (map_move (leaf place) m)
-leaves_leaf place H h (fails turn fault) = tt
-leaves_leaf place H h (goes turn change left) = h left
-leaves_leaf place H h no_move = tt
 
 ordered_last : {P : Type 0} (active : Actives P) (v : ℤ) (t : Term P) → AreActiveOrdered active → IsOrdered t → AreActiveOrdered (and_last active v t)
 ordered_last idle v t a o = (o, tt)
@@ -74,18 +22,18 @@ ordered_last (busy w u us) v t a o = (a.0, ordered_last us v t a.1 o)
 mutual
   -- each list keeps an order
   pub ordered-kept : {P : Type 0} (t : Term P) (p : Path) (s : Memories) → IsOrdered t → Leaves IsOrdered (fire t p s)
-  ordered-kept (leaf place work) p s o = leaves_leaf place IsOrdered (λ w. tt) (leaf_move place work s)
+  ordered-kept (leaf place work) p s o = leaves_any (leaf place) IsOrdered (λ w. tt) (leaf_move place work s)
   ordered-kept (list kind before parts) [] s o = tt
   ordered-kept (list kind before parts) (k ∷ p) s o = leaves_map (list kind before) AreOrdered IsOrdered (λ x g. (o.0, g)) (fire_part parts k p s) (ordered_part parts k p s o.1)
-  ordered-kept (owning own part) p s o = leaves_owned owning own IsOrdered IsOrdered (λ f x g. g) (fire part p (own ∷ s)) (ordered-kept part p (own ∷ s) o)
+  ordered-kept (owning own part) p s o = leaves_owned IsOrdered IsOrdered owning own (λ f x g. g) (fire part p (own ∷ s)) (ordered-kept part p (own ∷ s) o)
   ordered-kept (nested body exits own state values part) p s o =
-      leaves_cond IsOrdered (finished part) _ _ (leaves_transition body exits own IsOrdered tt (λ k e. (o.1 k e, o.1)) (first_exit (exits state values) (own ∷ s)))
-      (leaves_owned (λ f x. nested body exits f state values x) own IsOrdered IsOrdered (λ f x g. (g, o.1)) (fire part p (own ∷ s)) (ordered-kept part p (own ∷ s) o.0))
+      leaves_cond IsOrdered (finished part) _ _ (leaves_transition IsOrdered body exits own tt (λ k e. (o.1 k e, o.1)) (first_exit (exits state values) (own ∷ s)))
+      (leaves_owned IsOrdered IsOrdered (λ f x. nested body exits f state values x) own (λ f x g. (g, o.1)) (fire part p (own ∷ s)) (ordered-kept part p (own ∷ s) o.0))
   ordered-kept (ended own) p s o = tt
   ordered-kept (pool level container body active closed) [] s o = tt
   ordered-kept (pool level container body active closed) (zero ∷ []) s o = tt
   ordered-kept (pool level container body active closed) (zero ∷ k ∷ p) s o =
-      leaves_take level container body active closed k IsOrdered (λ v. (ordered_last active v (body v) o.0 (o.1 v), o.1)) (slice_get (waiting level container s) k)
+      leaves_take IsOrdered level container body active closed (λ v. (ordered_last active v (body v) o.0 (o.1 v), o.1)) k (slice_get (waiting level container s) k)
   ordered-kept (pool level container body active closed) (suc n ∷ []) s o = tt
   ordered-kept (pool level container body active closed) (suc n ∷ k ∷ p) s o =
       leaves_map (λ x. pool level container body x closed) AreActiveOrdered IsOrdered (λ x g. (g, o.1)) (fire_active active k p s) (ordered_active active k p s o.0)
@@ -107,7 +55,7 @@ TouchesAtMost t x = (a : Touch) → Touches x a → Touches t a
 abbrev AtMostParts : {P : Type 0} → Terms P → Terms P → Type 0
 AtMostParts ts us = (k : ℕ) (a : Touch) → Touches (part_at us k) a → Touches (part_at ts k) a
 
-abbrev AtMostActive : {P : Type 0} → Actives P → Actives P → Type 0
+abbrev pub AtMostActive : {P : Type 0} → Actives P → Actives P → Type 0
 AtMostActive ts us = (a : Touch) → SomeActive us a → SomeActive ts a
 
 abbrev AtMostLeaf : Leaf → Leaf → Type 0
@@ -147,7 +95,8 @@ part_of_some : {P : Type 0} (us : Terms P) (a : Touch) (C : Type 0) → ((k : �
 part_of_some none a C f h = elim h [ ]
 part_of_some (also t us) a C f h = elim h [ inl x ↦ f 0 x | inr x ↦ part_of_some us a C (λ k. f (suc k)) x ]
 
-less_last : {P : Type 0} (active : Actives P) (v : ℤ) (t : Term P) (a : Touch) → SomeActive (and_last active v t) a → SomeActive active a ⊎ Touches t a
+-- one more active term adds only its own touches
+pub less_last : {P : Type 0} (active : Actives P) (v : ℤ) (t : Term P) (a : Touch) → SomeActive (and_last active v t) a → SomeActive active a ⊎ Touches t a
 less_last idle v t a h = elim h [ inl x ↦ inr x | inr x ↦ inl x ]
 less_last (busy w u us) v t a h = elim h [ inl x ↦ inl (inl x) | inr x ↦ elim (less_last us v t a x) [ inl y ↦ inl (inr y) | inr y ↦ inr y ] ]
 
@@ -167,19 +116,18 @@ mutual
   touches-kept (list kind before parts) (k ∷ p) s =
       leaves_map (list kind before) (AtMostParts parts) (TouchesAtMost (list kind before parts)) (λ x g a h. part_of_some x a (SomePart parts a) (λ k y. some_part parts k a (g k a y)) h)
       (fire_part parts k p s) (parts_kept parts k p s)
-  touches-kept (owning own part) p s = leaves_owned owning own (TouchesAtMost part) (TouchesAtMost (owning own part)) (λ f x g a h. g (inner a) h) (fire part p (own ∷ s)) (touches-kept part p (own ∷ s))
+  touches-kept (owning own part) p s = leaves_owned (TouchesAtMost part) (TouchesAtMost (owning own part)) owning own (λ f x g a h. g (inner a) h) (fire part p (own ∷ s)) (touches-kept part p (own ∷ s))
   touches-kept {P} (nested body exits own state values part) p s =
       leaves_cond (TouchesAtMost (nested body exits own state values part)) (finished part) _ _
-      (leaves_transition body exits own (TouchesAtMost (nested body exits own state values part)) (λ a h. elim h [ ])
+      (leaves_transition (TouchesAtMost (nested body exits own state values part)) body exits own (λ a h. elim h [ ])
       (λ k e a h. elim h [ inl x ↦ inr (inl (k, e, x)) | inr x ↦ inr x ]) (first_exit (exits state values) (own ∷ s)))
-      (leaves_owned (λ f x. nested body exits f state values x) own (TouchesAtMost part) (TouchesAtMost (nested body exits own state values part))
+      (leaves_owned (TouchesAtMost part) (TouchesAtMost (nested body exits own state values part)) (λ f x. nested body exits f state values x) own
       (λ f x g a h. elim h [ inl y ↦ inl (g (inner a) y) | inr y ↦ inr y ]) (fire part p (own ∷ s)) (touches-kept part p (own ∷ s)))
   touches-kept (ended own) p s = tt
   touches-kept (pool level container body active closed) [] s = tt
   touches-kept (pool level container body active closed) (zero ∷ []) s = tt
   touches-kept (pool level container body active closed) (zero ∷ k ∷ p) s =
-      leaves_take level container body active closed k (TouchesAtMost (pool level container body active closed))
-      (λ v a h. elim h [ inl e ↦ inl e | inr y ↦ elim y [ inl x ↦ elim (less_last active v (body v) a x) [ inl z ↦ inr (inl z) | inr z ↦ inr (inr (v, z)) ] | inr x ↦ inr (inr x) ] ])
+      leaves_take (TouchesAtMost (pool level container body active closed)) level container body active closed (λ v a h. elim h [ inl e ↦ inl e | inr y ↦ elim y [ inl x ↦ elim (less_last active v (body v) a x) [ inl z ↦ inr (inl z) | inr z ↦ inr (inr (v, z)) ] | inr x ↦ inr (inr x) ] ]) k
       (slice_get (waiting level container s) k)
   touches-kept (pool level container body active closed) (suc n ∷ []) s = tt
   touches-kept (pool level container body active closed) (suc n ∷ k ∷ p) s =
@@ -209,21 +157,21 @@ waits_last (busy x u us) v t a w = (a.0, waits_last us v t a.1 w)
 mutual
   -- in each list of points that a move leaves no later point takes from a stream outside of it
   pub waits-kept : {P : Type 0} (t : Term P) (p : Path) (s : Memories) → Waits t → Leaves Waits (fire t p s)
-  waits-kept (leaf place work) p s w = leaves_leaf place Waits (λ x. tt) (leaf_move place work s)
+  waits-kept (leaf place work) p s w = leaves_any (leaf place) Waits (λ x. tt) (leaf_move place work s)
   waits-kept (list kind before parts) [] s w = tt
   waits-kept (list kind before parts) (k ∷ p) s w =
       leaves_map (list kind before) (λ x. AllWait x × AtMostParts parts x) Waits
       (λ x g. (g.0, λ e i j a b l c h. w.1 e i j a b l c (g.1 j (takes l c) h)))
       (fire_part parts k p s) (leaves_both AllWait (AtMostParts parts) (fire_part parts k p s) (waits_part parts k p s w.0) (parts_kept parts k p s))
-  waits-kept (owning own part) p s w = leaves_owned owning own Waits Waits (λ f x g. g) (fire part p (own ∷ s)) (waits-kept part p (own ∷ s) w)
+  waits-kept (owning own part) p s w = leaves_owned Waits Waits owning own (λ f x g. g) (fire part p (own ∷ s)) (waits-kept part p (own ∷ s) w)
   waits-kept (nested body exits own state values part) p s w =
-      leaves_cond Waits (finished part) _ _ (leaves_transition body exits own Waits tt (λ k e. (w.1 k e, w.1)) (first_exit (exits state values) (own ∷ s)))
-      (leaves_owned (λ f x. nested body exits f state values x) own Waits Waits (λ f x g. (g, w.1)) (fire part p (own ∷ s)) (waits-kept part p (own ∷ s) w.0))
+      leaves_cond Waits (finished part) _ _ (leaves_transition Waits body exits own tt (λ k e. (w.1 k e, w.1)) (first_exit (exits state values) (own ∷ s)))
+      (leaves_owned Waits Waits (λ f x. nested body exits f state values x) own (λ f x g. (g, w.1)) (fire part p (own ∷ s)) (waits-kept part p (own ∷ s) w.0))
   waits-kept (ended own) p s w = tt
   waits-kept (pool level container body active closed) [] s w = tt
   waits-kept (pool level container body active closed) (zero ∷ []) s w = tt
   waits-kept (pool level container body active closed) (zero ∷ k ∷ p) s w =
-      leaves_take level container body active closed k Waits (λ v. (waits_last active v (body v) w.0 (w.1 v), w.1)) (slice_get (waiting level container s) k)
+      leaves_take Waits level container body active closed (λ v. (waits_last active v (body v) w.0 (w.1 v), w.1)) k (slice_get (waiting level container s) k)
   waits-kept (pool level container body active closed) (suc n ∷ []) s w = tt
   waits-kept (pool level container body active closed) (suc n ∷ k ∷ p) s w =
       leaves_map (λ x. pool level container body x closed) ActiveWait Waits (λ x g. (g, w.1)) (fire_active active k p s) (waits_active active k p s w.0)

@@ -27,7 +27,7 @@ pub mod ClosedKept
 pub mod Listed
 pub mod SettleKept
 pub mod Nearer
-pub mod Comes
+pub mod Reaching
 pub mod Confluent
 pub mod AlikeImages
 pub mod Interleavings

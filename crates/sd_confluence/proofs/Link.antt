@@ -1,13 +1,10 @@
 -- What moves of a term are of its image.
-use Rattle.std.proofs.Common.{◌≡◌, ℕ, zero, suc, List, [], ◌∷◌, Option, Some, None, Result, Ok, Err, ℤ, Bool, true, false, cond, ◌&&◌, not, slice_get, refl, sym, ◌∙◌, ap, subst}
-use Rattle.std.specs.Bool.{⊤}
-use Rattle.sd_num.specs.declared.resolution.Resolution.{Resolution}
-use Rattle.sd_work.specs.declared.fault.FaultKind.{FaultKind}
-use Rattle.sd_work.specs.Memory.{Memory, Memories, Reference, seen, waiting}
+use Rattle.std.proofs.Common.{◌≡◌, ℕ, zero, suc, List, [], ◌∷◌, Option, Some, None, Result, Ok, Err, ℤ, Bool, true, false, cond, ◌&&◌, slice_get, refl, sym, ◌∙◌, ap, subst}
+use Rattle.sd_work.specs.Memory.{Memory, Memories, waiting}
 use Rattle.sd_work.specs.Change.{nothing, write, push, take, outer, own_after}
-use Rattle.sd_work.specs.Leaf.{Pending, write_value, transfer, push_to, Leaf, reading, doing}
+use Rattle.sd_work.specs.Leaf.{Leaf}
 use Rattle.sd_work.specs.Move.{Fault, Move, fails, goes, no_move, map_move}
-use Rattle.sd_work.specs.LeafMove.{write_move, read_move, evaluation_move, leaf_move}
+use Rattle.sd_work.specs.LeafMove.{leaf_move}
 use Rattle.sd_work.specs.Exit.{Values, Exit, first_exit}
 use Rattle.sd_work.specs.Residual.{Term, leaf, list, owning, nested, ended, pool, Terms, none, also, Actives, idle, busy, finished, all_finished, flags_of}
 use Rattle.sd_work.specs.Moves.{Path}
@@ -18,6 +15,7 @@ use Rattle.sd_confluence.proofs.BagMemory.{Frame, plain}
 use Rattle.sd_confluence.proofs.Works.{Work, thread, group, scope, nest, basin, Works, and_work, is_over, all_over, overs, taking, acting, Route, Answer, stops, makes, no_answer, map_answer, leaf_answer, follow, owned_answer, at_last, put_active, act, act_at}
 use Rattle.sd_confluence.proofs.Images.{frame_of, stack_of, remove_found, update_of, work_of, works_of, active_of, value_at, number_at, named, route_of, route_at, route_in}
 use Rattle.sd_confluence.proofs.ImageChanges.{outside_is, own_is, first_exit-plain, leaf_move-plain}
+use Rattle.sd_confluence.proofs.TakesTouched.{TakesWithin, within_leaf}
 
 -- ---- answers
 
@@ -41,32 +39,7 @@ matches_owned make made e own s (goes b u x) n q =
     ∙ ap (makes b (update_of (outer u) s)) (sym (e (own_after u own) x))
 matches_owned make made e own s no_move n q = ap (owned_answer made (frame_of own)) q
 
-abbrev TakesNot : {P : Type 0} → Move P Leaf → Type 0
-TakesNot (goes turn (take l c k) left) = ⊥
-TakesNot m = ⊤
-
-write_takes_not : {P : Type 0} (place : P) (o : Option ℤ) (to : Option Reference) (by : Option Resolution) (left : List Pending) → TakesNot (write_move place o to by left)
-write_takes_not place None to by left = tt
-write_takes_not place (Some v) None by left = tt
-write_takes_not place (Some v) (Some to) by left = tt
-
-leaf_takes_not : {P : Type 0} (place : P) (w : Leaf) (s : Memories) → TakesNot (leaf_move place w s)
-leaf_takes_not {P} place (reading begun [] values evaluation) s = go (evaluation values)
-  where
-    go : (r : Result (List Pending) FaultKind) → TakesNot {P = P} (evaluation_move place (not begun) r)
-    go (Ok es) = tt
-    go (Err f) = tt
-leaf_takes_not {P} place (reading begun (r ∷ rs) values evaluation) s = go (seen r s)
-  where
-    go : (o : Option ℤ) → TakesNot {P = P} (read_move place (not begun) o rs values evaluation)
-    go None = tt
-    go (Some v) = tt
-leaf_takes_not place (doing []) s = tt
-leaf_takes_not place (doing (write_value v to by ∷ es)) s = write_takes_not place (Some v) to by es
-leaf_takes_not place (doing (transfer from to by ∷ es)) s = write_takes_not place (seen from s) to by es
-leaf_takes_not place (doing (push_to l c v ∷ es)) s = tt
-
-matches_thread : {P : Type 0} (place : P) (s : Memories) (m : Move P Leaf) → TakesNot m → Matches work_of s (map_move (leaf place) m) (map_answer (thread place) (leaf_answer m))
+matches_thread : {P : Type 0} (place : P) (s : Memories) (m : Move P Leaf) → TakesWithin (λ a. ⊥) m → Matches work_of s (map_move (leaf place) m) (map_answer (thread place) (leaf_answer m))
 matches_thread place s (fails b z) h = refl
 matches_thread place s (goes b nothing w) h = refl
 matches_thread place s (goes b (write to by v) w) h = refl
@@ -136,7 +109,8 @@ ActMatches active v s (fails b z) n = n ≡ stops b z
 ActMatches active v s (goes b u xs) n = (n ≡ makes b (update_of u s) (active_of xs v)) × ((w : ℤ) → same_value v w ≡ false → active_of xs w ≡ active_of active w)
 ActMatches active v s no_move n = n ≡ no_answer
 
-same_put : {P : Type 0} (active xs : Actives P) (v : ℤ) → ((w : ℤ) → same_value v w ≡ false → active_of xs w ≡ active_of active w) → active_of xs ≡ put_active v (active_of xs v) (active_of active)
+-- where only the works of one value differ, these are put
+pub same_put : {P : Type 0} (active xs : Actives P) (v : ℤ) → ((w : ℤ) → same_value v w ≡ false → active_of xs w ≡ active_of active w) → active_of xs ≡ put_active v (active_of xs v) (active_of active)
 same_put active xs v h = λ i w. go w (same_value v w) refl i
   where
     go : (w : ℤ) (b : Bool) → same_value v w ≡ b → active_of xs w ≡ cond b (active_of xs v) (active_of active w)
@@ -199,7 +173,7 @@ mutual
   pub linked : {P : Type 0} (t : Term P) (p : Path) (s : Memories) → Matches work_of s (fire t p s) (act (work_of t) (route_of t p s) (stack_of s))
   linked (leaf place work) p s =
       subst (λ m. Matches work_of s (map_move (leaf place) (leaf_move place work s)) (map_answer (thread place) (leaf_answer m))) (sym (leaf_move-plain place work s))
-      (matches_thread place s (leaf_move place work s) (leaf_takes_not place work s))
+      (matches_thread place s (leaf_move place work s) (within_leaf place (λ a. ⊥) work s))
   linked (list kind before parts) [] s = refl
   linked (list kind before parts) (k ∷ p) s =
       matches_map works_of work_of (list kind before) (group before) (λ x. refl) s (fire_part parts k p s) (act_at (works_of parts) k (route_at parts k p s) (stack_of s)) (linked_at parts k p s)

@@ -1,37 +1,12 @@
 -- The list of next moves holds exactly the places that are next.
-use Rattle.std.proofs.Common.{◌≡◌, ℕ, zero, suc, ◌+◌, List, [], ◌∷◌, ◌++◌, Some, ℤ, Bool, true, false, cond, not, refl, sym, ◌∙◌, ap, subst, arith, slice_index_or, slice_get}
+use Rattle.std.proofs.Common.{◌≡◌, ℕ, zero, suc, ◌+◌, List, [], ◌∷◌, ◌++◌, Some, ℤ, Bool, true, false, cond, not, refl, sym, ◌∙◌, ap, subst, arith, slice_get}
 use Rattle.std.specs.Bool.{⊤}
 use Rattle.sd_work.specs.Memory.{Memories, waiting}
 use Rattle.sd_work.specs.Leaf.{is_done}
 use Rattle.sd_work.specs.Residual.{Term, leaf, list, owning, nested, ended, pool, Terms, none, also, Actives, idle, busy, finished, flags_of, is_ready}
 use Rattle.sd_work.specs.Moves.{Path, here_if, moves_in, takes_from, moves, moves_of_parts, moves_of_active}
+use Rattle.sd_work.proofs.Paths.{AllOf, all_more, all_append, all_in, all_if}
 use Rattle.sd_confluence.proofs.Images.{IsNext, IsNextAt, IsNextIn, IsNextHere}
-
--- what holds of each path of a list
-abbrev pub AllOf : (Path → Type 0) → List Path → Type 0
-AllOf T [] = ⊤
-AllOf T (p ∷ ps) = T p × AllOf T ps
-
-all_more : (T U : Path → Type 0) → ((p : Path) → T p → U p) → (ps : List Path) → AllOf T ps → AllOf U ps
-all_more T U h [] a = tt
-all_more T U h (p ∷ ps) a = (h p a.0, all_more T U h ps a.1)
-
-all_append : (T : Path → Type 0) (ps qs : List Path) → AllOf T ps → AllOf T qs → AllOf T (ps ++ qs)
-all_append T [] qs a b = b
-all_append T (p ∷ ps) qs a b = (a.0, all_append T ps qs a.1 b)
-
-all_in : (T : Path → Type 0) (k : ℕ) (ps : List Path) → AllOf (λ p. T (k ∷ p)) ps → AllOf T (moves_in k ps)
-all_in T k [] a = tt
-all_in T k (p ∷ ps) a = (a.0, all_in T k ps a.1)
-
-all_if : (T : Path → Type 0) (b : Bool) (ps : List Path) → (b ≡ true → AllOf T ps) → AllOf T (cond b ps [])
-all_if T true ps a = a refl
-all_if T false ps a = tt
-
-pub all-at : (T : Path → Type 0) (d : Path) (k : ℕ) (ps : List Path) → T d → AllOf T ps → T (slice_index_or ps k d)
-all-at T d k [] h a = h
-all-at T d zero (p ∷ ps) h a = a.0
-all-at T d (suc k) (p ∷ ps) h a = all-at T d k ps h a.1
 
 -- a place in the parts from number k on
 abbrev NextFrom : {P : Type 0} → (ℕ → ℕ → Bool) → List Bool → ℕ → Terms P → Memories → Path → Type 0

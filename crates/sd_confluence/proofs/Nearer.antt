@@ -6,9 +6,9 @@ use Rattle.sd_work.specs.Residual.{Term}
 use Rattle.sd_work.specs.Moves.{Path}
 use Rattle.sd_work.specs.Fire.{fire}
 use Rattle.sd_work.specs.Settle.{settled}
-use Rattle.sd_work.specs.Step.{Machine, Done, moved}
+use Rattle.sd_work.specs.Step.{Done}
 use Rattle.sd_work.specs.WellFormed.{IsOrdered}
-use Rattle.sd_work.proofs.Leads.{Pays}
+use Rattle.sd_work.proofs.Leaving.{Leaves}
 use Rattle.sd_confluence.specs.Safe.{TakesNothing, MayInterleave}
 use Rattle.sd_confluence.proofs.BagMemory.{keep}
 use Rattle.sd_confluence.proofs.Works.{Route}
@@ -23,13 +23,10 @@ use Rattle.sd_confluence.proofs.Closings.{close, Closings, closing_route, closin
 use Rattle.sd_confluence.proofs.SettleRow.{settles}
 use Rattle.sd_confluence.proofs.SettleKept.{ordered-settled, waits-settled, takes-nothing-settled}
 use Rattle.sd_confluence.proofs.Progress.{Settled, settled-by}
-use Rattle.sd_confluence.proofs.Kept.{Leaves, ordered-kept, waits-kept, takes-nothing-kept}
+use Rattle.sd_confluence.proofs.Kept.{ordered-kept, waits-kept, takes-nothing-kept}
 
 abbrev pub engine : {P : Type 0} → Term P → ℕ → Engine P
 engine t n = record { work = work_of t; turns = n }
-
-abbrev pub machine : {P : Type 0} → Term P → ℕ → Machine P
-machine t n = record { term = t; turns = n }
 
 -- what all moves keep, and settling too
 pub record Sound {P : Type 0} (t : Term P) : Type 0 where
@@ -100,8 +97,3 @@ sound-left t p b u x h c q =
       idle = subst (Leaves ClosedAreIdle) q (closed-kept t p [] c h.idle);
       whole = subst (Leaves TakesNothing) q (takes-nothing-kept t p [] h.whole);
     }
-
--- the official step of a move whose turn is there
-pub stepped-on : {P : Type 0} (t : Term P) (n m : ℕ) (b : Bool) (u : Change) (x : Term P) → Pays b n m → moved (machine t n) (goes b u x) ≡ Done (machine (settled x) m)
-stepped-on t n m true u x e = ap (λ k. moved (machine t k) (goes true u x)) e
-stepped-on t n m false u x e = ap (λ k. moved (machine t k) (goes false u x)) e

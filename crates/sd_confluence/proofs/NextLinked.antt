@@ -3,12 +3,12 @@ use Rattle.std.proofs.Common.{◌≡◌, ℕ, zero, suc, [], ◌∷◌, Option, 
 use Rattle.sd_work.specs.Memory.{array, stream, Memory, Memories, values_of, waiting}
 use Rattle.sd_work.specs.Residual.{Term, leaf, list, owning, nested, ended, pool, Terms, none, also, Actives, idle, busy, finished, all_finished, none_active, is_ready}
 use Rattle.sd_work.specs.Moves.{Path}
+use Rattle.sd_work.proofs.Flags.{both, and_false}
 use Rattle.sd_confluence.specs.Alike.{same_value, how_often}
-use Rattle.sd_confluence.proofs.Values.{same-refl}
+use Rattle.sd_confluence.proofs.Values.{same-refl, waits}
 use Rattle.sd_confluence.proofs.BagMemory.{cells, nth, count_in, Stack, held}
 use Rattle.sd_confluence.proofs.Works.{Work, basin, Works, and_work, is_over, all_over, taking, acting, Route, Can, CanAt, CanHere}
 use Rattle.sd_confluence.proofs.Images.{frame_of, stack_of, work_of, works_of, active_of, value_at, number_at, named, route_of, route_at, route_in, IsNext, IsNextAt, IsNextIn, IsNextHere}
-use Rattle.sd_confluence.proofs.ImageChanges.{waits}
 use Rattle.sd_confluence.proofs.Link.{finished_is, flags_is}
 
 held_in : (c : ℕ) (v : ℤ) (m : Memory) → count_in (nth (cells []) c (frame_of m)) v ≡ how_often (values_of (slice_index_or m c (stream []))) v
@@ -28,10 +28,6 @@ pub busy_done : {P : Type 0} (active : Actives P) → none_active active ≡ tru
 busy_done idle e w = refl
 busy_done (busy v t ts) e w = let h = both (finished t) (none_active ts) e in go (same_value v w) h.0 (busy_done ts h.1 w)
   where
-    both : (a b : Bool) → (a && b) ≡ true → (a ≡ true) × (b ≡ true)
-    both true b e = (refl, e)
-    both false b e = cc
-
     go : (b : Bool) → finished t ≡ true → all_over (active_of ts w) ≡ true → all_over (cond b (and_work (work_of t) (active_of ts w)) (active_of ts w)) ≡ true
     go true h r = λ i. (sym (finished_is t) ∙ h) i && r i
     go false h r = r
@@ -55,11 +51,7 @@ mutual
   next-unfinished_at : {P : Type 0} (ts : Terms P) (k : ℕ) (p : Path) (s : Memories) → IsNextAt ts k p s → all_finished ts ≡ false
   next-unfinished_at none k p s c = elim c [ ]
   next-unfinished_at (also t ts) zero p s c = ap (λ b. b && all_finished ts) (next-unfinished t p s c)
-  next-unfinished_at (also t ts) (suc k) p s c = go (finished t) (next-unfinished_at ts k p s c)
-    where
-      go : (b : Bool) → all_finished ts ≡ false → (b && all_finished ts) ≡ false
-      go true e = e
-      go false e = refl
+  next-unfinished_at (also t ts) (suc k) p s c = and_false (finished t) (all_finished ts) (next-unfinished_at ts k p s c)
 
 can_here_is : (b c : Bool) → b ≡ c → (p : Path) (q : Route) (C D : Type 0) → (C → D) → IsNextHere b p C → CanHere c (cond b [] q) D
 can_here_is true true e p q C D f h = refl
@@ -67,9 +59,10 @@ can_here_is true false e p q C D f h = cc
 can_here_is false true e p q C D f h = cc
 can_here_is false false e p q C D f h = f h
 
-can_in_put : {P : Type 0} (b : Bool) (us : Works P) (t : Work P) (i : ℕ) (p : Route) (s : Stack) → CanAt us i p s → CanAt (cond b (and_work t us) us) (cond b (suc i) i) p s
-can_in_put true us t i p s c = c
-can_in_put false us t i p s c = c
+-- a move of a work is one of a list in which it may have one more before it
+pub can_put : {P : Type 0} (b : Bool) (us : Works P) (t : Work P) (i : ℕ) (p : Route) (s : Stack) → CanAt us i p s → CanAt (cond b (and_work t us) us) (cond b (suc i) i) p s
+can_put true us t i p s c = c
+can_put false us t i p s c = c
 
 -- the active term at k
 somebody : {P : Type 0} (ts : Actives P) (k : ℕ) (p : Path) (s : Memories) → IsNextIn ts k p s → (v : ℤ) × (value_at ts k ≡ Some v)
@@ -77,10 +70,11 @@ somebody idle k p s c = elim c [ ]
 somebody (busy v t ts) zero p s c = (v, refl)
 somebody (busy v t ts) (suc k) p s c = somebody ts k p s c
 
-acting_can : {P : Type 0} (l c : ℕ) (body : ℤ → Work P) (active : Actives P) (closed : Bool) (o : Option ℤ) (i : ℤ → ℕ) (q : Route) (s : Stack) (v : ℤ) → o ≡ Some v → closed ≡ false → CanAt (active_of active v) (i v) q s →
-    Can (basin l c body (active_of active) closed) (named o (λ w. acting w (i w) ∷ q)) s
+-- where an active work of a value can move, so can its pool
+pub acting_can : {P : Type 0} (l c : ℕ) (body : ℤ → Work P) (active : ℤ → Works P) (closed : Bool) (o : Option ℤ) (i : ℤ → ℕ) (q : Route) (s : Stack) (v : ℤ) → o ≡ Some v → closed ≡ false → CanAt (active v) (i v) q s →
+    Can (basin l c body active closed) (named o (λ w. acting w (i w) ∷ q)) s
 acting_can l c body active closed None i q s v e f a = cc
-acting_can l c body active closed (Some w) i q s v e f a = let h : v ≡ w = cc in (f, subst (λ x. CanAt (active_of active x) (i x) q s) h a)
+acting_can l c body active closed (Some w) i q s v e f a = let h : v ≡ w = cc in (f, subst (λ x. CanAt (active x) (i x) q s) h a)
 
 taking_can : {P : Type 0} (l c : ℕ) (body : ℤ → Work P) (active : Actives P) (closed : Bool) (s : Memories) (o : Option ℤ) (v : ℤ) → o ≡ Some v → closed ≡ false → (n : ℕ) → held l c v (stack_of s) ≡ suc n →
     Can (basin l c body (active_of active) closed) (named o (λ w. taking w ∷ [])) (stack_of s)
@@ -106,7 +100,7 @@ mutual
   can_linked (pool l c body active closed) (suc zero ∷ []) s d = elim d [ ]
   can_linked (pool l c body active closed) (suc zero ∷ k ∷ p) s d =
       let h = somebody active k p s d.1 in
-      acting_can l c (λ v. work_of (body v)) active closed (value_at active k) (λ v. number_at active v k) (route_in active k p s) (stack_of s) h.0 h.1 d.0 (can_linked_in active k p s h.0 h.1 d.1)
+      acting_can l c (λ v. work_of (body v)) (active_of active) closed (value_at active k) (λ v. number_at active v k) (route_in active k p s) (stack_of s) h.0 h.1 d.0 (can_linked_in active k p s h.0 h.1 d.1)
   can_linked (pool l c body active closed) (suc (suc j) ∷ p) s d = elim d [ ]
 
   -- the same of the part k
@@ -121,4 +115,4 @@ mutual
   can_linked_in (busy x t ts) zero p s v e c =
       let h : x ≡ v = cc in
       subst (λ b. CanAt (cond b (and_work (work_of t) (active_of ts v)) (active_of ts v)) 0 (route_of t p s) (stack_of s)) (sym (ap (λ z. same_value z v) h ∙ same-refl v)) (can_linked t p s c)
-  can_linked_in (busy x t ts) (suc k) p s v e c = can_in_put (same_value x v) (active_of ts v) (work_of t) (number_at ts v k) (route_in ts k p s) (stack_of s) (can_linked_in ts k p s v e c)
+  can_linked_in (busy x t ts) (suc k) p s v e c = can_put (same_value x v) (active_of ts v) (work_of t) (number_at ts v k) (route_in ts k p s) (stack_of s) (can_linked_in ts k p s v e c)

@@ -1,8 +1,10 @@
 -- What is next: a move that is next has work that is not over, and parts that may both go on are compatible.
-use Rattle.std.proofs.Common.{◌≡◌, ℕ, zero, suc, ◌<◌, List, [], ◌∷◌, Bool, true, false, not, ◌||◌, ◌&&◌, refl, sym, ◌∙◌, ap, subst, arith, inl, inr, ◌⊎◌, ◌+◌}
+use Rattle.std.proofs.Common.{◌≡◌, ℕ, zero, suc, ◌<◌, [], ◌∷◌, Bool, true, false, not, ◌||◌, ◌&&◌, refl, sym, ◌∙◌, ap, subst, arith, inl, inr, ◌⊎◌, ◌+◌}
 use Rattle.std.specs.Bool.{⊤}
 use Rattle.sd_work.specs.Residual.{ready_from}
 use Rattle.sd_work.specs.Touch.{Touch, AreCompatible}
+use Rattle.sd_work.proofs.Flags.{both, or_other, and_false, not_true}
+use Rattle.sd_work.proofs.Absorbing.{Below, below_same}
 use Rattle.sd_confluence.proofs.BagMemory.{Frame, Stack, Update, updated, outer_update, own_update}
 use Rattle.sd_confluence.proofs.Works.{Work, thread, group, scope, nest, over, basin, Works, no_works, and_work, is_over, all_over, overs, Route, part_number, taking, acting, closing, Answer, stops, makes, no_answer, owned_answer, act, act_at, Can, CanAt, CanHere}
 use Rattle.sd_confluence.proofs.WorkTouches.{IsUnseen, work_at, AllCompatible}
@@ -15,14 +17,6 @@ pub gives_any : {P A : Type 0} (m : Answer P A) → Gives (λ b u x. ⊤) m
 gives_any (stops turn f) = tt
 gives_any (makes turn u x) = tt
 gives_any no_answer = tt
-
-and_false : (a b : Bool) → b ≡ false → (a && b) ≡ false
-and_false true b e = e
-and_false false b e = refl
-
-false_and : (a b : Bool) → a ≡ false → (a && b) ≡ false
-false_and true b e = cc
-false_and false b e = refl
 
 mutual
   -- work with a next move is not over
@@ -45,51 +39,17 @@ mutual
   -- the same of parts
   pub can_unfinished_at : {P : Type 0} (ts : Works P) (k : ℕ) (p : Route) (s : Stack) → CanAt ts k p s → all_over ts ≡ false
   can_unfinished_at no_works k p s c = elim c [ ]
-  can_unfinished_at (and_work t ts) zero p s c = false_and (is_over t) (all_over ts) (can_unfinished t p s c)
+  can_unfinished_at (and_work t ts) zero p s c = ap (λ b. b && all_over ts) (can_unfinished t p s c)
   can_unfinished_at (and_work t ts) (suc k) p s c = and_false (is_over t) (all_over ts) (can_unfinished_at ts k p s c)
 
--- each flag that was up is up
-abbrev pub Rises : List Bool → List Bool → Type 0
-Rises [] [] = ⊤
-Rises [] (c ∷ cs) = ⊥
-Rises (b ∷ bs) [] = ⊥
-Rises (b ∷ bs) (c ∷ cs) = (b ≡ true → c ≡ true) × Rises bs cs
-
-rises_refl : (bs : List Bool) → Rises bs bs
-rises_refl [] = tt
-rises_refl (b ∷ bs) = (λ e. e, rises_refl bs)
-
--- both of two tests hold
-pub both : (a b : Bool) → (a && b) ≡ true → (a ≡ true) × (b ≡ true)
-both true b e = (refl, e)
-both false b e = cc
-
-join : (a b : Bool) → a ≡ true → b ≡ true → (a && b) ≡ true
-join true b e f = f
-join false b e f = cc
-
-or_up : (a b c : Bool) → (a ≡ true → b ≡ true) → (a || c) ≡ true → (b || c) ≡ true
-or_up true b c h e = ap (λ x. x || c) (h refl)
-or_up false true c h e = refl
-or_up false false c h e = e
-
--- a part that may go on still may where more parts are over
-pub ready_rises : (before : ℕ → ℕ → Bool) (j : ℕ) (bs cs : List Bool) (k : ℕ) → Rises bs cs → ready_from before j bs k ≡ true → ready_from before j cs k ≡ true
-ready_rises before j [] [] k r e = e
-ready_rises before j [] (c ∷ cs) k r e = elim r [ ]
-ready_rises before j (b ∷ bs) [] k r e = elim r [ ]
-ready_rises before j (b ∷ bs) (c ∷ cs) k r e =
-    let p = both (b || not (before j k)) (ready_from before (suc j) bs k) e in
-    join (c || not (before j k)) (ready_from before (suc j) cs k) (or_up b c (not (before j k)) r.0 p.0) (ready_rises before (suc j) bs cs k r.1 p.1)
-
 -- after a move of a part each part that was over is over
-pub flags_rise : {P : Type 0} (ts : Works P) (k : ℕ) (p : Route) (s : Stack) → CanAt ts k p s → Gives (λ b u us. Rises (overs ts) (overs us)) (act_at ts k p s)
+pub flags_rise : {P : Type 0} (ts : Works P) (k : ℕ) (p : Route) (s : Stack) → CanAt ts k p s → Gives (λ b u us. Below (overs ts) (overs us)) (act_at ts k p s)
 flags_rise no_works k p s c = tt
 flags_rise (and_work t ts) zero p s c =
-    gives_map (λ x. and_work x ts) (λ b u t'. ⊤) (λ b u us. Rises (overs (and_work t ts)) (overs us))
-    (λ b u t' h. (λ e. let no : true ≡ false = sym e ∙ can_unfinished t p s c in cc, rises_refl (overs ts))) (act t p s) (gives_any (act t p s))
+    gives_map (λ x. and_work x ts) (λ b u t'. ⊤) (λ b u us. Below (overs (and_work t ts)) (overs us))
+    (λ b u t' h. (λ e. let no : true ≡ false = sym e ∙ can_unfinished t p s c in cc, below_same (overs ts))) (act t p s) (gives_any (act t p s))
 flags_rise (and_work t ts) (suc k) p s c =
-    gives_map (λ x. and_work t x) (λ b u us. Rises (overs ts) (overs us)) (λ b u us. Rises (overs (and_work t ts)) (overs us))
+    gives_map (λ x. and_work t x) (λ b u us. Below (overs ts) (overs us)) (λ b u us. Below (overs (and_work t ts)) (overs us))
     (λ b u us h. (λ e. e, h)) (act_at ts k p s) (flags_rise ts k p s c)
 
 -- where work is not over, its part's moves are the next ones
@@ -131,15 +91,10 @@ can_part no_works k p s c = elim c [ ]
 can_part (and_work t ts) zero p s c = can_unfinished t p s c
 can_part (and_work t ts) (suc k) p s c = can_part ts k p s c
 
-not_true : (a b : Bool) → (a || not b) ≡ true → a ≡ false → b ≡ false
-not_true true b e f = cc
-not_true false true e f = cc
-not_true false false e f = refl
-
 finished_flag : {P : Type 0} (before : ℕ → ℕ → Bool) (ts : Works P) (j i k : ℕ) → ready_from before j (overs ts) k ≡ true → is_over (work_at ts i) ≡ false → before (i + j) k ≡ false
 finished_flag before no_works j i k e f = cc
 finished_flag before (and_work t ts) j zero k e f =
-    let g : before j k ≡ false = not_true (is_over t) (before j k) (both (is_over t || not (before j k)) (ready_from before (suc j) (overs ts) k) e).0 f in
+    let g : before j k ≡ false = not_true (before j k) (or_other (is_over t) (not (before j k)) (both (is_over t || not (before j k)) (ready_from before (suc j) (overs ts) k) e).0 f) in
     let same : j ≡ 0 + j = omega arith in
     subst (λ m. before m k ≡ false) same g
 finished_flag before (and_work t ts) j (suc i) k e f =
@@ -159,9 +114,6 @@ pub clear : {P : Type 0} (before : ℕ → ℕ → Bool) (parts : Works P) (k : 
     Can (group before parts) (part_number k ∷ p) s → Can (group before parts) (part_number l ∷ q) s → (k ≡ l → ⊥) → AllCompatible (work_at parts k) (work_at parts l)
 clear before parts k p l q s h c d n = go (order k l n)
   where
-    zero_right : (m : ℕ) → m + 0 ≡ m
-    zero_right m = omega arith
-
     go : (k < l) ⊎ (l < k) → AllCompatible (work_at parts k) (work_at parts l)
-    go (inl lt) = h k l lt (ap (λ m. before m l) (sym (zero_right k)) ∙ finished_flag before parts 0 k l d.0 (can_part parts k p s c.1))
-    go (inr gt) = λ a b ta tb. apart_sym b a (h l k gt (ap (λ m. before m k) (sym (zero_right l)) ∙ finished_flag before parts 0 l k c.0 (can_part parts l q s d.1)) b a tb ta)
+    go (inl lt) = let same : k ≡ k + 0 = omega arith in h k l lt (ap (λ m. before m l) same ∙ finished_flag before parts 0 k l d.0 (can_part parts k p s c.1))
+    go (inr gt) = let same : l ≡ l + 0 = omega arith in λ a b ta tb. apart_sym b a (h l k gt (ap (λ m. before m k) same ∙ finished_flag before parts 0 l k c.0 (can_part parts l q s d.1)) b a tb ta)

@@ -1,11 +1,13 @@
 -- A settled term has a move wherever its image has one, and settling leaves a settled term.
-use Rattle.std.proofs.Common.{◌≡◌, ℕ, zero, suc, pred, ◌+◌, ◌<◌, List, [], ◌∷◌, ◌++◌, map, length, Some, ℤ, Bool, true, false, cond, not, ◌&&◌, ◌||◌, refl, sym, ◌∙◌, ap, subst, arith, inl, inr, slice_get, slice_index_or}
+use Rattle.std.proofs.Common.{◌≡◌, ℕ, zero, suc, ◌+◌, ◌<◌, List, [], ◌∷◌, ◌++◌, map, length, Some, ℤ, Bool, true, false, cond, not, ◌&&◌, ◌||◌, refl, sym, ◌∙◌, ap, subst, arith, inl, inr, slice_get, slice_index_or}
 use Rattle.std.specs.Bool.{⊤}
 use Rattle.sd_work.specs.Memory.{Memories, waiting}
 use Rattle.sd_work.specs.Residual.{Parts, Points, Term, leaf, list, owning, nested, ended, pool, Terms, none, also, part_at, Actives, idle, busy, finished, none_active, flags_of, is_ready, ready_from}
 use Rattle.sd_work.specs.Moves.{Path}
 use Rattle.sd_work.specs.Settle.{is_empty, is_first_left, settle, settle_parts, settle_active}
 use Rattle.sd_work.specs.Touch.{takes, SomePart, SomeActive}
+use Rattle.sd_work.proofs.Flags.{both}
+use Rattle.sd_work.proofs.Fronts.{longer}
 use Rattle.sd_confluence.specs.Alike.{same_value, how_often}
 use Rattle.sd_confluence.specs.Safe.{TakesNothing}
 use Rattle.sd_confluence.proofs.Values.{same-refl}
@@ -44,10 +46,6 @@ count_none (x ∷ vs) h =
 first_value : (vs : List ℤ) (v : ℤ) (n : ℕ) → how_often vs v ≡ suc n → (w : ℤ) × (slice_get vs 0 ≡ Some w)
 first_value [] v n e = cc
 first_value (x ∷ vs) v n e = (x, refl)
-
-both : (a b : Bool) → (a && b) ≡ true → (a ≡ true) × (b ≡ true)
-both true b e = (refl, e)
-both false b e = cc
 
 all_done : {P : Type 0} (active : Actives P) → ((w : ℤ) → all_over (active_of active w) ≡ true) → none_active active ≡ true
 all_done idle h = refl
@@ -123,11 +121,6 @@ ready_front before j (b ∷ bs) cs k e =
     let h = both (b || not (before j k)) (ready_from before (suc j) (bs ++ cs) k) e in
     let r = ready_front before (suc j) bs cs k h.1 in λ i. h.0 i && r i
 
-length_last : (bs : List Bool) (b : Bool) (k : ℕ) → length bs ≡ k → length (bs ++ b ∷ []) ≡ suc k
-length_last [] b k e = ap suc e
-length_last (c ∷ bs) b zero e = cc
-length_last (c ∷ bs) b (suc k) e = ap suc (length_last bs b k (ap pred e))
-
 regroup : (bs : List Bool) (b : Bool) (cs : List Bool) → bs ++ b ∷ cs ≡ (bs ++ b ∷ []) ++ cs
 regroup [] b cs = refl
 regroup (c ∷ bs) b cs = ap (λ ds. c ∷ ds) (regroup bs b cs)
@@ -180,7 +173,7 @@ mutual
         (λ r.
             let r' : is_ready before bs k ≡ true = ready_front before 0 bs (finished x ∷ flags_of (settle_parts true cleared s kind before (bs ++ finished x ∷ []) (suc k) ts)) k (subst (λ cs. is_ready before cs k ≡ true) e r) in
             subst (λ b. Settled (settle b (map (λ flag. is_first_left kind bs && flag) cleared) s t) s) (sym r') (here r')),
-        settled_from cleared s kind before all (bs ++ finished x ∷ []) (suc k) ts (length_last bs (finished x) k n)
+        settled_from cleared s kind before all (bs ++ finished x ∷ []) (suc k) ts (longer bs (finished x) ∙ ap suc n)
             (e ∙ regroup bs (finished x) (flags_of (settle_parts true cleared s kind before (bs ++ finished x ∷ []) (suc k) ts))) w.1
             (λ p i j a b. o p i (suc j) (omega (arith, a)) (ap (before i) (plus_suc k j) ∙ b)) (λ l d h. c l d (inr h)),
       )

@@ -4,8 +4,8 @@ use Rattle.sd_work.specs.Residual.{Term, leaf, list, owning, nested, ended, pool
 use Rattle.sd_work.specs.Touch.{Touch, inner, Touches, SomePart, SomeActive}
 use Rattle.sd_confluence.specs.Alike.{same_value}
 use Rattle.sd_confluence.specs.Safe.{PoolTouches, IsSafe, AreSafe, AreActiveSafe}
-use Rattle.sd_confluence.proofs.Works.{Work, Works, and_work}
-use Rattle.sd_confluence.proofs.WorkTouches.{WorkTouches, SomeWork, work_at, Safe, AllSafe}
+use Rattle.sd_confluence.proofs.Works.{and_work}
+use Rattle.sd_confluence.proofs.WorkTouches.{WorkTouches, SomeWork, work_at, Safe, AllSafe, safe_put}
 use Rattle.sd_confluence.proofs.Images.{work_of, works_of, active_of}
 
 mutual
@@ -45,10 +45,6 @@ pool_back : {P : Type 0} (body : ℤ → Term P) (active : Actives P) (a : Touch
 pool_back body active a (inl h) = inl (active_back active h.0 a h.1)
 pool_back body active a (inr h) = inr (h.0, touches-back (body h.0) a h.1)
 
-safe_if : {P : Type 0} (b : Bool) (t : Work P) (ts : Works P) → Safe t → AllSafe ts → AllSafe (cond b (and_work t ts) ts)
-safe_if true t ts f g = (f, g)
-safe_if false t ts f g = g
-
 mutual
   pub safe-image : {P : Type 0} (t : Term P) → IsSafe t → Safe (work_of t)
   safe-image (leaf place work) f = tt
@@ -70,4 +66,4 @@ mutual
 
   safe_active : {P : Type 0} (ts : Actives P) (v : ℤ) → AreActiveSafe ts → AllSafe (active_of ts v)
   safe_active idle v f = tt
-  safe_active (busy w t ts) v f = safe_if (same_value w v) (work_of t) (active_of ts v) (safe-image t f.0) (safe_active ts v f.1)
+  safe_active (busy w t ts) v f = safe_put (same_value w v) (and_work (work_of t) (active_of ts v)) (active_of ts v) (safe-image t f.0, safe_active ts v f.1) (safe_active ts v f.1)

@@ -7,7 +7,9 @@ use Rattle.sd_work.specs.Touch.{takes, SomePart, SomeActive}
 use Rattle.sd_work.specs.Settle.{is_empty, is_first_left, settle, settle_parts, settle_active}
 use Rattle.sd_work.specs.WellFormed.{IsOrdered, AreOrdered, AreActiveOrdered}
 use Rattle.sd_work.proofs.Fronts.{◌⊕◌, count_of}
-use Rattle.sd_work.proofs.LeftmostLists.{ready_late, plus_assoc}
+use Rattle.sd_work.proofs.LeftmostLists.{ready_late, plus_assoc, count_more}
+use Rattle.sd_work.proofs.Flags.{both, both_true}
+use Rattle.sd_work.proofs.LeftmostPools.{◌⊞◌, count_active, join_assoc}
 use Rattle.sd_confluence.specs.Safe.{TakesNothing}
 use Rattle.sd_confluence.proofs.Waits.{Clear, PointsWait, Waits, AllWait, ActiveWait, clear_part, clear_inside}
 use Rattle.sd_confluence.proofs.ClosedPools.{ClosedAreIdle, AllClosedAreIdle, ActiveClosedAreIdle, settle-false, settle_active-finished}
@@ -34,14 +36,6 @@ close_plus : {P : Type 0} (pre : Terms P) (t : Term P) (ts : Terms P) (p : Path)
 close_plus none t ts p = refl
 close_plus (also u pre) t ts p = ap (also u) (close_plus pre t ts p)
 
-both_true : (a b : Bool) → a ≡ true → b ≡ true → (a && b) ≡ true
-both_true true b e f = f
-both_true false b e f = cc
-
-both : (a b : Bool) → (a && b) ≡ true → (a ≡ true) × (b ≡ true)
-both true b e = (refl, e)
-both false b e = cc
-
 ready_whole : {P : Type 0} (before : ℕ → ℕ → Bool) → IsOrder before → (j : ℕ) (pre ts : Terms P) (k : ℕ) → k ≡ j + count_of pre → ready_from before j (flags_of pre) k ≡ true → ready_from before j (flags_of (◌⊕◌ pre ts)) k ≡ true
 ready_whole before o j none ts k e r = ready_late before o j k (flags_of ts) (omega arith)
 ready_whole before o j (also t pre) ts k e r =
@@ -51,10 +45,6 @@ ready_whole before o j (also t pre) ts k e r =
 flags_one : {P : Type 0} (pre : Terms P) (t : Term P) → flags_of (◌⊕◌ pre (also t none)) ≡ flags_of pre ++ finished t ∷ []
 flags_one none t = refl
 flags_one (also u pre) t = ap (λ bs. finished u ∷ bs) (flags_one pre t)
-
-count_one : {P : Type 0} (pre : Terms P) (t : Term P) → count_of (◌⊕◌ pre (also t none)) ≡ suc (count_of pre)
-count_one none t = refl
-count_one (also u pre) t = ap suc (count_one pre t)
 
 length_flags : {P : Type 0} (pre : Terms P) → length (flags_of pre) ≡ count_of pre
 length_flags none = refl
@@ -68,32 +58,19 @@ part_closes kind before o pre ts s k t t' r a =
     (λ x p c. (ready_whole before o 0 pre (also x ts) (count_of pre) (omega arith) r, may_plus pre x ts p s c))
     (λ x p. ap (list kind before) (close_plus pre x ts p)) k t t' a
 
--- the active terms, and then others
-abbrev plus_active : {P : Type 0} → Actives P → Actives P → Actives P
-plus_active idle us = us
-plus_active (busy v t ts) us = busy v t (plus_active ts us)
-
-abbrev count_active : {P : Type 0} → Actives P → ℕ
-count_active idle = 0
-count_active (busy v t ts) = suc (count_active ts)
-
-may_active : {P : Type 0} (pre : Actives P) (v : ℤ) (t : Term P) (ts : Actives P) (p : Path) (s : Memories) → MayClose t p s → MayCloseActive (plus_active pre (busy v t ts)) (count_active pre) p s
+may_active : {P : Type 0} (pre : Actives P) (v : ℤ) (t : Term P) (ts : Actives P) (p : Path) (s : Memories) → MayClose t p s → MayCloseActive (◌⊞◌ pre (busy v t ts)) (count_active pre) p s
 may_active idle v t ts p s c = c
 may_active (busy w u pre) v t ts p s c = may_active pre v t ts p s c
 
-close_in : {P : Type 0} (pre : Actives P) (v : ℤ) (t : Term P) (ts : Actives P) (p : Path) → close_active (plus_active pre (busy v t ts)) (count_active pre) p ≡ plus_active pre (busy v (close t p) ts)
+close_in : {P : Type 0} (pre : Actives P) (v : ℤ) (t : Term P) (ts : Actives P) (p : Path) → close_active (◌⊞◌ pre (busy v t ts)) (count_active pre) p ≡ ◌⊞◌ pre (busy v (close t p) ts)
 close_in idle v t ts p = refl
 close_in (busy w u pre) v t ts p = ap (busy w u) (close_in pre v t ts p)
 
 active_closes : {P : Type 0} (l c : ℕ) (body : ℤ → Term P) (pre : Actives P) (v : ℤ) (ts : Actives P) (s : Memories) (k : ℕ) (t t' : Term P) → Closings k t t' s →
-    Closings k (pool l c body (plus_active pre (busy v t ts)) false) (pool l c body (plus_active pre (busy v t' ts)) false) s
+    Closings k (pool l c body (◌⊞◌ pre (busy v t ts)) false) (pool l c body (◌⊞◌ pre (busy v t' ts)) false) s
 active_closes l c body pre v ts s k t t' a =
-    inside (λ x. pool l c body (plus_active pre (busy v x ts)) false) s s (λ p. count_active pre ∷ p) (λ x p d. (refl, may_active pre v x ts p s d))
+    inside (λ x. pool l c body (◌⊞◌ pre (busy v x ts)) false) s s (λ p. count_active pre ∷ p) (λ x p d. (refl, may_active pre v x ts p s d))
     (λ x p. ap (λ us. pool l c body us false) (close_in pre v x ts p)) k t t' a
-
-active_one : {P : Type 0} (pre : Actives P) (v : ℤ) (t : Term P) (ts : Actives P) → plus_active (plus_active pre (busy v t idle)) ts ≡ plus_active pre (busy v t ts)
-active_one idle v t ts = refl
-active_one (busy w u pre) v t ts = ap (busy w u) (active_one pre v t ts)
 
 empty : (vs : List ℤ) → is_empty vs ≡ true → vs ≡ []
 empty [] h = refl
@@ -114,7 +91,7 @@ wait_all : {P : Type 0} (kind : Parts) (before : ℕ → ℕ → Bool) (ts : Ter
 wait_all kind before ts w q i j m e h b = let same : m ≡ j = omega (arith, e) in subst (λ x. TakesNothing (part_at ts x)) same (w q i m h b)
 
 wait_later : {P : Type 0} (kind : Parts) (before : ℕ → ℕ → Bool) (pre : Terms P) (x t : Term P) (ts : Terms P) → WaitAfter kind before (count_of pre) (also t ts) → WaitAfter kind before (count_of (◌⊕◌ pre (also x none))) ts
-wait_later kind before pre x t ts w q i j m e h b = w q i (suc j) m (omega (arith, e, count_one pre x)) h b
+wait_later kind before pre x t ts w q i j m e h b = w q i (suc j) m (omega (arith, e, count_more pre x)) h b
 
 -- one part, if it is its turn, and then the others
 module _ {P : Type 0} (kind : Parts) (before : ℕ → ℕ → Bool) (o : IsOrder before) (cleared : List Bool) (s : Memories) (pre : Terms P) (t : Term P) (ts : Terms P) where
@@ -136,7 +113,7 @@ module _ {P : Type 0} (kind : Parts) (before : ℕ → ℕ → Bool) (o : IsOrde
             subst (λ (y : Terms P). Closings g.0 (list kind before y) (list kind before (◌⊕◌ pre (also x (after x)))) s) (plus_assoc pre x ts)
                 (subst (λ (y : Terms P). Closings g.0 (list kind before (◌⊕◌ (◌⊕◌ pre (also x none)) ts)) (list kind before y) s)
                 (plus_assoc pre x (settle_parts true cleared s kind before (flags_of (◌⊕◌ pre (also x none))) (count_of (◌⊕◌ pre (also x none))) ts)
-                ∙ (λ i. ◌⊕◌ pre (also x (settle_parts true cleared s kind before (flags_one pre x i) (count_one pre x i) ts)))) g.1),
+                ∙ (λ i. ◌⊕◌ pre (also x (settle_parts true cleared s kind before (flags_one pre x i) (count_more pre x i) ts)))) g.1),
           )
 
       go : (b : Bool) → is_ready before (flags_of pre) (count_of pre) ≡ b →
@@ -183,14 +160,14 @@ mutual
 
   pub settles_active : {P : Type 0} (l d : ℕ) (body : ℤ → Term P) (pre ts : Actives P) (cleared : List Bool) (s : Memories) → AreActiveOrdered ts → ActiveWait ts → ActiveClosedAreIdle ts →
       ((m c : ℕ) → SomeActive ts (takes m c) → slice_index_or cleared m false ≡ true) →
-      (k : ℕ) × Closings k (pool l d body (plus_active pre ts) false) (pool l d body (plus_active pre (settle_active true cleared s ts)) false) s
+      (k : ℕ) × Closings k (pool l d body (◌⊞◌ pre ts) false) (pool l d body (◌⊞◌ pre (settle_active true cleared s ts)) false) s
   settles_active l d body pre idle cleared s o w z c = (0, refl)
   settles_active {P} l d body pre (busy v t ts) cleared s o w z c =
       let x : Term P = settle true cleared s t in
       let left : Actives P = settle_active true cleared s ts in
       let h = settles t cleared s o.0 w.0 z.0 (λ m e a. c m e (inl a)) in
-      let g = settles_active l d body (plus_active pre (busy v x idle)) ts cleared s o.1 w.1 z.1 (λ m e a. c m e (inr a)) in
-      let next : Closings g.0 (pool l d body (plus_active pre (busy v x ts)) false) (pool l d body (plus_active pre (busy v x left)) false) s =
-      subst (λ (y : Actives P). Closings g.0 (pool l d body y false) (pool l d body (plus_active pre (busy v x left)) false) s) (active_one pre v x ts)
-      (subst (λ (y : Actives P). Closings g.0 (pool l d body (plus_active (plus_active pre (busy v x idle)) ts) false) (pool l d body y false) s) (active_one pre v x left) g.1) in
-      closings_more h.0 g.0 (pool l d body (plus_active pre (busy v t ts)) false) (pool l d body (plus_active pre (busy v x ts)) false) _ s (active_closes l d body pre v ts s h.0 t x h.1) next
+      let g = settles_active l d body (◌⊞◌ pre (busy v x idle)) ts cleared s o.1 w.1 z.1 (λ m e a. c m e (inr a)) in
+      let next : Closings g.0 (pool l d body (◌⊞◌ pre (busy v x ts)) false) (pool l d body (◌⊞◌ pre (busy v x left)) false) s =
+      subst (λ (y : Actives P). Closings g.0 (pool l d body y false) (pool l d body (◌⊞◌ pre (busy v x left)) false) s) (join_assoc pre v x ts)
+      (subst (λ (y : Actives P). Closings g.0 (pool l d body (◌⊞◌ (◌⊞◌ pre (busy v x idle)) ts) false) (pool l d body y false) s) (join_assoc pre v x left) g.1) in
+      closings_more h.0 g.0 (pool l d body (◌⊞◌ pre (busy v t ts)) false) (pool l d body (◌⊞◌ pre (busy v x ts)) false) _ s (active_closes l d body pre v ts s h.0 t x h.1) next

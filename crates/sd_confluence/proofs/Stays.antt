@@ -5,15 +5,16 @@ use Rattle.sd_work.specs.LeafMove.{leaf_move}
 use Rattle.sd_work.specs.Move.{Fault}
 use Rattle.sd_work.specs.Exit.{Values, Exit, first_exit}
 use Rattle.sd_work.specs.Touch.{Touch, reads, writes, pushes, takes, AreCompatible}
+use Rattle.sd_work.proofs.Absorbing.{Below, ready_up}
 use Rattle.sd_confluence.specs.Alike.{same_value}
 use Rattle.sd_confluence.proofs.Values.{same-true, same-false}
 use Rattle.sd_confluence.proofs.BagMemory.{Frame, Stack, Update, keep, put, add, remove, updated, held, plain}
 use Rattle.sd_confluence.proofs.Works.{Work, thread, group, scope, nest, over, basin, Works, no_works, and_work, is_over, overs, part_number, taking, acting, closing, Route, leaf_answer, follow, owned_answer, at_last, put_active, act, act_at, Can, CanAt, CanHere}
-use Rattle.sd_confluence.proofs.WorkTouches.{IsUnseen, WorkTouches, SomeWork, AllCompatible, work_at, Safe, AllSafe}
+use Rattle.sd_confluence.proofs.WorkTouches.{IsUnseen, WorkTouches, SomeWork, AllCompatible, work_at, Safe, AllSafe, safe_put}
 use Rattle.sd_confluence.proofs.BagChanges.{held_kept, held_other, held_up}
 use Rattle.sd_confluence.proofs.Stable.{Covered, part_touches, can_kept, can_kept_at}
 use Rattle.sd_confluence.proofs.Within.{last_touches, put_touches, Gives, gives_map, gives_more, gives_cond, Within, WithinParts, within, within_at}
-use Rattle.sd_confluence.proofs.NextMoves.{gives_any, two, gives_owned, gives_moved, can_here, can_unfinished, can_unfinished_at, avoids_of, clear, flags_rise, ready_rises, Rises}
+use Rattle.sd_confluence.proofs.NextMoves.{gives_any, two, gives_owned, gives_moved, can_here, can_unfinished, can_unfinished_at, avoids_of, clear, flags_rise}
 
 -- what the body of a pool may touch
 abbrev pub Bodies : {P : Type 0} → (ℤ → Work P) → (ℤ → Works P) → Touch → Type 0
@@ -27,10 +28,6 @@ safe_follow body exits own (Ok (Some e)) h = (h e.state e.values, h)
 safe_last : {P : Type 0} (us : Works P) (t : Work P) → AllSafe us → Safe t → AllSafe (at_last us t)
 safe_last no_works t a s = (s, tt)
 safe_last (and_work u us) t a s = (a.0, safe_last us t a.1 s)
-
-safe_put : {P : Type 0} (b : Bool) (ts us : Works P) → AllSafe ts → AllSafe us → AllSafe (cond b ts us)
-safe_put true ts us a c = a
-safe_put false ts us a c = c
 
 taken_bodies : {P : Type 0} (v : ℤ) (body : ℤ → Work P) (active : ℤ → Works P) (a : Touch) → Bodies body (put_active v (at_last (active v) (body v)) active) a → Bodies body active a
 taken_bodies v body active a (inl x) =
@@ -202,9 +199,9 @@ mutual
   stays (group before parts) (part_number k ∷ p) (acting v l ∷ q) s h c d n = elim d [ ]
   stays (group before parts) (part_number k ∷ p) (closing ∷ q) s h c d n = elim d [ ]
   stays (group before parts) (part_number k ∷ p) (part_number l ∷ q) s h c d n =
-      gives_map (group before) (λ b u us. Rises (overs parts) (overs us) × CanAt us l q (updated u s)) (λ b u t'. Can t' (part_number l ∷ q) (updated u s))
-      (λ b u us g. (ready_rises before 0 (overs parts) (overs us) l g.0 d.0, g.1)) (act_at parts k p s)
-      (two (λ b u us. Rises (overs parts) (overs us)) (λ b u us. CanAt us l q (updated u s)) (act_at parts k p s) (flags_rise parts k p s c.1)
+      gives_map (group before) (λ b u us. Below (overs parts) (overs us) × CanAt us l q (updated u s)) (λ b u t'. Can t' (part_number l ∷ q) (updated u s))
+      (λ b u us g. (ready_up before 0 (overs parts) (overs us) l g.0 d.0, g.1)) (act_at parts k p s)
+      (two (λ b u us. Below (overs parts) (overs us)) (λ b u us. CanAt us l q (updated u s)) (act_at parts k p s) (flags_rise parts k p s c.1)
       (stays_at parts k p l q s h.0 c.1 d.1 (λ e e'. n (λ i. part_number (e i) ∷ e' i)) (clear before parts k p l q s h.1 c d)))
   stays (scope own inside) p q s h c d n =
       gives_moved scope own q s (λ f t s' x. x) (act inside p (own ∷ s)) (stays inside p q (own ∷ s) h c d n)

@@ -6,37 +6,9 @@ use Rattle.sd_num.specs.Wrapped.{wrapped}
 use Rattle.sd_work.specs.Memory.{Contents, array, stream, Memory, values_of, waiting}
 use Rattle.sd_work.specs.Change.{Change, nothing, write, push, take, changed_at, without, with_values, apply, own_after}
 use Rattle.sd_work.proofs.Changes.{waiting-apply, apply-own}
-use Rattle.sd_confluence.specs.Alike.{same_value, how_often}
+use Rattle.sd_confluence.specs.Alike.{how_often}
 use Rattle.sd_confluence.specs.Event.{Event, pushed, taken, pushed_if, taken_if, event_of, values_pushed, values_taken}
-
--- a value stands in a list and a second one after it as often as in both
-pub count-append : (xs ys : List ℤ) (v : ℤ) → how_often (xs ++ ys) v ≡ how_often xs v + how_often ys v
-count-append [] ys v = omega arith
-count-append (x ∷ xs) ys v = ap (λ n. cond (same_value x v) (suc n) n) (count-append xs ys v) ∙ go (same_value x v) (how_often xs v) (how_often ys v)
-  where
-    go : (b : Bool) (m n : ℕ) → cond b (suc (m + n)) (m + n) ≡ cond b (suc m) m + n
-    go true m n = omega arith
-    go false m n = refl
-
--- a list without the value at a position, and this value
-pub count-without : (k : ℕ) (xs : List ℤ) (w v : ℤ) → slice_get xs k ≡ Some w → how_often (without k xs) v + how_often (w ∷ []) v ≡ how_often xs v
-count-without k [] w v e = cc
-count-without zero (x ∷ xs) w v e = let h : w ≡ x = cc in go (same_value w v) ∙ ap (λ y. how_often (y ∷ xs) v) h
-  where
-    go : (b : Bool) → how_often xs v + cond b 1 0 ≡ cond b (suc (how_often xs v)) (how_often xs v)
-    go true = omega arith
-    go false = omega arith
-count-without (suc k) (x ∷ xs) w v e = go (same_value x v) (how_often (without k xs) v) (how_often (w ∷ []) v) (how_often xs v) (count-without k xs w v e)
-  where
-    go : (b : Bool) (m n r : ℕ) → m + n ≡ r → cond b (suc m) m + n ≡ cond b (suc r) r
-    go true m n r h = omega (arith, h)
-    go false m n r h = h
-
--- without the value at a position where none stands
-pub without-none : (k : ℕ) (xs : List ℤ) → slice_get xs k ≡ None → without k xs ≡ xs
-without-none k [] e = refl
-without-none zero (x ∷ xs) e = cc
-without-none (suc k) (x ∷ xs) e = ap (λ ys. x ∷ ys) (without-none k xs e)
+use Rattle.sd_confluence.proofs.Values.{count-append, count-without, without-none}
 
 -- ---- events
 

@@ -57,7 +57,7 @@ changes_cond H true m n g h = g
 changes_cond H false m n g h = h
 
 -- a move takes from no streams but these
-abbrev TakesWithin : {P A : Type 0} → (Touch → Type 0) → Move P A → Type 0
+abbrev pub TakesWithin : {P A : Type 0} → (Touch → Type 0) → Move P A → Type 0
 TakesWithin {P} {A} T m = Changes (λ u x. TakesOf u T) m
 
 within_map : {P A B : Type 0} (f : A → B) (T U : Touch → Type 0) → ((a : Touch) → T a → U a) → (m : Move P A) → TakesWithin T m → TakesWithin U (map_move f m)
@@ -83,7 +83,7 @@ within_write place T (Some v) None by left = tt
 within_write place T (Some v) (Some to) by left = tt
 
 -- a leaf takes from no stream
-within_leaf : {P : Type 0} (place : P) (T : Touch → Type 0) (work : Leaf) (s : Memories) → TakesWithin T (leaf_move place work s)
+pub within_leaf : {P : Type 0} (place : P) (T : Touch → Type 0) (work : Leaf) (s : Memories) → TakesWithin T (leaf_move place work s)
 within_leaf {P} place T (reading begun [] values evaluation) s = go (evaluation values)
   where
     go : (r : Result (List Pending) FaultKind) → TakesWithin T (evaluation_move place (not begun) r)

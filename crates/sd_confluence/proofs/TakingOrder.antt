@@ -14,7 +14,7 @@ use Rattle.sd_confluence.proofs.Images.{work_of, active_of}
 use Rattle.sd_confluence.proofs.SafeImage.{safe-image}
 use Rattle.sd_confluence.proofs.AlikeImages.{alike-frame, left-alike}
 use Rattle.sd_confluence.proofs.Nearer.{engine, sound-of}
-use Rattle.sd_confluence.proofs.Comes.{left_of, Comes, comes-run, run-comes}
+use Rattle.sd_confluence.proofs.Reaching.{left_of, Reaches, reaches-run, run-reaches}
 use Rattle.sd_confluence.proofs.Confluent.{confluent}
 use Rattle.sd_confluence.proofs.Counting.{NoTake, Counted, counts, values_in, same-values}
 
@@ -50,7 +50,7 @@ pub taking-order : {P : Type 0} (own other : Memory) (container : ℕ) (body : �
     MayInterleave (pool_over own container body) → AreAlike own other → DoneWith (pool_over own container body) turns picks left happened →
     (end : Left) × (also : List Event) × DoneWith (pool_over other container body) turns others end also × LeaveAlike left end × AreEventsAlike happened also
 taking-order {P} own other container body turns picks others left happened may same done =
-    (left_of y, es2, (c.0, comes-run c.0 others (opening B turns) y c.2, refl), subst (λ w. LeaveAlike w (left_of y)) (sym r.2) (left-alike x y (sym c.3)), alike)
+    (left_of y, es2, (c.0, reaches-run c.0 others (opening B turns) y c.2, refl), subst (λ w. LeaveAlike w (left_of y)) (sym r.2) (left-alike x y (sym c.3)), alike)
   where
     A : Term P
     A = pool_over own container body
@@ -58,8 +58,8 @@ taking-order {P} own other container body turns picks others left happened may s
     B : Term P
     B = pool_over other container body
 
-    r : (e : Machine P) × Comes done.0 picks (opening A turns) e × (left ≡ left_of e)
-    r = run-comes done.0 picks (opening A turns) left done.1
+    r : (e : Machine P) × Reaches done.0 picks (opening A turns) e × (left ≡ left_of e)
+    r = run-reaches done.0 picks (opening A turns) left done.1
 
     x : Machine P
     x = r.0
@@ -67,7 +67,7 @@ taking-order {P} own other container body turns picks others left happened may s
     mayB : MayInterleave B
     mayB = record { ordered = may.ordered; safe = may.safe; whole = may.whole }
 
-    c : (j : ℕ) × (y : Machine P) × Comes j others (opening B turns) y × (engine y.term y.turns ≡ engine x.term x.turns)
+    c : (j : ℕ) × (y : Machine P) × Reaches j others (opening B turns) y × (engine y.term y.turns ≡ engine x.term x.turns)
     c = confluent A B (ap (λ f. scope f (work_of (pool 0 container body idle false))) (alike-frame own other same)) (sound-of A may) (sound-of B mayB) (safe-image A may.safe) turns done.0 picks x r.1 others
 
     y : Machine P
@@ -121,8 +121,8 @@ none-lost {P} own container body turns picks left happened may done st value =
     (sym (ap (λ (m : Machine P). memory_of m.term) first.4) ∙ sym (ap (λ (l : Left). l.memory) r.2))
     (subst (λ es. how_often (waiting 0 st (first.0 ∷ [])) value + how_often (values_taken st es) value ≡ how_often (waiting 0 st (own ∷ [])) value + how_often (values_pushed st es) value) done.2 (first.5 st value))
   where
-    r : (e : Machine P) × Comes done.0 picks (opening (pool_over own container body) turns) e × (left ≡ left_of e)
-    r = run-comes done.0 picks (opening (pool_over own container body) turns) left done.1
+    r : (e : Machine P) × Reaches done.0 picks (opening (pool_over own container body) turns) e × (left ≡ left_of e)
+    r = run-reaches done.0 picks (opening (pool_over own container body) turns) left done.1
 
     first : Counted own container body idle (events done.0 picks (opening (pool_over own container body) turns)) r.0
     first = counts done.0 picks own container body idle _ turns r.0 (no_take body idle may.safe.2) r.1

@@ -5,6 +5,8 @@ use Rattle.sd_work.specs.Exit.{Values}
 use Rattle.sd_work.specs.Residual.{Parts, Items, Points, Term, leaf, list, owning, nested, ended, pool, Terms, none, also, part_at, Actives, idle, busy, ready_from, is_ready}
 use Rattle.sd_work.specs.Touch.{takes, inner, Touches}
 use Rattle.sd_work.specs.Settle.{all_true, is_first_left}
+use Rattle.sd_work.proofs.Absorbing.{flag_joined}
+use Rattle.sd_work.proofs.Flags.{both, not_true}
 use Rattle.sd_confluence.specs.Safe.{TakesNothing, IsSafe, AreSafe, AreActiveSafe}
 
 -- the streams that this term takes from are cleared
@@ -51,22 +53,11 @@ mutual
   active-wait-safe idle h = tt
   active-wait-safe (busy v t ts) h = (waits-safe t h.0, active-wait-safe ts h.1)
 
--- one flag of a list in which all were joined with another flag
-flag_joined : (b : Bool) (cleared : List Bool) (l : ℕ) → slice_index_or (map (λ flag. b && flag) cleared) l false ≡ (b && slice_index_or cleared l false)
-flag_joined true [] l = refl
-flag_joined false [] l = refl
-flag_joined b (c ∷ cleared) zero = refl
-flag_joined b (c ∷ cleared) (suc l) = flag_joined b cleared l
-
 -- an unfinished part for which a ready one does not wait
 unfinished : (before : ℕ → ℕ → Bool) (j k : ℕ) (bs : List Bool) → all_true bs ≡ false → ready_from before j bs k ≡ true → (i : ℕ) × (i < j + length bs) × (before i k ≡ false)
 unfinished before j k [] e r = cc
 unfinished before j k (true ∷ bs) e r = let h = unfinished before (suc j) k bs e r in (h.0, omega (arith, h.1), h.2)
-unfinished before j k (false ∷ bs) e r = (j, omega arith, go (before j k) (ready_from before (suc j) bs k) r)
-  where
-    go : (b c : Bool) → (not b && c) ≡ true → b ≡ false
-    go true c h = cc
-    go false c h = refl
+unfinished before j k (false ∷ bs) e r = (j, omega arith, not_true (before j k) (both (not (before j k)) (ready_from before (suc j) bs k) r).0)
 
 -- a ready part of a list has its streams cleared as the list has, for either all earlier points are finished or it takes nothing
 pub clear_part : {P : Type 0} (kind : Parts) (before : ℕ → ℕ → Bool) (bs : List Bool) (k : ℕ) (t : Term P) (cleared : List Bool) → length bs ≡ k → is_ready before bs k ≡ true →

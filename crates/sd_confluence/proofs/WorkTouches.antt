@@ -1,5 +1,5 @@
 -- What work with bags may still touch, and safe work.
-use Rattle.std.proofs.Common.{◌≡◌, ℕ, zero, suc, ◌<◌, ℤ, false, ◌⊎◌, []}
+use Rattle.std.proofs.Common.{◌≡◌, ℕ, zero, suc, ◌<◌, ℤ, false, ◌⊎◌, [], Bool, true, cond}
 use Rattle.std.specs.Bool.{⊤}
 use Rattle.sd_work.specs.Exit.{Values}
 use Rattle.sd_work.specs.Touch.{Touch, reads, writes, pushes, takes, AreCompatible, inner, LeafTouches, SomeExit}
@@ -51,3 +51,8 @@ abbrev mutual
   pub AllSafe : {P : Type 0} → Works P → Type 0
   AllSafe no_works = ⊤
   AllSafe (and_work t ts) = Safe t × AllSafe ts
+
+-- either of two works is safe
+pub safe_put : {P : Type 0} (b : Bool) (ts us : Works P) → AllSafe ts → AllSafe us → AllSafe (cond b ts us)
+safe_put true ts us a c = a
+safe_put false ts us a c = c

@@ -5,21 +5,7 @@ use Rattle.sd_work.specs.Memory.{Memory, Memories, waiting}
 use Rattle.sd_work.specs.Residual.{Parts, Items, Points, Term, leaf, list, owning, nested, ended, pool, Terms, none, also, Actives, idle, busy, finished, all_finished, none_active, is_ready, ready_from}
 use Rattle.sd_work.specs.Settle.{is_empty, all_true, is_first_left, settle, settle_parts, settle_active}
 use Rattle.sd_work.specs.Touch.{takes, Touches, SomePart, SomeActive}
-
--- two flags that stand together stand
-pub both_parts : (a b : Bool) → (a && b) ≡ true → (a ≡ true) × (b ≡ true)
-both_parts true b e = (refl, e)
-both_parts false b e = cc
-
--- two flags that stand do so together
-pub both_true : (a b : Bool) → a ≡ true → b ≡ true → (a && b) ≡ true
-both_true true b e f = f
-both_true false b e f = cc
-
--- of two flags one is enough
-pub or_left : (a b : Bool) → a ≡ true → (a || b) ≡ true
-or_left true b e = refl
-or_left false b e = cc
+use Rattle.sd_work.proofs.Flags.{both, both_true, or_left, and_up, or_up}
 
 -- ---- what is finished stays so
 
@@ -38,7 +24,7 @@ mutual
       all_finished (settle_parts go cl s kind before fs n parts) ≡ true
   stay go cl s kind before fs n none h = h
   stay go cl s kind before fs n (also part parts) h =
-      let e = both_parts (finished part) (all_finished parts) h in
+      let e = both (finished part) (all_finished parts) h in
       both_true _ _ (stays (go && is_ready before fs n) (map (λ flag. is_first_left kind fs && flag) cl) s part e.0)
       (stay go cl s kind before (fs ++ finished (settle (go && is_ready before fs n) (map (λ flag. is_first_left kind fs && flag) cl) s part) ∷ []) (suc n) parts e.1)
 
@@ -46,7 +32,7 @@ mutual
 pub stay_active : {P : Type 0} (go : Bool) (cl : List Bool) (s : Memories) (active : Actives P) → none_active active ≡ true → none_active (settle_active go cl s active) ≡ true
 stay_active go cl s idle h = h
 stay_active go cl s (busy value part active) h =
-    let e = both_parts (finished part) (none_active active) h in
+    let e = both (finished part) (none_active active) h in
     both_true _ _ (stays go cl s part e.0) (stay_active go cl s active e.1)
 
 -- ---- flags that only rise
@@ -70,15 +56,8 @@ below_more [] (y ∷ vs) a b h g = elim h [ ]
 below_more (x ∷ us) [] a b h g = elim h [ ]
 below_more (x ∷ us) (y ∷ vs) a b h g = (h.0, below_more us vs a b h.1 g)
 
-and_up : (a b c d : Bool) → (a ≡ true → c ≡ true) → (b ≡ true → d ≡ true) → (a && b) ≡ true → (c && d) ≡ true
-and_up a b c d f g h = let e = both_parts a b h in both_true c d (f e.0) (g e.1)
-
-or_up : (a b c : Bool) → (a ≡ true → b ≡ true) → (a || c) ≡ true → (b || c) ≡ true
-or_up true b c f h = or_left b c (f refl)
-or_up false true c f h = refl
-or_up false false c f h = h
-
-ready_up : (before : ℕ → ℕ → Bool) (j : ℕ) (us vs : List Bool) (n : ℕ) → Below us vs → ready_from before j us n ≡ true → ready_from before j vs n ≡ true
+-- a part that may go on still may where more flags stand
+pub ready_up : (before : ℕ → ℕ → Bool) (j : ℕ) (us vs : List Bool) (n : ℕ) → Below us vs → ready_from before j us n ≡ true → ready_from before j vs n ≡ true
 ready_up before j [] [] n h e = refl
 ready_up before j [] (b ∷ vs) n h e = elim h [ ]
 ready_up before j (a ∷ us) [] n h e = elim h [ ]
@@ -108,11 +87,16 @@ index_up (a ∷ us) [] l h e = elim h [ ]
 index_up (a ∷ us) (b ∷ vs) zero h e = h.0 e
 index_up (a ∷ us) (b ∷ vs) (suc l) h e = index_up us vs l h.1 e
 
+-- one flag of a list in which all were joined with another flag
+pub flag_joined : (b : Bool) (cleared : List Bool) (l : ℕ) → slice_index_or (map (λ flag. b && flag) cleared) l false ≡ (b && slice_index_or cleared l false)
+flag_joined true [] l = refl
+flag_joined false [] l = refl
+flag_joined b (c ∷ cleared) zero = refl
+flag_joined b (c ∷ cleared) (suc l) = flag_joined b cleared l
+
 -- a flag among others with which one more must stand
 pub index_both : (a : Bool) (us : List Bool) (l : ℕ) → slice_index_or (map (λ flag. a && flag) us) l false ≡ true → (a ≡ true) × (slice_index_or us l false ≡ true)
-index_both a [] l e = cc
-index_both a (x ∷ us) zero e = both_parts a x e
-index_both a (x ∷ us) (suc l) e = index_both a us l e
+index_both a us l e = both a (slice_index_or us l false) (sym (flag_joined a us l) ∙ e)
 
 -- closed before or closed now
 closed_up : (a x y : Bool) → (x ≡ true → y ≡ true) → ((a || x) || y) ≡ (a || y)
@@ -123,9 +107,9 @@ closed_up false false y h = refl
 over_up : (a b c d a' b' c' d' : Bool) → (a ≡ true → a' ≡ true) → (b ≡ true → b' ≡ true) → (a ≡ true → d ≡ true → c ≡ true → c' ≡ true) → (d ≡ true → d' ≡ true) →
     (a && (b && (c && d))) ≡ true → (a' && (b' && (c' && d'))) ≡ true
 over_up a b c d a' b' c' d' f g h k e =
-    let x = both_parts a (b && (c && d)) e in
-    let y = both_parts b (c && d) x.1 in
-    let z = both_parts c d y.1 in
+    let x = both a (b && (c && d)) e in
+    let y = both b (c && d) x.1 in
+    let z = both c d y.1 in
     both_true a' _ (f x.0) (both_true b' _ (g y.0) (both_true c' d' (h x.0 z.1 z.0) (k z.1)))
 
 -- ---- settling after settling
@@ -145,7 +129,7 @@ keep_parts : {P : Type 0} (go : Bool) (cl : List Bool) (s s' : Memories) (kind :
     Keeps go cl s s' (λ l c. SomePart parts (takes l c)) → KeepParts go cl s s' kind before fs n parts
 keep_parts go cl s s' kind before fs n none h = tt
 keep_parts go cl s s' kind before fs n (also part parts) h = (
-  λ l c t e f g. h l c (inl t) (both_parts go (is_ready before fs n) e).0 (index_both (is_first_left kind fs) cl l f).1 g,
+  λ l c t e f g. h l c (inl t) (both go (is_ready before fs n) e).0 (index_both (is_first_left kind fs) cl l f).1 g,
   λ b. keep_parts go cl s s' kind before (fs ++ b ∷ []) (suc n) parts (λ l c t. h l c (inr t)),
 )
 

@@ -1,5 +1,5 @@
 -- A whole run that is done from left to right ends as the run without picks.
-use Rattle.std.proofs.Common.{◌≡◌, ℕ, zero, suc, ◌+◌, ◌≤◌, List, [], ◌∷◌, drop, length, Option, Some, None, Result, Ok, Err, Bool, true, false, cond, refl, sym, ◌∙◌, ap, subst, arith}
+use Rattle.std.proofs.Common.{◌≡◌, ℕ, zero, suc, ◌+◌, ◌≤◌, List, [], ◌∷◌, drop, length, Option, Some, None, Result, Ok, Err, Bool, true, false, refl, sym, ◌∙◌, ap, subst, arith}
 use Rattle.std.specs.Bool.{⊤}
 use Rattle.sd_work.specs.Memory.{Memory, Memories}
 use Rattle.sd_work.specs.Change.{nothing, innermost}
@@ -7,7 +7,7 @@ use Rattle.sd_work.specs.Move.{Fault, Move, goes}
 use Rattle.sd_work.specs.Exit.{Values, Exit, first_exit}
 use Rattle.sd_work.specs.Residual.{Term, leaf, list, owning, nested, ended, pool, finished}
 use Rattle.sd_work.specs.Moves.{moves}
-use Rattle.sd_work.specs.Fire.{owned, transition, fire}
+use Rattle.sd_work.specs.Fire.{transition, fire}
 use Rattle.sd_work.specs.Settle.{settled}
 use Rattle.sd_work.specs.Step.{Outcome, Done, Faulted, Spent}
 use Rattle.sd_work.specs.Run.{Left, Sequential, run}
@@ -15,10 +15,9 @@ use Rattle.sd_work.specs.BigStep.{Coming, and_then, spending, after_exit, big_st
 use Rattle.sd_work.specs.BigRun.{left_by, big_run}
 use Rattle.sd_work.specs.WellFormed.{IsOrdered, IsRun}
 use Rattle.sd_work.specs.OrderedPools.{OrdersPools}
-use Rattle.sd_work.proofs.Absorbing.{stays}
 use Rattle.sd_work.proofs.Leads.{front, Pays, Feeds, Leads, FailsBy, Stops, Makes, Agrees}
 use Rattle.sd_work.proofs.LeftmostLists.{leads_more, makes_then, agrees_then, agrees_less}
-use Rattle.sd_work.proofs.LeftmostOwners.{inside, owned_leads, owned_stops, cons_leads, outer_length, nest_moves, nest_fires}
+use Rattle.sd_work.proofs.LeftmostOwners.{inside, owned_leads, owned_stops, cons_leads, outer_length, nest_moves, nest_fires, exit_moves, exit_fires}
 use Rattle.sd_work.proofs.Leftmost.{agree}
 use Rattle.sd_work.proofs.LeftmostRuns.{machine, run-leads, run-none, stops-fault, stops-spent}
 use Rattle.sd_work.proofs.Outcomes.{Run-unique}
@@ -66,14 +65,11 @@ module _ {P : Type 0} (W : Feeds) (body : ℕ → Values → Term P) (exits : �
       (λ g t s' m' l. later k v g t s' m' (l ∙ len)) (agrees_less (inside W) limit d up (body k v) (f ∷ s) m (does k v (f ∷ s) m) (agrees k v (f ∷ s) m (ap suc len)))
 
   module _ (d : ℕ) (up : suc d ≤ limit) (state : ℕ) (values : Values) (f : Memory) (x : Term P) (s : Memories) (n : ℕ) (len : length s ≡ depth) (e : finished x ≡ true) (later : Later d) where
-    e' : finished (front (f ∷ s) x) ≡ true
-    e' = stays true _ (f ∷ s) x e
-
     here : moves (front s (nested body exits f state values x)) s ≡ [] ∷ []
-    here = ap (λ b. cond b ([] ∷ []) (moves (front (f ∷ s) x) (f ∷ s))) e'
+    here = exit_moves body exits state values f x s e
 
     goes_by : (r : Result (Option (Exit P)) (Fault P)) → first_exit (exits state values) (f ∷ s) ≡ r → fire (front s (nested body exits f state values x)) [] s ≡ transition body exits f r
-    goes_by r q = λ i. cond (e' i) (transition body exits f (q i)) (owned (λ g y. nested body exits g state values y) f (fire (front (f ∷ s) x) [] (f ∷ s)))
+    goes_by = exit_fires body exits state values f x s e
 
     -- an exit that is taken, where its turn is paid
     taken : (w : Exit P) → fire (front s (nested body exits f state values x)) [] s ≡ goes w.marked nothing (nested body exits f w.state w.values (body w.state w.values)) → (m : ℕ) → Pays w.marked n m →

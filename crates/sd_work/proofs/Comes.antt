@@ -1,30 +1,20 @@
 -- A run comes to an end where it does so after each move that it may make next.
-use Rattle.std.proofs.Common.{◌≡◌, ℕ, zero, suc, List, [], ◌∷◌, drop, Some, true, false, refl, sym, ◌∙◌, ap, subst, slice_index_or}
+use Rattle.std.proofs.Common.{◌≡◌, ℕ, zero, suc, List, [], ◌∷◌, drop, Some, true, false, refl, ◌∙◌, ap, subst}
 use Rattle.sd_work.specs.Change.{Change}
 use Rattle.sd_work.specs.Move.{Move, fails, goes, no_move}
 use Rattle.sd_work.specs.Residual.{Term}
 use Rattle.sd_work.specs.Moves.{Path, moves}
 use Rattle.sd_work.specs.Fire.{fire}
 use Rattle.sd_work.specs.Settle.{settled}
-use Rattle.sd_work.specs.Step.{Outcome, Done, Faulted, Spent, moved, step}
-use Rattle.sd_work.specs.Run.{Left, memory_of, chosen_number, go_on, run_by, run}
-use Rattle.sd_work.proofs.LeftmostRuns.{machine}
-use Rattle.sd_work.proofs.NextMoves.{IsMove, AllOf, all_at, MovesAt, all_move}
+use Rattle.sd_work.specs.Step.{Outcome, Done, Faulted, Spent}
+use Rattle.sd_work.specs.Run.{Left, memory_of, chosen_number, run_by, run}
+use Rattle.sd_work.proofs.LeftmostRuns.{machine, one_move}
+use Rattle.sd_work.proofs.NextMoves.{IsMove, MovesAt, all_move}
+use Rattle.sd_work.proofs.Paths.{AllOf, all_at, chosen}
 
 -- a run by these picks comes to an end
 abbrev pub Comes : {P : Type 0} → ℕ → Term P → List ℕ → Type 0
 Comes {P} n t picks = (k : ℕ) × (o : Outcome P Left) × (run k picks (machine t n) ≡ Some o)
-
--- the place that a pick chooses
-abbrev chosen : List ℕ → Path → List Path → Path
-chosen picks p ps = slice_index_or (p ∷ ps) (chosen_number picks (p ∷ ps)) p
-
-one_move : {P : Type 0} (k n b : ℕ) (t : Term P) (picks : List ℕ) (p : Path) (ps : List Path) → moves t [] ≡ p ∷ ps → (w : Path) → w ≡ chosen picks p ps → (m : Move P (Term P)) → fire t w [] ≡ m → n ≡ b →
-    run (suc k) picks (machine t n) ≡ go_on (moved (machine t b) m) (run k (drop 1 picks))
-one_move k n b t picks p ps q w d m e c =
-    ap (λ l. run_by l picks (machine t n) (run k (drop 1 picks))) q
-    ∙ ap (λ v. go_on (step v (machine t n)) (run k (drop 1 picks))) (sym d)
-    ∙ (λ i. go_on (moved (machine t (c i)) (e i)) (run k (drop 1 picks)))
 
 -- one more move
 pub comes_on : {P : Type 0} (n : ℕ) (t : Term P) (picks : List ℕ) →

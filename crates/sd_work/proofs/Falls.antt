@@ -5,7 +5,7 @@ use Rattle.sd_work.specs.declared.fault.FaultKind.{FaultKind}
 use Rattle.sd_work.specs.Memory.{Memory, Memories, Reference, seen, waiting}
 use Rattle.sd_work.specs.Change.{Change, nothing, write, take, apply, outer, own_after}
 use Rattle.sd_work.specs.Leaf.{Pending, write_value, transfer, push_to, Leaf, reading, doing}
-use Rattle.sd_work.specs.Move.{Fault, Move, fails, goes, no_move}
+use Rattle.sd_work.specs.Move.{Fault, goes}
 use Rattle.sd_work.specs.LeafMove.{write_move, read_move, evaluation_move, leaf_move}
 use Rattle.sd_work.specs.Exit.{Values, Exit, first_exit}
 use Rattle.sd_work.specs.Residual.{Term, leaf, list, owning, nested, ended, pool, Terms, none, also, Actives, idle, busy, finished}
@@ -13,7 +13,7 @@ use Rattle.sd_work.specs.Moves.{Path}
 use Rattle.sd_work.specs.Fire.{owned, transition, and_last, take_move, fire, fire_part, fire_active}
 use Rattle.sd_work.specs.New.{IsNew, UnfoldsNew, UnfoldNew, UnfoldActiveNew}
 use Rattle.sd_work.proofs.Changes.{apply-own}
-use Rattle.sd_work.proofs.Halting.{map_back}
+use Rattle.sd_work.proofs.Halting.{map_back, owned_back}
 use Rattle.sd_work.proofs.Weights.{total_parts, total_active, reads, pushes_of, pushes, held, stacked, nothing_of, stacked-write, stacked-take, reads_in, pushes_in, waiting_in, weightless, total-and_last}
 use Rattle.sd_work.proofs.Quiet.{opened, opened_parts, opened_active, size, Calm, CalmParts, CalmActives}
 
@@ -101,13 +101,6 @@ ActivesFall ts s u xs =
     Falls (total_active reads nothing_of ts) (total_active pushes nothing_of ts) (total_active nothing_of held ts + stacked s)
     (total_active reads nothing_of xs) (total_active pushes nothing_of xs) (total_active nothing_of held xs + stacked (apply u s)) (CalmActives (opened_active ts) (opened_active xs))
 
--- a move inside an owner is one of the part
-inside : {P : Type 0} (whole : Memory → Term P → Term P) (own : Memory) (m : Move P (Term P)) (u : Change) (y : Term P) → owned whole own m ≡ goes false u y →
-    (v : Change) × (x : Term P) × (m ≡ goes false v x) × (whole (own_after v own) x ≡ y) × (outer v ≡ u)
-inside whole own (fails turn e) u y q = cc
-inside whole own (goes turn v x) u y q = (v, x, cc, cc, cc)
-inside whole own no_move u y q = cc
-
 -- the values of an owner's memory count inside as they do outside
 owner_falls : {P : Type 0} {C D : Type 0} (own : Memory) (part x : Term P) (s : Memories) (v : Change) → (C → D) →
     Falls (reads_in part) (pushes_in part) (waiting_in part + stacked (own ∷ s)) (reads_in x) (pushes_in x) (waiting_in x + stacked (apply v (own ∷ s))) C →
@@ -160,7 +153,7 @@ nested_falls : {P : Type 0} (body : ℕ → Values → Term P) (exits : ℕ → 
     TermFalls (nested body exits own state values part) s u x
 nested_falls body exits own state values part h p s ih true u x e = transition_falls body exits own state values part h s (first_exit (exits state values) (own ∷ s)) refl u x e
 nested_falls {P} body exits own state values part h p s ih false u x e =
-    let r = inside (λ memory left. nested body exits memory state values left) own (fire part p (own ∷ s)) u x e in
+    let r = owned_back (λ memory left. nested body exits memory state values left) own (fire part p (own ∷ s)) false u x e in
     subst (λ (y : Term P). TermFalls (nested body exits own state values part) s u y) r.3
     (subst (λ (d : Change). TermFalls (nested body exits own state values part) s d (nested body exits (own_after r.0 own) state values r.1)) r.4
     (owner_falls own part r.1 s r.0 (λ c. inl (own_after r.0 own, opened r.1, c, refl)) (ih r.0 r.1 r.2)))
@@ -177,7 +170,7 @@ mutual
       subst (λ (y : Term P). TermFalls (list kind before parts) s u y) r.2
       (beside _ _ _ _ _ _ _ _ _ _ _ _ 0 0 0 (omega arith) (omega arith) (omega arith) (omega arith) (omega arith) (omega arith) (λ c. (opened_parts r.0, c, refl)) (falls_parts parts h k p s u r.0 r.1))
   falls {P} (owning own part) h p s u x e =
-      let r = inside owning own (fire part p (own ∷ s)) u x e in
+      let r = owned_back owning own (fire part p (own ∷ s)) false u x e in
       subst (λ (y : Term P). TermFalls (owning own part) s u y) r.3
       (subst (λ (d : Change). TermFalls (owning own part) s d (owning (own_after r.0 own) r.1)) r.4
       (owner_falls own part r.1 s r.0 (λ c. (own_after r.0 own, opened r.1, c, refl)) (falls part h p (own ∷ s) r.0 r.1 r.2)))

@@ -1,16 +1,9 @@
 -- Where nothing is left to do there is no move.
-use Rattle.std.proofs.Common.{◌≡◌, ℕ, suc, List, [], ◌∷◌, ◌++◌, Bool, true, false, not, cond, ◌&&◌, refl, ap}
+use Rattle.std.proofs.Common.{◌≡◌, ℕ, suc, List, [], ◌∷◌, ◌++◌, Bool, true, false, not, cond, refl, ap}
 use Rattle.sd_work.specs.Memory.{Memories}
 use Rattle.sd_work.specs.Residual.{Term, leaf, list, owning, nested, ended, pool, Terms, none, also, finished, all_finished, flags_of}
 use Rattle.sd_work.specs.Moves.{Path, here_if, moves_in, moves, moves_of_parts}
-
-first_of_two : (a b : Bool) → a && b ≡ true → a ≡ true
-first_of_two true b h = refl
-first_of_two false b h = h
-
-second_of_two : (a b : Bool) → a && b ≡ true → b ≡ true
-second_of_two true b h = h
-second_of_two false b h = cc
+use Rattle.sd_work.proofs.Flags.{both}
 
 no_moves : (ready : Bool) (number : ℕ) (paths others : List Path) → paths ≡ [] → others ≡ [] → cond ready (moves_in number paths) [] ++ others ≡ []
 no_moves true number paths others p q = λ i. moves_in number (p i) ++ q i
@@ -29,5 +22,5 @@ mutual
   moves_of_parts-finished : {P : Type 0} (before : ℕ → ℕ → Bool) (flags : List Bool) (number : ℕ) (parts : Terms P) (memories : Memories) → all_finished parts ≡ true → moves_of_parts before flags number parts memories ≡ []
   moves_of_parts-finished before flags number none memories h = refl
   moves_of_parts-finished before flags number (also part parts) memories h =
-      no_moves _ number _ _ (moves-finished part memories (first_of_two (finished part) (all_finished parts) h))
-      (moves_of_parts-finished before flags (suc number) parts memories (second_of_two (finished part) (all_finished parts) h))
+      no_moves _ number _ _ (moves-finished part memories (both (finished part) (all_finished parts) h).0)
+      (moves_of_parts-finished before flags (suc number) parts memories (both (finished part) (all_finished parts) h).1)

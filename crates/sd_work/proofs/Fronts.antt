@@ -5,9 +5,10 @@ use Rattle.sd_work.specs.Change.{Change, nothing, write, push, take, changed_at,
 use Rattle.sd_work.specs.Residual.{Parts, Items, Points, Term, list, Terms, none, also, finished, all_finished, is_ready, ready_from, part_at}
 use Rattle.sd_work.specs.Settle.{is_empty, all_true, is_first_left, settle, settle_parts}
 use Rattle.sd_work.specs.Touch.{takes, Touches}
-use Rattle.sd_work.proofs.Absorbing.{both_parts, both_true, stays, Below, below_same, below_more, index_both, KeepParts, absorb_parts}
+use Rattle.sd_work.proofs.Absorbing.{stays, Below, below_same, below_more, index_both, KeepParts, absorb_parts}
 use Rattle.sd_work.proofs.Changes.{waiting-apply}
 use Rattle.sd_work.proofs.Leads.{clear, front, Feeds, Within}
+use Rattle.sd_work.proofs.Flags.{both, both_true, not_true, or_other}
 
 -- parts, and then others
 abbrev pub ◌⊕◌ : {P : Type 0} → Terms P → Terms P → Terms P
@@ -28,7 +29,7 @@ more fs (also t ts) = more (fs ++ true ∷ []) ts
 
 all_more : (fs : List Bool) → all_true fs ≡ true → all_true (fs ++ true ∷ []) ≡ true
 all_more [] h = refl
-all_more (f ∷ fs) h = let e = both_parts f (all_true fs) h in both_true f _ e.0 (all_more fs e.1)
+all_more (f ∷ fs) h = let e = both f (all_true fs) h in both_true f _ e.0 (all_more fs e.1)
 
 more_true : {P : Type 0} (fs : List Bool) (pre : Terms P) → all_true fs ≡ true → all_true (more fs pre) ≡ true
 more_true fs none h = h
@@ -53,7 +54,7 @@ settled_front : {P : Type 0} (go : Bool) (cl : List Bool) (s : Memories) (kind :
     settle_parts go cl s kind before fs n (◌⊕◌ pre us) ≡ ◌⊕◌ (settle_parts go cl s kind before fs n pre) (settle_parts go cl s kind before (more fs pre) (n + count_of pre) us)
 settled_front go cl s kind before fs n none us h = let same : n ≡ n + 0 = omega arith in ap (λ k. settle_parts go cl s kind before fs k us) same
 settled_front {P} go cl s kind before fs n (also t pre) us h =
-    let e = both_parts (finished t) (all_finished pre) h in
+    let e = both (finished t) (all_finished pre) h in
     let left : Term P = settle (go && is_ready before fs n) (map (λ flag. is_first_left kind fs && flag) cl) s t in
     let f : finished left ≡ true = stays (go && is_ready before fs n) (map (λ flag. is_first_left kind fs && flag) cl) s t e.0 in
     let same : suc n + count_of pre ≡ n + suc (count_of pre) = omega arith in
@@ -108,38 +109,34 @@ down_last : (fs : List Bool) → IsDown (length fs) (fs ++ false ∷ [])
 down_last [] = refl
 down_last (f ∷ fs) = down_last fs
 
-longer : (fs : List Bool) → length (fs ++ true ∷ []) ≡ suc (length fs)
-longer [] = refl
-longer (f ∷ fs) = ap suc (longer fs)
+-- one more flag is one more
+pub longer : (fs : List Bool) (b : Bool) → length (fs ++ b ∷ []) ≡ suc (length fs)
+longer [] b = refl
+longer (f ∷ fs) b = ap suc (longer fs b)
 
 down_front : {P : Type 0} (fs : List Bool) (pre : Terms P) → IsDown (length fs + count_of pre) (more fs pre ++ false ∷ [])
 down_front fs none = let same : length fs ≡ length fs + 0 = omega arith in subst (λ k. IsDown k (fs ++ false ∷ [])) same (down_last fs)
 down_front fs (also t pre) =
-    let l : length (fs ++ true ∷ []) ≡ suc (length fs) = longer fs in
+    let l : length (fs ++ true ∷ []) ≡ suc (length fs) = longer fs true in
     let same : length (fs ++ true ∷ []) + count_of pre ≡ length fs + suc (count_of pre) = omega arith in
     subst (λ k. IsDown k (more (fs ++ true ∷ []) pre ++ false ∷ [])) same (down_front (fs ++ true ∷ []) pre)
-
-not_true : (b : Bool) → not b ≡ true → b ≡ false
-not_true true e = cc
-not_true false e = refl
 
 -- a part that may go on is not behind one whose flag is down
 ready_down : (before : ℕ → ℕ → Bool) (j k : ℕ) (fs : List Bool) (n : ℕ) → IsDown k fs → ready_from before j fs n ≡ true → before (j + k) n ≡ false
 ready_down before j k [] n h e = elim h [ ]
 ready_down before j zero (f ∷ fs) n h e =
     let same : j ≡ j + 0 = omega arith in
-    let g : (f || not (before j n)) ≡ true = (both_parts (f || not (before j n)) (ready_from before (suc j) fs n) e).0 in
-    let g' : not (before j n) ≡ true = subst (λ b. (b || not (before j n)) ≡ true) h g in
-    subst (λ i. before i n ≡ false) same (not_true (before j n) g')
+    let g : (f || not (before j n)) ≡ true = (both (f || not (before j n)) (ready_from before (suc j) fs n) e).0 in
+    subst (λ i. before i n ≡ false) same (not_true (before j n) (or_other f (not (before j n)) g h))
 ready_down before j (suc k) (f ∷ fs) n h e =
     let same : suc j + k ≡ j + suc k = omega arith in
-    subst (λ i. before i n ≡ false) same (ready_down before (suc j) k fs n h (both_parts (f || not (before j n)) (ready_from before (suc j) fs n) e).1)
+    subst (λ i. before i n ≡ false) same (ready_down before (suc j) k fs n h (both (f || not (before j n)) (ready_from before (suc j) fs n) e).1)
 
 not_all : (k : ℕ) (fs : List Bool) → IsDown k fs → all_true fs ≡ true → ⊥
 not_all k [] h e = elim h [ ]
 not_all zero (true ∷ fs) h e = cc
 not_all zero (false ∷ fs) h e = cc
-not_all (suc k) (f ∷ fs) h e = not_all k fs h (both_parts f (all_true fs) e).1
+not_all (suc k) (f ∷ fs) h e = not_all k fs h (both f (all_true fs) e).1
 
 -- behind an unfinished part, a pool may be closed only over a stream that stays empty
 keep_behind : {P : Type 0} (kind : Parts) (before : ℕ → ℕ → Bool) (cl : List Bool) (s s' : Memories) (k : ℕ) (fs : List Bool) → IsDown k fs → (n : ℕ) (ts : Terms P) →

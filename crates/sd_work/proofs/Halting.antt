@@ -2,7 +2,7 @@
 use Rattle.std.proofs.Common.{◌≡◌, ℕ, zero, suc, pred, ◌+◌, ◌<◌, ◌≤◌, ℤ, List, [], ◌∷◌, ◌++◌, drop, Option, Some, None, Result, Ok, Err, Bool, true, false, cond, not, refl, sym, ◌∙◌, ap, subst, arith, inl, inr, ◌⊎◌}
 use Rattle.sd_work.specs.declared.fault.FaultKind.{FaultKind}
 use Rattle.sd_work.specs.Memory.{Memory, Memories, Reference, seen}
-use Rattle.sd_work.specs.Change.{Change, own_after}
+use Rattle.sd_work.specs.Change.{Change, own_after, outer}
 use Rattle.sd_work.specs.Leaf.{Pending, Evaluation, reading, doing}
 use Rattle.sd_work.specs.Move.{Fault, Move, fails, goes, no_move, map_move}
 use Rattle.sd_work.specs.LeafMove.{do_move, read_move, evaluation_move}
@@ -17,8 +17,9 @@ use Rattle.sd_work.specs.WellFormed.{HasNoPool, HaveNoPool, Rises, HasRanks, Pay
 use Rattle.sd_work.proofs.WithoutPools.{settled-none, fired-none}
 use Rattle.sd_work.proofs.LeftmostRuns.{machine}
 use Rattle.sd_work.proofs.LeftmostOwners.{effect_next}
-use Rattle.sd_work.proofs.Kept.{Leaves, pays_kept}
+use Rattle.sd_work.proofs.Kept.{pays_kept}
 use Rattle.sd_work.proofs.Comes.{Comes, comes_on}
+use Rattle.sd_work.proofs.Leaving.{Leaves}
 
 -- moves that spend no turn come to an end, whatever stands in memory
 data Quiet {P : Type 0} : Term P → Type 0 where
@@ -33,10 +34,11 @@ map_back f (fails turn e) b u y q = cc
 map_back f (goes turn v x) b u y q = (x, cc, cc)
 map_back f no_move b u y q = cc
 
-owned_back : {P : Type 0} (whole : Memory → Term P → Term P) (own : Memory) (m : Move P (Term P)) (b : Bool) (u : Change) (y : Term P) → owned whole own m ≡ goes b u y →
-    (v : Change) × (x : Term P) × (m ≡ goes b v x) × (whole (own_after v own) x ≡ y)
+-- and so is one of an owner, seen from outside
+pub owned_back : {P : Type 0} (whole : Memory → Term P → Term P) (own : Memory) (m : Move P (Term P)) (b : Bool) (u : Change) (y : Term P) → owned whole own m ≡ goes b u y →
+    (v : Change) × (x : Term P) × (m ≡ goes b v x) × (whole (own_after v own) x ≡ y) × (outer v ≡ u)
 owned_back whole own (fails turn e) b u y q = cc
-owned_back whole own (goes turn v x) b u y q = (v, x, cc, cc)
+owned_back whole own (goes turn v x) b u y q = (v, x, cc, cc, cc)
 owned_back whole own no_move b u y q = cc
 
 quiet_owning : {P : Type 0} (t : Term P) → Quiet t → (own : Memory) → Quiet (owning own t)

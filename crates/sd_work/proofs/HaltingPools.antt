@@ -11,11 +11,12 @@ use Rattle.sd_work.specs.Run.{Left, Run}
 use Rattle.sd_work.specs.WellFormed.{PaysCycles}
 use Rattle.sd_work.specs.New.{UnfoldsNew}
 use Rattle.sd_work.proofs.LeftmostRuns.{nothing_stays}
-use Rattle.sd_work.proofs.Kept.{Leaves, pays_kept, unfolds_kept, kept-settle}
+use Rattle.sd_work.proofs.Kept.{pays_kept, unfolds_kept, kept-settle}
 use Rattle.sd_work.proofs.Comes.{Comes, comes_on}
 use Rattle.sd_work.proofs.Weights.{reads, pushes, held, stacked, nothing_of, reads_in, pushes_in, waiting_in, total-settle}
 use Rattle.sd_work.proofs.Quiet.{opened, opened-settle, Calm, Quiet, quiet, all_quiet}
 use Rattle.sd_work.proofs.Falls.{TermFalls, falls}
+use Rattle.sd_work.proofs.Leaving.{Leaves}
 
 -- what holds of the machine's term all along
 abbrev Good : {P : Type 0} → Term P → Type 0

@@ -1,53 +1,15 @@
 -- What moves and settling keep: each cycle of transitions spends a turn, and what is unfolded later is new.
-use Rattle.std.proofs.Common.{ℕ, zero, suc, ℤ, List, [], ◌∷◌, ◌++◌, map, Option, Some, None, Result, Ok, Err, Bool, true, false, cond, ◌&&◌, slice_get}
-use Rattle.std.specs.Bool.{⊤}
-use Rattle.sd_work.specs.Memory.{Memory, Memories, waiting}
-use Rattle.sd_work.specs.Change.{own_after}
-use Rattle.sd_work.specs.Move.{Fault, Move, fails, goes, no_move, map_move}
+use Rattle.std.proofs.Common.{ℕ, zero, suc, ℤ, List, [], ◌∷◌, ◌++◌, map, Bool, true, ◌&&◌, slice_get}
+use Rattle.sd_work.specs.Memory.{Memories, waiting}
 use Rattle.sd_work.specs.LeafMove.{leaf_move}
-use Rattle.sd_work.specs.Exit.{Values, Exit, first_exit}
+use Rattle.sd_work.specs.Exit.{first_exit}
 use Rattle.sd_work.specs.Residual.{Parts, Term, leaf, list, owning, nested, ended, pool, Terms, none, also, Actives, idle, busy, finished, is_ready}
 use Rattle.sd_work.specs.Moves.{Path}
-use Rattle.sd_work.specs.Fire.{owned, transition, and_last, take_move, fire, fire_part, fire_active}
+use Rattle.sd_work.specs.Fire.{owned, transition, and_last, fire, fire_part, fire_active}
 use Rattle.sd_work.specs.Settle.{is_first_left, settle, settle_parts, settle_active}
 use Rattle.sd_work.specs.WellFormed.{PaysCycles, PayCycles, PayActiveCycles}
 use Rattle.sd_work.specs.New.{UnfoldsNew, UnfoldNew, UnfoldActiveNew}
-
--- what holds of what a move leaves
-abbrev pub Leaves : {P A : Type 0} → (A → Type 0) → Move P A → Type 0
-Leaves H (fails turn fault) = ⊤
-Leaves H (goes turn change left) = H left
-Leaves H no_move = ⊤
-
-leaves_any : {P A B : Type 0} (f : A → B) (H : B → Type 0) → ((x : A) → H (f x)) → (m : Move P A) → Leaves H (map_move f m)
-leaves_any f H h (fails turn fault) = tt
-leaves_any f H h (goes turn change left) = h left
-leaves_any f H h no_move = tt
-
-leaves_map : {P A B : Type 0} (f : A → B) (G : A → Type 0) (H : B → Type 0) → ((x : A) → G x → H (f x)) → (m : Move P A) → Leaves G m → Leaves H (map_move f m)
-leaves_map f G H h (fails turn fault) g = tt
-leaves_map f G H h (goes turn change left) g = h left g
-leaves_map f G H h no_move g = tt
-
-leaves_owned : {P : Type 0} (H : Term P → Type 0) (whole : Memory → Term P → Term P) (own : Memory) → ((memory : Memory) (x : Term P) → H x → H (whole memory x)) → (m : Move P (Term P)) → Leaves H m → Leaves H (owned whole own m)
-leaves_owned H whole own h (fails turn fault) g = tt
-leaves_owned H whole own h (goes turn change left) g = h (own_after change own) left g
-leaves_owned H whole own h no_move g = tt
-
-leaves_cond : {P A : Type 0} (H : A → Type 0) (b : Bool) (m n : Move P A) → Leaves H m → Leaves H n → Leaves H (cond b m n)
-leaves_cond H true m n g h = g
-leaves_cond H false m n g h = h
-
-leaves_transition : {P : Type 0} (H : Term P → Type 0) (body : ℕ → Values → Term P) (exits : ℕ → Values → List (Exit P)) (own : Memory) →
-    H (ended own) → ((state : ℕ) (values : Values) → H (nested body exits own state values (body state values))) → (r : Result (Option (Exit P)) (Fault P)) → Leaves H (transition body exits own r)
-leaves_transition H body exits own g h (Err fault) = tt
-leaves_transition H body exits own g h (Ok None) = g
-leaves_transition H body exits own g h (Ok (Some exit)) = h exit.state exit.values
-
-leaves_take : {P : Type 0} (H : Term P → Type 0) (level container : ℕ) (body : ℤ → Term P) (active : Actives P) (closed : Bool) → ((value : ℤ) → H (pool level container body (and_last active value (body value)) closed)) →
-    (position : ℕ) (o : Option ℤ) → Leaves H (take_move level container body active closed position o)
-leaves_take H level container body active closed h position None = tt
-leaves_take H level container body active closed h position (Some value) = h value
+use Rattle.sd_work.proofs.Leaving.{Leaves, leaves_any, leaves_map, leaves_owned, leaves_cond, leaves_transition, leaves_take}
 
 -- ---- each cycle of transitions spends a turn
 
@@ -61,12 +23,12 @@ mutual
   pays_kept (leaf place work) h p s = leaves_any (leaf place) PaysCycles (λ x. tt) (leaf_move place work s)
   pays_kept (list kind before parts) h [] s = tt
   pays_kept (list kind before parts) h (k ∷ p) s = leaves_map (list kind before) PayCycles PaysCycles (λ x g. g) (fire_part parts k p s) (pay_kept parts h k p s)
-  pays_kept (owning own part) h p s = leaves_owned PaysCycles owning own (λ memory x g. g) (fire part p (own ∷ s)) (pays_kept part h p (own ∷ s))
+  pays_kept (owning own part) h p s = leaves_owned PaysCycles PaysCycles owning own (λ memory x g. g) (fire part p (own ∷ s)) (pays_kept part h p (own ∷ s))
   pays_kept (nested body exits own state values part) h p s =
       leaves_cond PaysCycles (finished part) (transition body exits own (first_exit (exits state values) (own ∷ s)))
       (owned (λ memory left. nested body exits memory state values left) own (fire part p (own ∷ s)))
       (leaves_transition PaysCycles body exits own tt (λ k w. (h.1 k w, h.1, h.2)) (first_exit (exits state values) (own ∷ s)))
-      (leaves_owned PaysCycles (λ memory left. nested body exits memory state values left) own (λ memory x g. (g, h.1, h.2)) (fire part p (own ∷ s)) (pays_kept part h.0 p (own ∷ s)))
+      (leaves_owned PaysCycles PaysCycles (λ memory left. nested body exits memory state values left) own (λ memory x g. (g, h.1, h.2)) (fire part p (own ∷ s)) (pays_kept part h.0 p (own ∷ s)))
   pays_kept (ended own) h p s = tt
   pays_kept (pool level container body active closed) h [] s = tt
   pays_kept (pool level container body active closed) h (zero ∷ []) s = tt
@@ -98,12 +60,12 @@ mutual
   unfolds_kept (leaf place work) h p s = leaves_any (leaf place) UnfoldsNew (λ x. tt) (leaf_move place work s)
   unfolds_kept (list kind before parts) h [] s = tt
   unfolds_kept (list kind before parts) h (k ∷ p) s = leaves_map (list kind before) UnfoldNew UnfoldsNew (λ x g. g) (fire_part parts k p s) (unfold_kept parts h k p s)
-  unfolds_kept (owning own part) h p s = leaves_owned UnfoldsNew owning own (λ memory x g. g) (fire part p (own ∷ s)) (unfolds_kept part h p (own ∷ s))
+  unfolds_kept (owning own part) h p s = leaves_owned UnfoldsNew UnfoldsNew owning own (λ memory x g. g) (fire part p (own ∷ s)) (unfolds_kept part h p (own ∷ s))
   unfolds_kept (nested body exits own state values part) h p s =
       leaves_cond UnfoldsNew (finished part) (transition body exits own (first_exit (exits state values) (own ∷ s)))
       (owned (λ memory left. nested body exits memory state values left) own (fire part p (own ∷ s)))
       (leaves_transition UnfoldsNew body exits own tt (λ k w. ((h.1 k w).1, h.1)) (first_exit (exits state values) (own ∷ s)))
-      (leaves_owned UnfoldsNew (λ memory left. nested body exits memory state values left) own (λ memory x g. (g, h.1)) (fire part p (own ∷ s)) (unfolds_kept part h.0 p (own ∷ s)))
+      (leaves_owned UnfoldsNew UnfoldsNew (λ memory left. nested body exits memory state values left) own (λ memory x g. (g, h.1)) (fire part p (own ∷ s)) (unfolds_kept part h.0 p (own ∷ s)))
   unfolds_kept (ended own) h p s = tt
   unfolds_kept (pool level container body active closed) h [] s = tt
   unfolds_kept (pool level container body active closed) h (zero ∷ []) s = tt

@@ -7,22 +7,17 @@ use Rattle.sd_work.specs.BigStep.{Coming, reached, and_then, leaving, big_states
 use Rattle.sd_work.specs.Touch.{pushes, Touches, SomePart, SomeActive}
 use Rattle.sd_work.specs.WellFormed.{IsOrdered, AreOrdered, AreActiveOrdered}
 use Rattle.sd_work.specs.OrderedPools.{DoesNotFeed, IsAlone, OrdersPools, OrderPools, OrderActivePools}
-use Rattle.sd_work.proofs.Absorbing.{both_parts}
 use Rattle.sd_work.proofs.Fronts.{◌⊕◌, count_of, Apart}
 use Rattle.sd_work.proofs.Leads.{Feeds, Agrees}
-use Rattle.sd_work.proofs.LeftmostLists.{list_agrees, plus_assoc, plus_finished, plus_none}
+use Rattle.sd_work.proofs.LeftmostLists.{list_agrees, plus_assoc, plus_finished, plus_none, count_more}
 use Rattle.sd_work.proofs.LeftmostPools.{◌⊞◌, join_assoc, join_idle, join_finished, pool_agrees, takes_agree}
 use Rattle.sd_work.proofs.LeftmostOwners.{inside, owned_agrees, agree_doing, agree_reading, then_reached, nest_moves, nest_fires, nest_agrees}
+use Rattle.sd_work.proofs.Flags.{both}
 
 -- what is pushed inside an owner is pushed into its own streams or is pushed outside
 inside_feeds : (W T : Feeds) → ((l c : ℕ) → T (suc l) c → W l c) → (l c : ℕ) → T l c → inside W l c
 inside_feeds W T h zero c t = tt
 inside_feeds W T h (suc l) c t = h l c t
-
--- one part more
-count_more : {P : Type 0} (pre : Terms P) (t : Term P) → count_of (◌⊕◌ pre (also t none)) ≡ suc (count_of pre)
-count_more none t = refl
-count_more (also u pre) t = ap suc (count_more pre t)
 
 -- of these parts, from this number on, the earlier feed no later ones that are not behind them
 abbrev Unfed : {P : Type 0} → Parts → (ℕ → ℕ → Bool) → (number : ℕ) → Terms P → Type 0
@@ -62,7 +57,7 @@ mutual
   all_done : {P : Type 0} (ts : Terms P) → all_finished ts ≡ true → (most : ℕ) (s : Memories) (n : ℕ) → big_parts ts most s n ≡ reached s n
   all_done none e d s n = refl
   all_done (also t ts) e d s n =
-      let h = both_parts (finished t) (all_finished ts) e in
+      let h = both (finished t) (all_finished ts) e in
       ap (λ o. and_then o (big_parts ts d)) (done_already t h.0 d s n) ∙ all_done ts h.1 d s n
 
 mutual

@@ -8,10 +8,11 @@ use Rattle.sd_work.specs.Moves.{Path, moves_in, moves, moves_of_parts}
 use Rattle.sd_work.specs.Fire.{fire, fire_part}
 use Rattle.sd_work.specs.Step.{Outcome, Done, Faulted, Spent}
 use Rattle.sd_work.specs.BigStep.{Reached, Coming, and_then}
-use Rattle.sd_work.proofs.Absorbing.{both_parts, both_true, or_left, stay}
+use Rattle.sd_work.proofs.Absorbing.{stay}
 use Rattle.sd_work.proofs.Finished.{moves-finished}
 use Rattle.sd_work.proofs.Fronts.{◌⊕◌, count_of, count_settled, lead, rest, list_front, length_apply, Apart, rest_again}
 use Rattle.sd_work.proofs.Leads.{front, Feeds, Within, Leads, FailsBy, FailsNow, Stops, Makes, Agrees}
+use Rattle.sd_work.proofs.Flags.{both, both_true, or_left, or_right, not_false}
 
 -- a term that is settled alike leads to the same
 leads_front : {P : Type 0} (W : Feeds) (j : ℕ) (t x : Term P) (s : Memories) (n : ℕ) (t' : Term P) (s' : Memories) (n' : ℕ) → front s t ≡ front s x → Leads W j x s n t' s' n' → Leads W j t s n t' s' n'
@@ -78,14 +79,6 @@ nothing_first : (k : ℕ) (b : Bool) → cond b (moves_in k []) [] ≡ []
 nothing_first k true = refl
 nothing_first k false = refl
 
-or_right : (a b : Bool) → b ≡ true → (a || b) ≡ true
-or_right true b e = refl
-or_right false b e = e
-
-not_false : (b : Bool) → b ≡ false → not b ≡ true
-not_false true e = cc
-not_false false e = refl
-
 -- no part is before itself or a part of a lower number
 not_before : (before : ℕ → ℕ → Bool) → IsOrder before → (j k : ℕ) → k ≤ j → before j k ≡ false
 not_before before o j k h = go (before j k) refl
@@ -102,7 +95,7 @@ prefix_moves : {P : Type 0} (before : ℕ → ℕ → Bool) (bs : List Bool) (k 
     moves_of_parts before bs k (◌⊕◌ pre ts) s ≡ moves_of_parts before bs (k + count_of pre) ts s
 prefix_moves before bs k none ts s e = let same : k ≡ k + 0 = omega arith in ap (λ w. moves_of_parts before bs w ts s) same
 prefix_moves before bs k (also t pre) ts s e =
-    let h = both_parts (finished t) (all_finished pre) e in
+    let h = both (finished t) (all_finished pre) e in
     let same : suc k + count_of pre ≡ k + suc (count_of pre) = omega arith in
     ap (λ ps. cond (is_ready before bs k) (moves_in k ps) [] ++ moves_of_parts before bs (suc k) (◌⊕◌ pre ts) s) (moves-finished t s h.0)
     ∙ ap (λ ps. ps ++ moves_of_parts before bs (suc k) (◌⊕◌ pre ts) s) (nothing_first k (is_ready before bs k))
@@ -118,7 +111,7 @@ ready_late before o j k (b ∷ bs) h =
 ready_prefix : {P : Type 0} (before : ℕ → ℕ → Bool) → IsOrder before → (j : ℕ) (pre ts : Terms P) → all_finished pre ≡ true → ready_from before j (flags_of (◌⊕◌ pre ts)) (j + count_of pre) ≡ true
 ready_prefix before o j none ts e = ready_late before o j (j + 0) (flags_of ts) (omega arith)
 ready_prefix before o j (also t pre) ts e =
-    let h = both_parts (finished t) (all_finished pre) e in
+    let h = both (finished t) (all_finished pre) e in
     let same : suc j + count_of pre ≡ j + suc (count_of pre) = omega arith in
     both_true (finished t || not (before j (j + suc (count_of pre)))) (ready_from before (suc j) (flags_of (◌⊕◌ pre ts)) (j + suc (count_of pre)))
     (or_left (finished t) (not (before j (j + suc (count_of pre)))) h.0)
@@ -269,9 +262,14 @@ plus_assoc (also q ts) t us = ap (also q) (plus_assoc ts t us)
 -- one finished part more
 pub plus_finished : {P : Type 0} (ts : Terms P) (t : Term P) → all_finished ts ≡ true → finished t ≡ true → all_finished (◌⊕◌ ts (also t none)) ≡ true
 plus_finished none t e f = both_true (finished t) true f refl
-plus_finished (also q ts) t e f = let h = both_parts (finished q) (all_finished ts) e in both_true (finished q) (all_finished (◌⊕◌ ts (also t none))) h.0 (plus_finished ts t h.1 f)
+plus_finished (also q ts) t e f = let h = both (finished q) (all_finished ts) e in both_true (finished q) (all_finished (◌⊕◌ ts (also t none))) h.0 (plus_finished ts t h.1 f)
 
 -- parts, and then no others
 pub plus_none : {P : Type 0} (ts : Terms P) → ◌⊕◌ ts none ≡ ts
 plus_none none = refl
 plus_none (also t ts) = ap (also t) (plus_none ts)
+
+-- one more part is one more
+pub count_more : {P : Type 0} (pre : Terms P) (t : Term P) → count_of (◌⊕◌ pre (also t none)) ≡ suc (count_of pre)
+count_more none t = refl
+count_more (also u pre) t = ap suc (count_more pre t)

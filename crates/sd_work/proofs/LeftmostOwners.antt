@@ -18,7 +18,7 @@ use Rattle.sd_work.specs.BigStep.{Reached, Coming, reached, and_then, spending, 
 use Rattle.sd_work.specs.Touch.{pushes, PendingTouches, SomePending}
 use Rattle.sd_work.proofs.Absorbing.{stays}
 use Rattle.sd_work.proofs.Changes.{apply-own}
-use Rattle.sd_work.proofs.Leads.{front, Feeds, Within, Leads, FailsBy, FailsNow, Stops, Agrees}
+use Rattle.sd_work.proofs.Leads.{front, Feeds, Within, Leads, FailsBy, FailsNow, Stops, Agrees, clear}
 use Rattle.sd_work.proofs.LeftmostLists.{agrees_then, agrees_less, leads_length, unfinished_of}
 
 -- a failure of the part is one of the owner
@@ -258,6 +258,15 @@ pub nest_fires : {P : Type 0} (body : ℕ → Values → Term P) (exits : ℕ �
 nest_fires body exits state values f t p ps s q =
     ap (λ b. cond b (transition body exits f (first_exit (exits state values) (f ∷ s))) (owned (λ g x. nested body exits g state values x) f (fire t p (f ∷ s)))) (unfinished_of t (f ∷ s) p ps q)
 
+-- a run whose state is finished has its transition as its one move
+pub exit_moves : {P : Type 0} (body : ℕ → Values → Term P) (exits : ℕ → Values → List (Exit P)) (state : ℕ) (values : Values) (f : Memory) (x : Term P) (s : Memories) → finished x ≡ true → moves (front s (nested body exits f state values x)) s ≡ [] ∷ []
+exit_moves body exits state values f x s e = ap (λ b. cond b ([] ∷ []) (moves (front (f ∷ s) x) (f ∷ s))) (stays true _ (f ∷ s) x e)
+
+-- and it goes by the first exit
+pub exit_fires : {P : Type 0} (body : ℕ → Values → Term P) (exits : ℕ → Values → List (Exit P)) (state : ℕ) (values : Values) (f : Memory) (x : Term P) (s : Memories) → finished x ≡ true →
+    (r : Result (Option (Exit P)) (Fault P)) → first_exit (exits state values) (f ∷ s) ≡ r → fire (front s (nested body exits f state values x)) [] s ≡ transition body exits f r
+exit_fires body exits state values f x s e r q = λ i. cond (stays true (clear (f ∷ s)) (f ∷ s) x e i) (transition body exits f (q i)) (owned (λ g y. nested body exits g state values y) f (fire (front (f ∷ s) x) [] (f ∷ s)))
+
 map_same : {P A : Type 0} (m : Move P A) → m ≡ map_move (λ x. x) m
 map_same (fails turn z) = refl
 map_same (goes turn u x) = refl
@@ -272,14 +281,11 @@ module _ {P : Type 0} (W : Feeds) (body : ℕ → Values → Term P) (exits : �
   nest_agrees zero up state values f x s n len e = (0, nested body exits f state values x, s, n, omega arith, (refl, refl, refl))
   nest_agrees (suc d) up state values f x s n len e = go (first_exit (exits state values) (f ∷ s)) refl (λ k v g y s' m l h. nest_agrees d (omega arith) k v g y s' m l h)
     where
-      e' : finished (front (f ∷ s) x) ≡ true
-      e' = stays true _ (f ∷ s) x e
-
       here : moves (front s (nested body exits f state values x)) s ≡ [] ∷ []
-      here = ap (λ b. cond b ([] ∷ []) (moves (front (f ∷ s) x) (f ∷ s))) e'
+      here = exit_moves body exits state values f x s e
 
       goes_by : (r : Result (Option (Exit P)) (Fault P)) → first_exit (exits state values) (f ∷ s) ≡ r → fire (front s (nested body exits f state values x)) [] s ≡ map_move (λ t. t) (transition body exits f r)
-      goes_by r q = (λ i. cond (e' i) (transition body exits f (q i)) (owned (λ g y. nested body exits g state values y) f (fire (front (f ∷ s) x) [] (f ∷ s)))) ∙ map_same (transition body exits f r)
+      goes_by r q = exit_fires body exits state values f x s e r q ∙ map_same (transition body exits f r)
 
       go : (r : Result (Option (Exit P)) (Fault P)) → first_exit (exits state values) (f ∷ s) ≡ r →
           ((k : ℕ) (v : Values) (g : Memory) (y : Term P) (s' : Memories) (m : ℕ) → length s' ≡ depth → finished y ≡ true → Agrees W d (nested body exits g k v y) s' m (leaving (big_states d run exits k v (g ∷ s') m))) →

@@ -9,11 +9,12 @@ use Rattle.sd_work.specs.Fire.{and_last, take_move, fire, fire_active}
 use Rattle.sd_work.specs.Settle.{is_empty, settle, settle_active}
 use Rattle.sd_work.specs.Step.{Outcome, Faulted, Spent, Done}
 use Rattle.sd_work.specs.BigStep.{Reached, Coming, and_then, after_oldest, big_takes}
-use Rattle.sd_work.proofs.Absorbing.{both_parts, both_true, stay_active}
+use Rattle.sd_work.proofs.Absorbing.{stay_active}
 use Rattle.sd_work.proofs.Finished.{moves-finished}
 use Rattle.sd_work.proofs.Fronts.{length_apply}
 use Rattle.sd_work.proofs.Leads.{clear, front, Feeds, Leads, FailsBy, FailsNow, Stops, Agrees}
 use Rattle.sd_work.proofs.LeftmostLists.{leads_length, agrees_then, agrees_less, fails_map, map_twice, unfinished_of}
+use Rattle.sd_work.proofs.Flags.{both, both_true, and_false}
 
 -- active terms, and then others
 abbrev pub ◌⊞◌ : {P : Type 0} → Actives P → Actives P → Actives P
@@ -21,7 +22,7 @@ abbrev pub ◌⊞◌ : {P : Type 0} → Actives P → Actives P → Actives P
 ◌⊞◌ (busy v t a) b = busy v t (◌⊞◌ a b)
 
 -- how many they are
-abbrev count_active : {P : Type 0} → Actives P → ℕ
+abbrev pub count_active : {P : Type 0} → Actives P → ℕ
 count_active idle = 0
 count_active (busy v t a) = suc (count_active a)
 
@@ -38,11 +39,7 @@ join_idle (busy v t a) = ap (busy v t) (join_idle a)
 -- one finished active term more
 pub join_finished : {P : Type 0} (a : Actives P) (v : ℤ) (t : Term P) → none_active a ≡ true → finished t ≡ true → none_active (◌⊞◌ a (busy v t idle)) ≡ true
 join_finished idle v t e f = both_true (finished t) true f refl
-join_finished (busy w q a) v t e f = let h = both_parts (finished q) (none_active a) e in both_true (finished q) (none_active (◌⊞◌ a (busy v t idle))) h.0 (join_finished a v t h.1 f)
-
-and_false : (a b : Bool) → b ≡ false → (a && b) ≡ false
-and_false true b e = e
-and_false false b e = refl
+join_finished (busy w q a) v t e f = let h = both (finished q) (none_active a) e in both_true (finished q) (none_active (◌⊞◌ a (busy v t idle))) h.0 (join_finished a v t h.1 f)
 
 join_unfinished : {P : Type 0} (a : Actives P) (v : ℤ) (t : Term P) → finished t ≡ false → none_active (◌⊞◌ a (busy v t idle)) ≡ false
 join_unfinished idle v t e = ap (λ b. b && true) e
@@ -60,7 +57,7 @@ last_joined (busy w q a) v t = ap (busy w q) (last_joined a v t)
 active_moves : {P : Type 0} (n : ℕ) (a b : Actives P) (s : Memories) → none_active a ≡ true → moves_of_active n (◌⊞◌ a b) s ≡ moves_of_active (n + count_active a) b s
 active_moves n idle b s e = let same : n ≡ n + 0 = omega arith in ap (λ k. moves_of_active k b s) same
 active_moves n (busy v t a) b s e =
-    let h = both_parts (finished t) (none_active a) e in
+    let h = both (finished t) (none_active a) e in
     let same : suc n + count_active a ≡ n + suc (count_active a) = omega arith in
     ap (λ ps. moves_in n ps ++ moves_of_active (suc n) (◌⊞◌ a b) s) (moves-finished t s h.0)
     ∙ active_moves (suc n) a b s h.1 ∙ ap (λ k. moves_of_active k b s) same

@@ -1,5 +1,5 @@
 -- Leftmost moves are those of a run without picks.
-use Rattle.std.proofs.Common.{◌≡◌, ℕ, zero, suc, ◌+◌, ◌≤◌, ◌%◌, List, [], ◌∷◌, length, Some, None, Bool, true, false, refl, ap, sym, subst, ◌∙◌, arith, slice_index_or}
+use Rattle.std.proofs.Common.{◌≡◌, ℕ, zero, suc, ◌+◌, ◌≤◌, ◌%◌, List, [], ◌∷◌, length, Some, None, Bool, true, false, refl, ap, sym, subst, ◌∙◌, arith, slice_index_or, drop}
 use Rattle.sd_work.specs.Memory.{Memories}
 use Rattle.sd_work.specs.Change.{Change, nothing, write, push, take, apply}
 use Rattle.sd_work.specs.Move.{Fault, Move, fails, goes, no_move}
@@ -10,6 +10,7 @@ use Rattle.sd_work.specs.Settle.{settled}
 use Rattle.sd_work.specs.Step.{Machine, Done, Faulted, Spent, moved, step}
 use Rattle.sd_work.specs.Run.{go_on, run_by, run}
 use Rattle.sd_work.proofs.Leads.{front, Pays, Feeds, Leads, FailsBy, FailsNow, Stops}
+use Rattle.sd_work.proofs.Paths.{chosen}
 
 -- a machine with this term, settled or not
 abbrev pub machine : {P : Type 0} → Term P → ℕ → Machine P
@@ -28,11 +29,17 @@ leads-nothing W (suc k) t n t' s' n' a = leads-nothing W k a.5 a.6 t' s' n' (sub
 first_is_chosen : (p : Path) (ps : List Path) → slice_index_or (p ∷ ps) (0 % length (p ∷ ps)) p ≡ p
 first_is_chosen p ps = let h : 0 % suc (length ps) ≡ 0 = omega arith in ap (λ k. slice_index_or (p ∷ ps) k p) h
 
+-- the move that a pick chooses is made
+pub one_move : {P : Type 0} (k n b : ℕ) (t : Term P) (picks : List ℕ) (p : Path) (ps : List Path) → moves t [] ≡ p ∷ ps → (w : Path) → w ≡ chosen picks p ps → (m : Move P (Term P)) → fire t w [] ≡ m → n ≡ b →
+    run (suc k) picks (machine t n) ≡ go_on (moved (machine t b) m) (run k (drop 1 picks))
+one_move k n b t picks p ps q w d m e c =
+    ap (λ l. run_by l picks (machine t n) (run k (drop 1 picks))) q
+    ∙ ap (λ v. go_on (step v (machine t n)) (run k (drop 1 picks))) (sym d)
+    ∙ (λ i. go_on (moved (machine t (c i)) (e i)) (run k (drop 1 picks)))
+
 -- without picks the first move is made
 first_move : {P : Type 0} (k : ℕ) (t : Term P) (n : ℕ) (p : Path) (ps : List Path) → moves t [] ≡ p ∷ ps → run (suc k) [] (machine t n) ≡ go_on (moved (machine t n) (fire t p [])) (run k [])
-first_move k t n p ps q =
-    ap (λ paths. run_by paths [] (machine t n) (run k [])) q
-    ∙ ap (λ w. go_on (step w (machine t n)) (run k [])) (first_is_chosen p ps)
+first_move k t n p ps q = one_move k n n t [] p ps q p (sym (first_is_chosen p ps)) (fire t p []) refl refl
 
 -- a move that goes on, and what is left is settled
 pub moves_on : {P : Type 0} (t : Term P) (n m : ℕ) (b : Bool) (u : Change) (y x : Term P) → Pays b n m → settled y ≡ x → moved (machine t n) (goes b u y) ≡ Done (machine x m)

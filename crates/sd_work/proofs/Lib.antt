@@ -1,3 +1,6 @@
+pub mod Flags
+pub mod Leaving
+pub mod Paths
 pub mod Changes
 pub mod ExampleParts
 pub mod ChangeExamples

@@ -1,5 +1,5 @@
 -- At the place of each next move there is a move.
-use Rattle.std.proofs.Common.{◌≡◌, ℕ, zero, suc, ◌+◌, ℤ, List, [], ◌∷◌, ◌++◌, Option, Some, None, Result, Ok, Err, Bool, true, false, cond, not, refl, sym, ◌∙◌, ap, subst, arith, slice_index_or, slice_get}
+use Rattle.std.proofs.Common.{◌≡◌, ℕ, suc, ◌+◌, ℤ, List, [], ◌∷◌, ◌++◌, Option, Some, None, Result, Ok, Err, Bool, true, false, cond, not, refl, sym, ◌∙◌, ap, subst, arith, slice_get}
 use Rattle.std.specs.Bool.{⊤}
 use Rattle.sd_work.specs.declared.fault.FaultKind.{FaultKind}
 use Rattle.sd_work.specs.Memory.{Memory, Memories, Reference, seen, waiting}
@@ -11,6 +11,7 @@ use Rattle.sd_work.specs.Residual.{Term, leaf, list, owning, nested, ended, pool
 use Rattle.sd_work.specs.Moves.{Path, moves_in, takes_from, moves, moves_of_parts, moves_of_active}
 use Rattle.sd_work.specs.Fire.{owned, transition, take_move, fire, fire_part, fire_active}
 use Rattle.sd_work.proofs.LeftmostOwners.{effect_some}
+use Rattle.sd_work.proofs.Paths.{AllOf, all_more, all_append, all_in, all_if, all_unless}
 
 -- there is a move
 abbrev pub IsMove : {P A : Type 0} → Move P A → Type 0
@@ -45,36 +46,6 @@ is_read place turn (Some v) left values evaluation = tt
 is_evaluated : {P : Type 0} (place : P) (turn : Bool) (r : Result (List Pending) FaultKind) → IsMove (evaluation_move place turn r)
 is_evaluated place turn (Err kind) = tt
 is_evaluated place turn (Ok effects) = tt
-
--- what holds of each path of a list
-abbrev pub AllOf : (Path → Type 0) → List Path → Type 0
-AllOf T [] = ⊤
-AllOf T (p ∷ ps) = T p × AllOf T ps
-
-all_more : (T U : Path → Type 0) → ((p : Path) → T p → U p) → (ps : List Path) → AllOf T ps → AllOf U ps
-all_more T U h [] a = tt
-all_more T U h (p ∷ ps) a = (h p a.0, all_more T U h ps a.1)
-
-all_append : (T : Path → Type 0) (ps qs : List Path) → AllOf T ps → AllOf T qs → AllOf T (ps ++ qs)
-all_append T [] qs a b = b
-all_append T (p ∷ ps) qs a b = (a.0, all_append T ps qs a.1 b)
-
-all_in : (T : Path → Type 0) (k : ℕ) (ps : List Path) → AllOf (λ p. T (k ∷ p)) ps → AllOf T (moves_in k ps)
-all_in T k [] a = tt
-all_in T k (p ∷ ps) a = (a.0, all_in T k ps a.1)
-
-all_if : (T : Path → Type 0) (b : Bool) (ps : List Path) → AllOf T ps → AllOf T (cond b ps [])
-all_if T true ps a = a
-all_if T false ps a = tt
-
-pub all_at : (T : Path → Type 0) (d : Path) (k : ℕ) (ps : List Path) → T d → AllOf T ps → T (slice_index_or ps k d)
-all_at T d k [] h a = h
-all_at T d zero (p ∷ ps) h a = a.0
-all_at T d (suc k) (p ∷ ps) h a = all_at T d k ps h a.1
-
-all_unless : (T : Path → Type 0) (b : Bool) (ps : List Path) → AllOf T ps → AllOf T (cond b [] ps)
-all_unless T true ps a = tt
-all_unless T false ps a = a
 
 -- at the place of a next move there is a move
 abbrev pub MovesAt : {P : Type 0} → Term P → Memories → Path → Type 0
@@ -154,8 +125,8 @@ mutual
       let at : ℕ → Path → Move P (Terms P) = λ i p. fire_part (also t ts) i p s in
       let later : ℕ → Path → Move P (Terms P) = λ i p. fire_part ts i p s in
       all_append (CountedAt k at) (cond (is_ready before flags k) (moves_in k (moves t s)) []) (moves_of_parts before flags (suc k) ts s)
-      (all_if (CountedAt k at) (is_ready before flags k) (moves_in k (moves t s))
-      (all_in (CountedAt k at) k (moves t s)
+      (all_if (CountedAt k at) (is_ready before flags k) (moves_in k (moves t s)) (λ r.
+      all_in (CountedAt k at) k (moves t s)
       (all_more (MovesAt t s) (λ p. CountedAt k at (k ∷ p)) (λ p c. first_counted k at p (is_mapped (λ x. also x ts) (fire t p s) c)) (moves t s) (all_move t s))))
       (all_more (CountedAt (suc k) later) (CountedAt k at) (later_counted k at later (λ i p c. is_mapped (λ x. also t x) (fire_part ts i p s) c)) (moves_of_parts before flags (suc k) ts s) (all_counted before flags (suc k) ts s))
 
