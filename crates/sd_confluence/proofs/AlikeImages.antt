@@ -64,6 +64,6 @@ memory_image (pool level container body active closed) = refl
 pub left-alike : {P : Type 0} (m x : Machine P) → engine m.term m.turns ≡ engine x.term x.turns → LeaveAlike (left_of m) (left_of x)
 left-alike m x e =
     record {
-      memories = frame-alike (memory_of m.term) (memory_of x.term) (memory_image m.term ∙ ap (λ w. frame_of_work w.work) e ∙ sym (memory_image x.term));
+      memory = frame-alike (memory_of m.term) (memory_of x.term) (memory_image m.term ∙ ap (λ w. frame_of_work w.work) e ∙ sym (memory_image x.term));
       turns = ap (λ w. w.turns) e;
     }

@@ -7,7 +7,7 @@ use Rattle.sd_work.specs.Change.{Change, nothing, write, changed_at, with_elemen
 use Rattle.sd_work.specs.Harmless.{SparesElement}
 use Rattle.sd_work.specs.Touch.{writes, pushes, takes, AreCompatible}
 use Rattle.sd_work.proofs.Changes.{changed_at-changed_at, same_reference, written-written, look-apply}
-use Rattle.sd_confluence.specs.Alike.{same_value}
+use Rattle.std.specs.Ordering.{int_eq}
 use Rattle.sd_confluence.proofs.BagMemory.{Holding, cells, bag, Frame, Stack, nth, on_cells, on_bag, add_one_of, drop_one_of, count_in, held, plain_holding, plain_frame, plain, Update, keep, put, add, remove, updated, outer_put, outer_update, own_update}
 
 -- what is seen of a place is kept by a change elsewhere, and by one that keeps what is seen
@@ -33,7 +33,7 @@ bags_comm f g h (cells elements) = refl
 bags_comm f g h (bag count) = ap bag (h count)
 
 add_add : (v w : ℤ) (f : ℤ → ℕ) → add_one_of v (add_one_of w f) ≡ add_one_of w (add_one_of v f)
-add_add v w f = λ i x. go (same_value v x) (same_value w x) (f x) i
+add_add v w f = λ i x. go (int_eq v x) (int_eq w x) (f x) i
   where
     go : (a b : Bool) (n : ℕ) → cond a (suc (cond b (suc n) n)) (cond b (suc n) n) ≡ cond b (suc (cond a (suc n) n)) (cond a (suc n) n)
     go true true n = refl
@@ -42,7 +42,7 @@ add_add v w f = λ i x. go (same_value v x) (same_value w x) (f x) i
     go false false n = refl
 
 drop_drop : (v w : ℤ) (f : ℤ → ℕ) → drop_one_of v (drop_one_of w f) ≡ drop_one_of w (drop_one_of v f)
-drop_drop v w f = λ i x. go (same_value v x) (same_value w x) (f x) i
+drop_drop v w f = λ i x. go (int_eq v x) (int_eq w x) (f x) i
   where
     go : (a b : Bool) (n : ℕ) → cond a (pred (cond b (pred n) n)) (cond b (pred n) n) ≡ cond b (pred (cond a (pred n) n)) (cond a (pred n) n)
     go true true n = refl
@@ -179,18 +179,18 @@ held_kept l c w (add m d x) h s =
 held_kept l c w (remove m d x) h s =
     nth_at [] (λ f. count_in (nth (cells []) c f) w) l m _ (λ e f. nth_at (cells []) (λ k. count_in k w) c d _ (λ e' k. elim (h e e') [ ]) f) s
 
-count_other : (v w : ℤ) → same_value v w ≡ false → (k : Holding) → count_in (on_bag (drop_one_of v) k) w ≡ count_in k w
+count_other : (v w : ℤ) → int_eq v w ≡ false → (k : Holding) → count_in (on_bag (drop_one_of v) k) w ≡ count_in k w
 count_other v w e (cells elements) = refl
 count_other v w e (bag count) = ap (λ b. cond b (pred (count w)) (count w)) e
 
 -- taking one value leaves the others
-pub held_other : (l c m d : ℕ) (v w : ℤ) → same_value v w ≡ false → (s : Stack) → held l c w (updated (remove m d v) s) ≡ held l c w s
+pub held_other : (l c m d : ℕ) (v w : ℤ) → int_eq v w ≡ false → (s : Stack) → held l c w (updated (remove m d v) s) ≡ held l c w s
 held_other l c m d v w h s =
     nth_at [] (λ f. count_in (nth (cells []) c f) w) l m _ (λ e f. nth_at (cells []) (λ k. count_in k w) c d _ (λ e' k. count_other v w h k) f) s
 
 count_up : (v w : ℤ) (k : Holding) (n : ℕ) → count_in k w ≡ suc n → (m : ℕ) × (count_in (on_bag (add_one_of v) k) w ≡ suc m)
 count_up v w (cells elements) n e = cc
-count_up v w (bag count) n e = go (same_value v w)
+count_up v w (bag count) n e = go (int_eq v w)
   where
     go : (b : Bool) → (m : ℕ) × (cond b (suc (count w)) (count w) ≡ suc m)
     go true = (suc n, ap suc e)

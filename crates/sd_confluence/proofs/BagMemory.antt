@@ -4,7 +4,7 @@ use Rattle.sd_num.specs.Wrapped.{wrapped}
 use Rattle.sd_num.specs.declared.resolution.Resolution.{Resolution}
 use Rattle.sd_work.specs.Memory.{Contents, array, stream, Memory, Memories, Reference}
 use Rattle.sd_work.specs.Change.{Change, nothing, write, push, take, written, changed_at}
-use Rattle.sd_confluence.specs.Alike.{same_value}
+use Rattle.std.specs.Ordering.{int_eq}
 
 pub data Holding : Type 0 where
   cells : (elements : List ℤ) → Holding
@@ -31,10 +31,10 @@ on_bag f (cells elements) = cells elements
 on_bag f (bag count) = bag (f count)
 
 abbrev pub add_one_of : ℤ → (ℤ → ℕ) → ℤ → ℕ
-add_one_of v f w = cond (same_value v w) (suc (f w)) (f w)
+add_one_of v f w = cond (int_eq v w) (suc (f w)) (f w)
 
 abbrev pub drop_one_of : ℤ → (ℤ → ℕ) → ℤ → ℕ
-drop_one_of v f w = cond (same_value v w) (pred (f w)) (f w)
+drop_one_of v f w = cond (int_eq v w) (pred (f w)) (f w)
 
 abbrev pub count_in : Holding → ℤ → ℕ
 count_in (cells elements) v = 0

@@ -5,7 +5,8 @@ use Rattle.sd_work.specs.Exit.{first_exit}
 use Rattle.sd_work.specs.Residual.{Term, leaf, list, owning, nested, ended, pool, Terms, none, also, Actives, idle, busy, finished, all_finished, none_active, flags_of, is_ready}
 use Rattle.sd_work.specs.Moves.{Path}
 use Rattle.sd_work.proofs.Flags.{and_false}
-use Rattle.sd_confluence.specs.Alike.{same_value, how_often}
+use Rattle.std.specs.Ordering.{int_eq}
+use Rattle.sd_confluence.specs.Alike.{how_often}
 use Rattle.sd_confluence.proofs.Values.{same-refl}
 use Rattle.sd_confluence.proofs.BagMemory.{Stack, keep, plain}
 use Rattle.sd_confluence.proofs.Works.{group, scope, nest, basin, and_work, is_over, Route, part_number, acting, closing, makes, map_answer, follow, owned_answer, put_active, act, act_at, Can, CanAt, CanHere}
@@ -130,21 +131,21 @@ mutual
   closing-can_active idle k p s v e c = elim c [ ]
   closing-can_active (busy x t ts) zero p s v e c =
       let h : x ≡ v = cc in
-      subst (λ b. CanAt (cond b (and_work (work_of t) (active_of ts v)) (active_of ts v)) 0 (closing_route t p) (stack_of s)) (sym (ap (λ z. same_value z v) h ∙ same-refl v)) (closing-can t p s c)
-  closing-can_active (busy x t ts) (suc k) p s v e c = can_put (same_value x v) (active_of ts v) (work_of t) (number_at ts v k) (closing_active ts k p) (stack_of s) (closing-can_active ts k p s v e c)
+      subst (λ b. CanAt (cond b (and_work (work_of t) (active_of ts v)) (active_of ts v)) 0 (closing_route t p) (stack_of s)) (sym (ap (λ z. int_eq z v) h ∙ same-refl v)) (closing-can t p s c)
+  closing-can_active (busy x t ts) (suc k) p s v e c = can_put (int_eq x v) (active_of ts v) (work_of t) (number_at ts v k) (closing_active ts k p) (stack_of s) (closing-can_active ts k p s v e c)
 
 -- the active works of other values stay
-others : {P : Type 0} (ts : Actives P) (k : ℕ) (p : Path) (v : ℤ) → value_at ts k ≡ Some v → (w : ℤ) → same_value v w ≡ false → active_of (close_active ts k p) w ≡ active_of ts w
+others : {P : Type 0} (ts : Actives P) (k : ℕ) (p : Path) (v : ℤ) → value_at ts k ≡ Some v → (w : ℤ) → int_eq v w ≡ false → active_of (close_active ts k p) w ≡ active_of ts w
 others idle k p v e w d = refl
 others (busy x t ts) zero p v e w d =
     let h : x ≡ v = cc in
-    let f : same_value x w ≡ false = ap (λ y. same_value y w) h ∙ d in
+    let f : int_eq x w ≡ false = ap (λ y. int_eq y w) h ∙ d in
     ap (λ b. cond b (and_work (work_of (close t p)) (active_of ts w)) (active_of ts w)) f
     ∙ sym (ap (λ b. cond b (and_work (work_of t) (active_of ts w)) (active_of ts w)) f)
-others (busy x t ts) (suc k) p v e w d = ap (λ us. cond (same_value x w) (and_work (work_of t) us) us) (others ts k p v e w d)
+others (busy x t ts) (suc k) p v e w d = ap (λ us. cond (int_eq x w) (and_work (work_of t) us) us) (others ts k p v e w d)
 
 pool_acts : {P : Type 0} (l c : ℕ) (body : ℤ → Term P) (active xs : Actives P) (closed : Bool) (o : Option ℤ) (i : ℤ → ℕ) (q : Route) (s : Stack) (v : ℤ) → o ≡ Some v →
-    act_at (active_of active v) (i v) q s ≡ makes false keep (active_of xs v) → ((w : ℤ) → same_value v w ≡ false → active_of xs w ≡ active_of active w) →
+    act_at (active_of active v) (i v) q s ≡ makes false keep (active_of xs v) → ((w : ℤ) → int_eq v w ≡ false → active_of xs w ≡ active_of active w) →
     act (work_of (pool l c body active closed)) (named o (λ w. acting w (i w) ∷ q)) s ≡ makes false keep (work_of (pool l c body xs closed))
 pool_acts l c body active xs closed None i q s v e a h = cc
 pool_acts l c body active xs closed (Some x) i q s v e a h =
@@ -181,13 +182,13 @@ mutual
   closing-acts_active idle k p s v e c = elim c [ ]
   closing-acts_active (busy x t ts) zero p s v e c =
       let h : x ≡ v = cc in
-      go (same_value x v) (ap (λ z. same_value z v) h ∙ same-refl v) (closing-acts t p s c)
+      go (int_eq x v) (ap (λ z. int_eq z v) h ∙ same-refl v) (closing-acts t p s c)
     where
       go : (b : Bool) → b ≡ true → act (work_of t) (closing_route t p) (stack_of s) ≡ makes false keep (work_of (close t p)) →
           act_at (cond b (and_work (work_of t) (active_of ts v)) (active_of ts v)) 0 (closing_route t p) (stack_of s) ≡ makes false keep (cond b (and_work (work_of (close t p)) (active_of ts v)) (active_of ts v))
       go true d a = ap (map_answer (λ x. and_work x (active_of ts v))) a
       go false d a = cc
-  closing-acts_active (busy x t ts) (suc k) p s v e c = go (same_value x v) (closing-acts_active ts k p s v e c)
+  closing-acts_active (busy x t ts) (suc k) p s v e c = go (int_eq x v) (closing-acts_active ts k p s v e c)
     where
       go : (b : Bool) → act_at (active_of ts v) (number_at ts v k) (closing_active ts k p) (stack_of s) ≡ makes false keep (active_of (close_active ts k p) v) →
           act_at (cond b (and_work (work_of t) (active_of ts v)) (active_of ts v)) (cond b (suc (number_at ts v k)) (number_at ts v k)) (closing_active ts k p) (stack_of s)

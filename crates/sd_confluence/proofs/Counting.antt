@@ -8,10 +8,11 @@ use Rattle.sd_work.specs.Moves.{Path}
 use Rattle.sd_work.specs.Fire.{owned, and_last, take_move, fire, fire_active}
 use Rattle.sd_work.specs.Settle.{settle_active, settled}
 use Rattle.sd_work.specs.Step.{Machine, Outcome, Done, moved, step}
-use Rattle.sd_work.specs.Touch.{Touch, takes, Touches, SomeActive}
+use Rattle.sd_work.specs.Touch.{Touch, takes, Touches, SomeActiveTouches}
 use Rattle.sd_work.proofs.Leaving.{Leaves}
 use Rattle.sd_work.proofs.Paths.{chosen}
-use Rattle.sd_confluence.specs.Alike.{same_value, how_often}
+use Rattle.std.specs.Ordering.{int_eq}
+use Rattle.sd_confluence.specs.Alike.{how_often}
 use Rattle.sd_confluence.specs.Safe.{PoolTouches}
 use Rattle.sd_confluence.specs.Event.{Event, pushed_if, taken_if, event_of, event_of_move, event_at, events_on, events_by, events, values_pushed, values_taken}
 use Rattle.sd_confluence.proofs.Works.{Works, no_works, and_work}
@@ -38,7 +39,7 @@ works_number (and_work t ts) = suc (works_number ts)
 -- a value is worked on as often as the image has works of it
 pub values-image : {P : Type 0} (active : Actives P) (v : ℤ) → how_often (values_in active) v ≡ works_number (active_of active v)
 values-image idle v = refl
-values-image {P} (busy w t ts) v = ap (λ n. cond (same_value w v) (suc n) n) (values-image ts v) ∙ go (same_value w v) (active_of ts v)
+values-image {P} (busy w t ts) v = ap (λ n. cond (int_eq w v) (suc n) n) (values-image ts v) ∙ go (int_eq w v) (active_of ts v)
   where
     go : (b : Bool) (us : Works P) → cond b (suc (works_number us)) (works_number us) ≡ works_number (cond b (and_work (work_of t) us) us)
     go true us = refl
@@ -62,12 +63,12 @@ values_settled may_go cleared s (busy w t ts) = ap (λ xs. w ∷ xs) (values_set
 abbrev pub NoTake : {P : Type 0} → Actives P → (ℤ → Term P) → Type 0
 NoTake active body = (level other : ℕ) → PoolTouches body active (takes level other) → ⊥
 
-no_take_more : {P : Type 0} (active left : Actives P) (body : ℤ → Term P) → ((a : Touch) → SomeActive left a → PoolTouches body active a) → NoTake active body → NoTake left body
+no_take_more : {P : Type 0} (active left : Actives P) (body : ℤ → Term P) → ((a : Touch) → SomeActiveTouches left a → PoolTouches body active a) → NoTake active body → NoTake left body
 no_take_more active left body h free l c t = free l c (elim t [ inl x ↦ h (takes l c) x | inr x ↦ inr x ])
 
 -- a move of an active term takes from what these touch, keeps their values, and leaves ones that touch no more
 abbrev Acted : {P : Type 0} → Actives P → Change → Actives P → Type 0
-Acted active u left = TakesOf u (SomeActive active) × (values_in left ≡ values_in active) × AtMostActive active left
+Acted active u left = TakesOf u (SomeActiveTouches active) × (values_in left ≡ values_in active) × AtMostActive active left
 
 with_left : {P : Type 0} (t : Term P) (m : Move P (Term P)) → Changes (λ u x. TakesOf u (Touches t)) m → Leaves (TouchesAtMost t) m → Changes (λ u x. TakesOf u (Touches t) × TouchesAtMost t x) m
 with_left t (fails turn fault) g h = tt
@@ -78,11 +79,11 @@ acted : {P : Type 0} (ts : Actives P) (k : ℕ) (p : Path) (s : Memories) → Ch
 acted idle k p s = tt
 acted (busy v t ts) zero p s =
     changes_map (λ x. busy v x ts) (λ u x. TakesOf u (Touches t) × TouchesAtMost t x) (Acted (busy v t ts))
-    (λ u x g. (takes_more u (Touches t) (SomeActive (busy v t ts)) (λ a y. inl y) g.0, refl, λ a h. elim h [ inl y ↦ inl (g.1 a y) | inr y ↦ inr y ]))
+    (λ u x g. (takes_more u (Touches t) (SomeActiveTouches (busy v t ts)) (λ a y. inl y) g.0, refl, λ a h. elim h [ inl y ↦ inl (g.1 a y) | inr y ↦ inr y ]))
     (fire t p s) (with_left t (fire t p s) (takes-touched t p s) (touches-kept t p s))
 acted (busy v t ts) (suc k) p s =
     changes_map (busy v t) (Acted ts) (Acted (busy v t ts))
-    (λ u x g. (takes_more u (SomeActive ts) (SomeActive (busy v t ts)) (λ a y. inr y) g.0, ap (λ xs. v ∷ xs) g.1, λ a h. elim h [ inl y ↦ inl y | inr y ↦ inr (g.2 a y) ]))
+    (λ u x g. (takes_more u (SomeActiveTouches ts) (SomeActiveTouches (busy v t ts)) (λ a y. inr y) g.0, ap (λ xs. v ∷ xs) g.1, λ a h. elim h [ inl y ↦ inl y | inr y ↦ inr (g.2 a y) ]))
     (fire_active ts k p s) (acted ts k p s)
 
 -- ---- one pool in its memory
@@ -158,7 +159,7 @@ none_grows container active left es h same st v =
     none_taken _ _ (ap (λ xs. how_often xs v) (h st)) ∙ ap (λ xs. cond (eqb st container) (how_often xs v) 0) (sym same)
 
 -- a move of an active term takes nothing from the owner's streams
-other_grows : {P : Type 0} (own : Memory) (container : ℕ) (body : ℤ → Term P) (active left : Actives P) (u : Change) → NoTake active body → TakesOf u (SomeActive active) → values_in left ≡ values_in active →
+other_grows : {P : Type 0} (own : Memory) (container : ℕ) (body : ℤ → Term P) (active left : Actives P) (u : Change) → NoTake active body → TakesOf u (SomeActiveTouches active) → values_in left ≡ values_in active →
     WorkGrows container active left (event_of own u)
 other_grows own container body active left nothing free g same = none_grows container active left [] (λ st. refl) same
 other_grows own container body active left (write to by value) free g same = none_grows container active left [] (λ st. refl) same

@@ -2,7 +2,7 @@
 use Rattle.std.proofs.Common.{◌≡◌, ℕ, zero, suc, pred, [], ◌∷◌, ℤ, Bool, true, false, refl, sym, ◌∙◌, ap, subst, inl, inr, ◌⊎◌}
 use Rattle.sd_work.specs.Step.{Outcome, Done, Faulted, Spent}
 use Rattle.sd_work.proofs.Leads.{Pays}
-use Rattle.sd_confluence.specs.Alike.{same_value}
+use Rattle.std.specs.Ordering.{int_eq}
 use Rattle.sd_confluence.proofs.Values.{same-true, same-refl}
 use Rattle.sd_confluence.proofs.BagMemory.{Update, keep, put, add, remove, updated}
 use Rattle.sd_confluence.proofs.Works.{Work, Hop, part_number, taking, acting, closing, Route, Answer, stops, makes, no_answer, act, Can}
@@ -87,11 +87,11 @@ alike_number (suc m) zero = inr (λ e. cc)
 alike_number (suc m) (suc n) = elim (alike_number m n) [ inl e ↦ inl (ap suc e) | inr f ↦ inr (λ e. f (ap pred e)) ]
 
 alike_value : (v w : ℤ) → (v ≡ w) ⊎ (v ≡ w → ⊥)
-alike_value v w = go (same_value v w) refl
+alike_value v w = go (int_eq v w) refl
   where
-    go : (b : Bool) → same_value v w ≡ b → (v ≡ w) ⊎ (v ≡ w → ⊥)
+    go : (b : Bool) → int_eq v w ≡ b → (v ≡ w) ⊎ (v ≡ w → ⊥)
     go true e = inl (same-true v w e)
-    go false e = inr (λ f. let bad : true ≡ false = sym (same-refl v) ∙ ap (same_value v) f ∙ e in cc)
+    go false e = inr (λ f. let bad : true ≡ false = sym (same-refl v) ∙ ap (int_eq v) f ∙ e in cc)
 
 alike_hop : (a b : Hop) → (a ≡ b) ⊎ (a ≡ b → ⊥)
 alike_hop (part_number k) (part_number l) = elim (alike_number k l) [ inl e ↦ inl (ap part_number e) | inr f ↦ inr (λ e. f (cc)) ]

@@ -5,7 +5,8 @@ use Rattle.sd_work.specs.Change.{Change, nothing, write, push, take}
 use Rattle.sd_work.specs.Leaf.{is_done}
 use Rattle.sd_work.specs.Residual.{Term, leaf, list, owning, nested, ended, pool, Terms, none, also, Actives, idle, busy, finished, flags_of, is_ready}
 use Rattle.sd_work.specs.Moves.{Path}
-use Rattle.sd_confluence.specs.Alike.{same_value, how_often}
+use Rattle.std.specs.Ordering.{int_eq}
+use Rattle.sd_confluence.specs.Alike.{how_often}
 use Rattle.sd_confluence.proofs.BagMemory.{Holding, cells, bag, Frame, Stack, Update, keep, remove, update_by}
 use Rattle.sd_confluence.proofs.Works.{Work, thread, group, scope, nest, over, basin, Works, no_works, and_work, part_number, taking, acting, Route}
 
@@ -48,7 +49,7 @@ abbrev mutual
 
   pub active_of : {P : Type 0} → Actives P → ℤ → Works P
   active_of idle w = no_works
-  active_of (busy v part active) w = cond (same_value v w) (and_work (work_of part) (active_of active w)) (active_of active w)
+  active_of (busy v part active) w = cond (int_eq v w) (and_work (work_of part) (active_of active w)) (active_of active w)
 
 -- the value of the k-th active term, and its number among those of a value
 abbrev pub value_at : {P : Type 0} → Actives P → ℕ → Option ℤ
@@ -59,7 +60,7 @@ value_at (busy v part active) (suc k) = value_at active k
 abbrev pub number_at : {P : Type 0} → Actives P → ℤ → ℕ → ℕ
 number_at idle v k = 0
 number_at (busy w part active) v zero = 0
-number_at (busy w part active) v (suc k) = cond (same_value w v) (suc (number_at active v k)) (number_at active v k)
+number_at (busy w part active) v (suc k) = cond (int_eq w v) (suc (number_at active v k)) (number_at active v k)
 
 abbrev pub named : Option ℤ → (ℤ → Route) → Route
 named None f = []

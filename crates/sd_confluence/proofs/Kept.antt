@@ -9,10 +9,10 @@ use Rattle.sd_work.specs.Exit.{first_exit}
 use Rattle.sd_work.specs.Residual.{Term, leaf, list, owning, nested, ended, pool, Terms, none, also, part_at, Actives, idle, busy, finished}
 use Rattle.sd_work.specs.Moves.{Path}
 use Rattle.sd_work.specs.Fire.{and_last, fire, fire_part, fire_active}
-use Rattle.sd_work.specs.Touch.{Touch, takes, inner, LeafTouches, Touches, SomePart, SomeActive}
+use Rattle.sd_work.specs.Touch.{Touch, takes, inner, LeafTouches, Touches, SomePartTouches, SomeActiveTouches}
 use Rattle.sd_work.specs.WellFormed.{IsOrdered, AreOrdered, AreActiveOrdered}
 use Rattle.sd_work.proofs.Leaving.{Leaves, leaves_any, leaves_map, leaves_so, leaves_both, leaves_owned, leaves_cond, leaves_transition, leaves_take}
-use Rattle.sd_confluence.specs.Safe.{TakesNothing}
+use Rattle.sd_confluence.specs.Safe.{TakesNothingOutside}
 use Rattle.sd_confluence.proofs.Waits.{Waits, AllWait, ActiveWait}
 
 ordered_last : {P : Type 0} (active : Actives P) (v : ℤ) (t : Term P) → AreActiveOrdered active → IsOrdered t → AreActiveOrdered (and_last active v t)
@@ -56,7 +56,7 @@ abbrev AtMostParts : {P : Type 0} → Terms P → Terms P → Type 0
 AtMostParts ts us = (k : ℕ) (a : Touch) → Touches (part_at us k) a → Touches (part_at ts k) a
 
 abbrev pub AtMostActive : {P : Type 0} → Actives P → Actives P → Type 0
-AtMostActive ts us = (a : Touch) → SomeActive us a → SomeActive ts a
+AtMostActive ts us = (a : Touch) → SomeActiveTouches us a → SomeActiveTouches ts a
 
 abbrev AtMostLeaf : Leaf → Leaf → Type 0
 AtMostLeaf w x = (a : Touch) → LeafTouches x a → LeafTouches w a
@@ -86,17 +86,17 @@ leaf_less place (doing []) s = tt
 leaf_less place (doing (next ∷ left)) s = do_less place next s left (AtMostLeaf (doing (next ∷ left))) (λ a h. inr h)
 
 -- a part of a list is one of its parts
-some_part : {P : Type 0} (ts : Terms P) (k : ℕ) (a : Touch) → Touches (part_at ts k) a → SomePart ts a
+some_part : {P : Type 0} (ts : Terms P) (k : ℕ) (a : Touch) → Touches (part_at ts k) a → SomePartTouches ts a
 some_part none k a h = h
 some_part (also t ts) zero a h = inl h
 some_part (also t ts) (suc k) a h = inr (some_part ts k a h)
 
-part_of_some : {P : Type 0} (us : Terms P) (a : Touch) (C : Type 0) → ((k : ℕ) → Touches (part_at us k) a → C) → SomePart us a → C
+part_of_some : {P : Type 0} (us : Terms P) (a : Touch) (C : Type 0) → ((k : ℕ) → Touches (part_at us k) a → C) → SomePartTouches us a → C
 part_of_some none a C f h = elim h [ ]
 part_of_some (also t us) a C f h = elim h [ inl x ↦ f 0 x | inr x ↦ part_of_some us a C (λ k. f (suc k)) x ]
 
 -- one more active term adds only its own touches
-pub less_last : {P : Type 0} (active : Actives P) (v : ℤ) (t : Term P) (a : Touch) → SomeActive (and_last active v t) a → SomeActive active a ⊎ Touches t a
+pub less_last : {P : Type 0} (active : Actives P) (v : ℤ) (t : Term P) (a : Touch) → SomeActiveTouches (and_last active v t) a → SomeActiveTouches active a ⊎ Touches t a
 less_last idle v t a h = elim h [ inl x ↦ inr x | inr x ↦ inl x ]
 less_last (busy w u us) v t a h = elim h [ inl x ↦ inl (inl x) | inr x ↦ elim (less_last us v t a x) [ inl y ↦ inl (inr y) | inr y ↦ inr y ] ]
 
@@ -114,7 +114,7 @@ mutual
   touches-kept (leaf place work) p s = leaves_map (leaf place) (AtMostLeaf work) (TouchesAtMost (leaf place work)) (λ x g. g) (leaf_move place work s) (leaf_less place work s)
   touches-kept (list kind before parts) [] s = tt
   touches-kept (list kind before parts) (k ∷ p) s =
-      leaves_map (list kind before) (AtMostParts parts) (TouchesAtMost (list kind before parts)) (λ x g a h. part_of_some x a (SomePart parts a) (λ k y. some_part parts k a (g k a y)) h)
+      leaves_map (list kind before) (AtMostParts parts) (TouchesAtMost (list kind before parts)) (λ x g a h. part_of_some x a (SomePartTouches parts a) (λ k y. some_part parts k a (g k a y)) h)
       (fire_part parts k p s) (parts_kept parts k p s)
   touches-kept (owning own part) p s = leaves_owned (TouchesAtMost part) (TouchesAtMost (owning own part)) owning own (λ f x g a h. g (inner a) h) (fire part p (own ∷ s)) (touches-kept part p (own ∷ s))
   touches-kept {P} (nested body exits own state values part) p s =
@@ -147,8 +147,8 @@ mutual
       leaves_map (λ x. busy v t x) (AtMostActive ts) (AtMostActive (busy v t ts)) (λ x g a h. elim h [ inl y ↦ inl y | inr y ↦ inr (g a y) ]) (fire_active ts k p s) (active_kept ts k p s)
 
 -- a part from which nothing outside is taken stays so
-pub takes-nothing-kept : {P : Type 0} (t : Term P) (p : Path) (s : Memories) → TakesNothing t → Leaves TakesNothing (fire t p s)
-takes-nothing-kept t p s n = leaves_so (TouchesAtMost t) TakesNothing (λ x g l c h. n l c (g (takes l c) h)) (fire t p s) (touches-kept t p s)
+pub takes-nothing-kept : {P : Type 0} (t : Term P) (p : Path) (s : Memories) → TakesNothingOutside t → Leaves TakesNothingOutside (fire t p s)
+takes-nothing-kept t p s n = leaves_so (TouchesAtMost t) TakesNothingOutside (λ x g l c h. n l c (g (takes l c) h)) (fire t p s) (touches-kept t p s)
 
 waits_last : {P : Type 0} (active : Actives P) (v : ℤ) (t : Term P) → ActiveWait active → Waits t → ActiveWait (and_last active v t)
 waits_last idle v t a w = (w, tt)

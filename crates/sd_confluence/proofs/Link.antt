@@ -9,7 +9,7 @@ use Rattle.sd_work.specs.Exit.{Values, Exit, first_exit}
 use Rattle.sd_work.specs.Residual.{Term, leaf, list, owning, nested, ended, pool, Terms, none, also, Actives, idle, busy, finished, all_finished, flags_of}
 use Rattle.sd_work.specs.Moves.{Path}
 use Rattle.sd_work.specs.Fire.{owned, transition, and_last, take_move, fire, fire_part, fire_active}
-use Rattle.sd_confluence.specs.Alike.{same_value}
+use Rattle.std.specs.Ordering.{int_eq}
 use Rattle.sd_confluence.proofs.Values.{same-true, same-refl}
 use Rattle.sd_confluence.proofs.BagMemory.{Frame, plain}
 use Rattle.sd_confluence.proofs.Works.{Work, thread, group, scope, nest, basin, Works, and_work, is_over, all_over, overs, taking, acting, Route, Answer, stops, makes, no_answer, map_answer, leaf_answer, follow, owned_answer, at_last, put_active, act, act_at}
@@ -75,9 +75,9 @@ flags_is (also t ts) = λ i. finished_is t i ∷ flags_is ts i
 
 -- ---- pools
 
-busy_image : {P : Type 0} (active : Actives P) (v : ℤ) (t : Term P) (w : ℤ) → active_of (and_last active v t) w ≡ cond (same_value v w) (at_last (active_of active w) (work_of t)) (active_of active w)
+busy_image : {P : Type 0} (active : Actives P) (v : ℤ) (t : Term P) (w : ℤ) → active_of (and_last active v t) w ≡ cond (int_eq v w) (at_last (active_of active w) (work_of t)) (active_of active w)
 busy_image idle v t w = refl
-busy_image {P} (busy x u us) v t w = ap (λ z. cond (same_value x w) (and_work (work_of u) z) z) (busy_image us v t w) ∙ go (same_value x w) (same_value v w) (active_of us w)
+busy_image {P} (busy x u us) v t w = ap (λ z. cond (int_eq x w) (and_work (work_of u) z) z) (busy_image us v t w) ∙ go (int_eq x w) (int_eq v w) (active_of us w)
   where
     go : (a b : Bool) (r : Works P) → cond a (and_work (work_of u) (cond b (at_last r (work_of t)) r)) (cond b (at_last r (work_of t)) r) ≡ cond b (at_last (cond a (and_work (work_of u) r) r) (work_of t)) (cond a (and_work (work_of u) r) r)
     go true true r = refl
@@ -86,9 +86,9 @@ busy_image {P} (busy x u us) v t w = ap (λ z. cond (same_value x w) (and_work (
     go false false r = refl
 
 taken_image : {P : Type 0} (active : Actives P) (v : ℤ) (t : Term P) → active_of (and_last active v t) ≡ put_active v (at_last (active_of active v) (work_of t)) (active_of active)
-taken_image active v t = λ i w. (busy_image active v t w ∙ go w (same_value v w) refl) i
+taken_image active v t = λ i w. (busy_image active v t w ∙ go w (int_eq v w) refl) i
   where
-    go : (w : ℤ) (b : Bool) → same_value v w ≡ b → cond b (at_last (active_of active w) (work_of t)) (active_of active w) ≡ cond b (at_last (active_of active v) (work_of t)) (active_of active w)
+    go : (w : ℤ) (b : Bool) → int_eq v w ≡ b → cond b (at_last (active_of active w) (work_of t)) (active_of active w) ≡ cond b (at_last (active_of active v) (work_of t)) (active_of active w)
     go w true e = ap (λ x. at_last (active_of active x) (work_of t)) (sym (same-true v w e))
     go w false e = refl
 
@@ -106,14 +106,14 @@ nobody (busy v t ts) (suc k) p s e = ap (map_move (busy v t)) (nobody ts k p s e
 -- a move of the active term k, which works on v
 abbrev ActMatches : {P : Type 0} → Actives P → ℤ → Memories → Move P (Actives P) → Answer P (Works P) → Type 0
 ActMatches active v s (fails b z) n = n ≡ stops b z
-ActMatches active v s (goes b u xs) n = (n ≡ makes b (update_of u s) (active_of xs v)) × ((w : ℤ) → same_value v w ≡ false → active_of xs w ≡ active_of active w)
+ActMatches active v s (goes b u xs) n = (n ≡ makes b (update_of u s) (active_of xs v)) × ((w : ℤ) → int_eq v w ≡ false → active_of xs w ≡ active_of active w)
 ActMatches active v s no_move n = n ≡ no_answer
 
 -- where only the works of one value differ, these are put
-pub same_put : {P : Type 0} (active xs : Actives P) (v : ℤ) → ((w : ℤ) → same_value v w ≡ false → active_of xs w ≡ active_of active w) → active_of xs ≡ put_active v (active_of xs v) (active_of active)
-same_put active xs v h = λ i w. go w (same_value v w) refl i
+pub same_put : {P : Type 0} (active xs : Actives P) (v : ℤ) → ((w : ℤ) → int_eq v w ≡ false → active_of xs w ≡ active_of active w) → active_of xs ≡ put_active v (active_of xs v) (active_of active)
+same_put active xs v h = λ i w. go w (int_eq v w) refl i
   where
-    go : (w : ℤ) (b : Bool) → same_value v w ≡ b → active_of xs w ≡ cond b (active_of xs v) (active_of active w)
+    go : (w : ℤ) (b : Bool) → int_eq v w ≡ b → active_of xs w ≡ cond b (active_of xs v) (active_of active w)
     go w true e = ap (active_of xs) (sym (same-true v w e))
     go w false e = h w e
 
@@ -132,14 +132,14 @@ first_act v t ts s (goes b u x) n q = (
 )
 first_act v t ts s no_move n q = ap (map_answer (λ x. and_work x (active_of ts v))) q
 
-later_act : {P : Type 0} (x : ℤ) (t : Term P) (ts : Actives P) (v : ℤ) (i : ℕ) (p : Route) (s : Memories) (m : Move P (Actives P)) → ActMatches ts v s m (act_at (active_of ts v) i p (stack_of s)) → (b : Bool) → same_value x v ≡ b →
+later_act : {P : Type 0} (x : ℤ) (t : Term P) (ts : Actives P) (v : ℤ) (i : ℕ) (p : Route) (s : Memories) (m : Move P (Actives P)) → ActMatches ts v s m (act_at (active_of ts v) i p (stack_of s)) → (b : Bool) → int_eq x v ≡ b →
     ActMatches (busy x t ts) v s (map_move (busy x t) m) (act_at (cond b (and_work (work_of t) (active_of ts v)) (active_of ts v)) (cond b (suc i) i) p (stack_of s))
 later_act x t ts v i p s (fails d z) q true e = ap (map_answer (λ y. and_work (work_of t) y)) q
 later_act x t ts v i p s (fails d z) q false e = q
 later_act x t ts v i p s (goes d u xs) q true e =
-    (ap (map_answer (λ y. and_work (work_of t) y)) q.0 ∙ ap (λ a. makes d (update_of u s) (cond a (and_work (work_of t) (active_of xs v)) (active_of xs v))) (sym e), λ w f. ap (λ z. cond (same_value x w) (and_work (work_of t) z) z) (q.1 w f))
+    (ap (map_answer (λ y. and_work (work_of t) y)) q.0 ∙ ap (λ a. makes d (update_of u s) (cond a (and_work (work_of t) (active_of xs v)) (active_of xs v))) (sym e), λ w f. ap (λ z. cond (int_eq x w) (and_work (work_of t) z) z) (q.1 w f))
 later_act x t ts v i p s (goes d u xs) q false e =
-    (q.0 ∙ ap (λ a. makes d (update_of u s) (cond a (and_work (work_of t) (active_of xs v)) (active_of xs v))) (sym e), λ w f. ap (λ z. cond (same_value x w) (and_work (work_of t) z) z) (q.1 w f))
+    (q.0 ∙ ap (λ a. makes d (update_of u s) (cond a (and_work (work_of t) (active_of xs v)) (active_of xs v))) (sym e), λ w f. ap (λ z. cond (int_eq x w) (and_work (work_of t) z) z) (q.1 w f))
 later_act x t ts v i p s no_move q true e = ap (map_answer (λ y. and_work (work_of t) y)) q
 later_act x t ts v i p s no_move q false e = q
 
@@ -206,4 +206,4 @@ mutual
       (subst (λ b. ActMatches (busy x t ts) x s (map_move (λ z. busy x z ts) (fire t p s)) (act_at (cond b (and_work (work_of t) (active_of ts x)) (active_of ts x)) 0 (route_of t p s) (stack_of s))) (sym (same-refl x))
       (first_act x t ts s (fire t p s) (act (work_of t) (route_of t p s) (stack_of s)) (linked t p s)))
   linked_in (busy x t ts) (suc k) p s v e =
-      later_act x t ts v (number_at ts v k) (route_in ts k p s) s (fire_active ts k p s) (linked_in ts k p s v e) (same_value x v) refl
+      later_act x t ts v (number_at ts v k) (route_in ts k p s) s (fire_active ts k p s) (linked_in ts k p s v e) (int_eq x v) refl

@@ -9,7 +9,7 @@ use Rattle.sd_work.specs.Settle.{settled}
 use Rattle.sd_work.specs.Step.{Done}
 use Rattle.sd_work.specs.WellFormed.{IsOrdered}
 use Rattle.sd_work.proofs.Leaving.{Leaves}
-use Rattle.sd_confluence.specs.Safe.{TakesNothing, MayInterleave}
+use Rattle.sd_confluence.specs.Safe.{TakesNothingOutside, MayInterleave}
 use Rattle.sd_confluence.proofs.BagMemory.{keep}
 use Rattle.sd_confluence.proofs.Works.{Route}
 use Rattle.sd_confluence.proofs.WorkTouches.{Safe}
@@ -33,12 +33,12 @@ pub record Sound {P : Type 0} (t : Term P) : Type 0 where
   pub ordered : IsOrdered t
   pub waits : Waits t
   pub idle : ClosedAreIdle t
-  pub whole : TakesNothing t
+  pub whole : TakesNothingOutside t
 
 pub sound-of : {P : Type 0} (t : Term P) → MayInterleave t → Sound t
-sound-of t h = record { ordered = h.ordered; waits = waits-safe t h.safe; idle = closed-safe t h.safe; whole = h.whole }
+sound-of t h = record { ordered = h.ordered; waits = waits-safe t h.safe; idle = closed-safe t h.safe; whole = h.inside }
 
-clear_whole : {P : Type 0} (t : Term P) → TakesNothing t → Clear t []
+clear_whole : {P : Type 0} (t : Term P) → TakesNothingOutside t → Clear t []
 clear_whole t w l c h = absurd (w l c h)
 
 pub settled-sound : {P : Type 0} (t : Term P) → Sound t → Settled (settled t) []
@@ -95,5 +95,5 @@ sound-left t p b u x h c q =
       ordered = subst (Leaves IsOrdered) q (ordered-kept t p [] h.ordered);
       waits = subst (Leaves Waits) q (waits-kept t p [] h.waits);
       idle = subst (Leaves ClosedAreIdle) q (closed-kept t p [] c h.idle);
-      whole = subst (Leaves TakesNothing) q (takes-nothing-kept t p [] h.whole);
+      whole = subst (Leaves TakesNothingOutside) q (takes-nothing-kept t p [] h.whole);
     }

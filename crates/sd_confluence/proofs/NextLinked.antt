@@ -4,7 +4,8 @@ use Rattle.sd_work.specs.Memory.{array, stream, Memory, Memories, values_of, wai
 use Rattle.sd_work.specs.Residual.{Term, leaf, list, owning, nested, ended, pool, Terms, none, also, Actives, idle, busy, finished, all_finished, none_active, is_ready}
 use Rattle.sd_work.specs.Moves.{Path}
 use Rattle.sd_work.proofs.Flags.{both, and_false}
-use Rattle.sd_confluence.specs.Alike.{same_value, how_often}
+use Rattle.std.specs.Ordering.{int_eq}
+use Rattle.sd_confluence.specs.Alike.{how_often}
 use Rattle.sd_confluence.proofs.Values.{same-refl, waits}
 use Rattle.sd_confluence.proofs.BagMemory.{cells, nth, count_in, Stack, held}
 use Rattle.sd_confluence.proofs.Works.{Work, basin, Works, and_work, is_over, all_over, taking, acting, Route, Can, CanAt, CanHere}
@@ -26,7 +27,7 @@ held_image (suc l) c v (m ∷ s) = held_image l c v s
 -- where no term is active, all works of each value are over
 pub busy_done : {P : Type 0} (active : Actives P) → none_active active ≡ true → (w : ℤ) → all_over (active_of active w) ≡ true
 busy_done idle e w = refl
-busy_done (busy v t ts) e w = let h = both (finished t) (none_active ts) e in go (same_value v w) h.0 (busy_done ts h.1 w)
+busy_done (busy v t ts) e w = let h = both (finished t) (none_active ts) e in go (int_eq v w) h.0 (busy_done ts h.1 w)
   where
     go : (b : Bool) → finished t ≡ true → all_over (active_of ts w) ≡ true → all_over (cond b (and_work (work_of t) (active_of ts w)) (active_of ts w)) ≡ true
     go true h r = λ i. (sym (finished_is t) ∙ h) i && r i
@@ -114,5 +115,5 @@ mutual
   can_linked_in idle k p s v e c = elim c [ ]
   can_linked_in (busy x t ts) zero p s v e c =
       let h : x ≡ v = cc in
-      subst (λ b. CanAt (cond b (and_work (work_of t) (active_of ts v)) (active_of ts v)) 0 (route_of t p s) (stack_of s)) (sym (ap (λ z. same_value z v) h ∙ same-refl v)) (can_linked t p s c)
-  can_linked_in (busy x t ts) (suc k) p s v e c = can_put (same_value x v) (active_of ts v) (work_of t) (number_at ts v k) (route_in ts k p s) (stack_of s) (can_linked_in ts k p s v e c)
+      subst (λ b. CanAt (cond b (and_work (work_of t) (active_of ts v)) (active_of ts v)) 0 (route_of t p s) (stack_of s)) (sym (ap (λ z. int_eq z v) h ∙ same-refl v)) (can_linked t p s c)
+  can_linked_in (busy x t ts) (suc k) p s v e c = can_put (int_eq x v) (active_of ts v) (work_of t) (number_at ts v k) (route_in ts k p s) (stack_of s) (can_linked_in ts k p s v e c)

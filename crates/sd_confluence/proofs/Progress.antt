@@ -5,11 +5,12 @@ use Rattle.sd_work.specs.Memory.{Memories, waiting}
 use Rattle.sd_work.specs.Residual.{Parts, Points, Term, leaf, list, owning, nested, ended, pool, Terms, none, also, part_at, Actives, idle, busy, finished, none_active, flags_of, is_ready, ready_from}
 use Rattle.sd_work.specs.Moves.{Path}
 use Rattle.sd_work.specs.Settle.{is_empty, is_first_left, settle, settle_parts, settle_active}
-use Rattle.sd_work.specs.Touch.{takes, SomePart, SomeActive}
+use Rattle.sd_work.specs.Touch.{takes, SomePartTouches, SomeActiveTouches}
 use Rattle.sd_work.proofs.Flags.{both}
 use Rattle.sd_work.proofs.Fronts.{longer}
-use Rattle.sd_confluence.specs.Alike.{same_value, how_often}
-use Rattle.sd_confluence.specs.Safe.{TakesNothing}
+use Rattle.std.specs.Ordering.{int_eq}
+use Rattle.sd_confluence.specs.Alike.{how_often}
+use Rattle.sd_confluence.specs.Safe.{TakesNothingOutside}
 use Rattle.sd_confluence.proofs.Values.{same-refl}
 use Rattle.sd_confluence.proofs.Works.{Works, and_work, is_over, all_over, Route, part_number, taking, acting, closing, Can, CanAt, CanHere}
 use Rattle.sd_confluence.proofs.Images.{stack_of, work_of, works_of, active_of, IsNext, IsNextAt, IsNextIn, IsNextHere}
@@ -40,7 +41,7 @@ abbrev mutual
 count_none : (vs : List ℤ) → ((v : ℤ) → how_often vs v ≡ 0) → is_empty vs ≡ true
 count_none [] h = refl
 count_none (x ∷ vs) h =
-    let e : cond (same_value x x) (suc (how_often vs x)) (how_often vs x) ≡ 0 = h x in
+    let e : cond (int_eq x x) (suc (how_often vs x)) (how_often vs x) ≡ 0 = h x in
     let f : suc (how_often vs x) ≡ 0 = ap (λ b. cond b (suc (how_often vs x)) (how_often vs x)) (sym (same-refl x)) ∙ e in cc
 
 first_value : (vs : List ℤ) (v : ℤ) (n : ℕ) → how_often vs v ≡ suc n → (w : ℤ) × (slice_get vs 0 ≡ Some w)
@@ -59,7 +60,7 @@ all_done {P} (busy v t ts) h = λ i. (finished_is t ∙ here.0) i && all_done ts
     part false us e = e
 
     rest : (w : ℤ) → all_over (active_of ts w) ≡ true
-    rest w = part (same_value v w) (active_of ts w) (h w)
+    rest w = part (int_eq v w) (active_of ts w) (h w)
 
 here_moves : {P : Type 0} (b c : Bool) → b ≡ c → (q : Route) (C : Type 0) (t : Term P) (s : Memories) → (C → (p : Path) × IsNext t p s) → CanHere c q C → (p : Path) × IsNextHere b p (IsNext t p s)
 here_moves true true e q C t s f h = ([], refl)
@@ -113,7 +114,7 @@ mutual
 
   progress_in : {P : Type 0} (ts : Actives P) (v : ℤ) (i : ℕ) (q : Route) (s : Memories) → SettledIn ts s → CanAt (active_of ts v) i q (stack_of s) → (k : ℕ) × (p : Path) × IsNextIn ts k p s
   progress_in idle v i q s z c = elim c [ ]
-  progress_in (busy x t ts) v i q s z c = in_moves (same_value x v) t ts x v i q s c (λ d. progress t q s z.0 d) (λ j d. progress_in ts v j q s z.1 d)
+  progress_in (busy x t ts) v i q s z c = in_moves (int_eq x v) t ts x v i q s c (λ d. progress t q s z.0 d) (λ j d. progress_in ts v j q s z.1 d)
 
 ready_front : (before : ℕ → ℕ → Bool) (j : ℕ) (bs cs : List Bool) (k : ℕ) → ready_from before j (bs ++ cs) k ≡ true → ready_from before j bs k ≡ true
 ready_front before j [] cs k e = refl
@@ -161,8 +162,8 @@ mutual
   -- the flags are those of the parts before number k
   settled_from : {P : Type 0} (cleared : List Bool) (s : Memories) (kind : Parts) (before : ℕ → ℕ → Bool) (all bs : List Bool) (k : ℕ) (ts : Terms P) → length bs ≡ k →
       all ≡ bs ++ flags_of (settle_parts true cleared s kind before bs k ts) → AllWait ts →
-      (kind ≡ Points → (i j : ℕ) → i < k + j → before i (k + j) ≡ false → TakesNothing (part_at ts j)) →
-      ((l d : ℕ) → SomePart ts (takes l d) → slice_index_or cleared l false ≡ true) →
+      (kind ≡ Points → (i j : ℕ) → i < k + j → before i (k + j) ≡ false → TakesNothingOutside (part_at ts j)) →
+      ((l d : ℕ) → SomePartTouches ts (takes l d) → slice_index_or cleared l false ≡ true) →
       SettledFrom before all k (settle_parts true cleared s kind before bs k ts) s
   settled_from cleared s kind before all bs k none n e w o c = tt
   settled_from {P} cleared s kind before all bs k (also t ts) n e w o c =
@@ -178,6 +179,6 @@ mutual
             (λ p i j a b. o p i (suc j) (omega (arith, a)) (ap (before i) (plus_suc k j) ∙ b)) (λ l d h. c l d (inr h)),
       )
 
-  settled_in : {P : Type 0} (ts : Actives P) (cleared : List Bool) (s : Memories) → ActiveWait ts → ((l d : ℕ) → SomeActive ts (takes l d) → slice_index_or cleared l false ≡ true) → SettledIn (settle_active true cleared s ts) s
+  settled_in : {P : Type 0} (ts : Actives P) (cleared : List Bool) (s : Memories) → ActiveWait ts → ((l d : ℕ) → SomeActiveTouches ts (takes l d) → slice_index_or cleared l false ≡ true) → SettledIn (settle_active true cleared s ts) s
   settled_in idle cleared s w c = tt
   settled_in (busy v t ts) cleared s w c = (settled-by t cleared s w.0 (λ l d h. c l d (inl h)), settled_in ts cleared s w.1 (λ l d h. c l d (inr h)))

@@ -1,8 +1,8 @@
 -- The image of safe work is safe.
 use Rattle.std.proofs.Common.{◌≡◌, ℕ, zero, suc, ℤ, Bool, true, false, cond, refl, subst, inl, inr, ◌⊎◌}
 use Rattle.sd_work.specs.Residual.{Term, leaf, list, owning, nested, ended, pool, Terms, none, also, part_at, Actives, idle, busy}
-use Rattle.sd_work.specs.Touch.{Touch, inner, Touches, SomePart, SomeActive}
-use Rattle.sd_confluence.specs.Alike.{same_value}
+use Rattle.sd_work.specs.Touch.{Touch, inner, Touches, SomePartTouches, SomeActiveTouches}
+use Rattle.std.specs.Ordering.{int_eq}
 use Rattle.sd_confluence.specs.Safe.{PoolTouches, IsSafe, AreSafe, AreActiveSafe}
 use Rattle.sd_confluence.proofs.Works.{and_work}
 use Rattle.sd_confluence.proofs.WorkTouches.{WorkTouches, SomeWork, work_at, Safe, AllSafe, safe_put}
@@ -22,16 +22,16 @@ mutual
   touches-back (pool l c body active closed) a (inr (inl h)) = inr (inl (active_back active h.0 a h.1))
   touches-back (pool l c body active closed) a (inr (inr h)) = inr (inr (h.0, touches-back (body h.0) a h.1))
 
-  parts_back : {P : Type 0} (ts : Terms P) (a : Touch) → SomeWork (works_of ts) a → SomePart ts a
+  parts_back : {P : Type 0} (ts : Terms P) (a : Touch) → SomeWork (works_of ts) a → SomePartTouches ts a
   parts_back none a h = h
   parts_back (also t ts) a (inl h) = inl (touches-back t a h)
   parts_back (also t ts) a (inr h) = inr (parts_back ts a h)
 
-  active_back : {P : Type 0} (ts : Actives P) (v : ℤ) (a : Touch) → SomeWork (active_of ts v) a → SomeActive ts a
+  active_back : {P : Type 0} (ts : Actives P) (v : ℤ) (a : Touch) → SomeWork (active_of ts v) a → SomeActiveTouches ts a
   active_back idle v a h = h
-  active_back {P} (busy w t ts) v a h = go (same_value w v) h (λ g. touches-back t a g) (λ g. active_back ts v a g)
+  active_back {P} (busy w t ts) v a h = go (int_eq w v) h (λ g. touches-back t a g) (λ g. active_back ts v a g)
     where
-      go : (b : Bool) → SomeWork (cond b (and_work (work_of t) (active_of ts v)) (active_of ts v)) a → (WorkTouches (work_of t) a → Touches t a) → (SomeWork (active_of ts v) a → SomeActive ts a) → Touches t a ⊎ SomeActive ts a
+      go : (b : Bool) → SomeWork (cond b (and_work (work_of t) (active_of ts v)) (active_of ts v)) a → (WorkTouches (work_of t) a → Touches t a) → (SomeWork (active_of ts v) a → SomeActiveTouches ts a) → Touches t a ⊎ SomeActiveTouches ts a
       go true (inl g) f k = inl (f g)
       go true (inr g) f k = inr (k g)
       go false g f k = inr (k g)
@@ -50,7 +50,7 @@ mutual
   safe-image (leaf place work) f = tt
   safe-image (list kind before parts) f = (
     safe_parts parts f.0,
-    λ i j up e a b ta tb. f.1.apart i j up e a b
+    λ i j up e a b ta tb. f.1.compatible i j up e a b
         (touches-back (part_at parts i) a (subst (λ w. WorkTouches w a) (work_at-image parts i) ta))
         (touches-back (part_at parts j) b (subst (λ w. WorkTouches w b) (work_at-image parts j) tb)),
   )
@@ -66,4 +66,4 @@ mutual
 
   safe_active : {P : Type 0} (ts : Actives P) (v : ℤ) → AreActiveSafe ts → AllSafe (active_of ts v)
   safe_active idle v f = tt
-  safe_active (busy w t ts) v f = safe_put (same_value w v) (and_work (work_of t) (active_of ts v)) (active_of ts v) (safe-image t f.0, safe_active ts v f.1) (safe_active ts v f.1)
+  safe_active (busy w t ts) v f = safe_put (int_eq w v) (and_work (work_of t) (active_of ts v)) (active_of ts v) (safe-image t f.0, safe_active ts v f.1) (safe_active ts v f.1)

@@ -2,10 +2,10 @@
 use Rattle.std.proofs.Common.{ℕ, zero, suc, List, [], ◌∷◌, map, Bool, true, ◌&&◌, inl, inr}
 use Rattle.sd_work.specs.Memory.{Memories}
 use Rattle.sd_work.specs.Residual.{Parts, Term, leaf, list, owning, nested, ended, pool, Terms, none, also, part_at, Actives, idle, busy, is_ready}
-use Rattle.sd_work.specs.Touch.{Touch, takes, inner, Touches, SomePart, SomeActive}
+use Rattle.sd_work.specs.Touch.{Touch, takes, inner, Touches, SomePartTouches, SomeActiveTouches}
 use Rattle.sd_work.specs.Settle.{is_first_left, settle, settle_parts, settle_active}
 use Rattle.sd_work.specs.WellFormed.{IsOrdered, AreOrdered, AreActiveOrdered}
-use Rattle.sd_confluence.specs.Safe.{TakesNothing}
+use Rattle.sd_confluence.specs.Safe.{TakesNothingOutside}
 use Rattle.sd_confluence.proofs.Waits.{Waits, AllWait, ActiveWait}
 
 mutual
@@ -21,7 +21,7 @@ mutual
       elim h [ inl b ↦ inl b | inr b ↦ inr (elim b [ inl d ↦ inl (settle_active-touches go cleared s active a d) | inr d ↦ inr d ]) ]
 
   pub settle_parts-touches : {P : Type 0} (go : Bool) (cleared : List Bool) (s : Memories) (kind : Parts) (before : ℕ → ℕ → Bool) (flags : List Bool) (number : ℕ) (ts : Terms P) (a : Touch) →
-      SomePart (settle_parts go cleared s kind before flags number ts) a → SomePart ts a
+      SomePartTouches (settle_parts go cleared s kind before flags number ts) a → SomePartTouches ts a
   settle_parts-touches go cleared s kind before flags number none a h = h
   settle_parts-touches go cleared s kind before flags number (also t ts) a h =
       elim h [
@@ -29,7 +29,7 @@ mutual
         | inr b ↦ inr (settle_parts-touches go cleared s kind before _ (suc number) ts a b)
       ]
 
-  pub settle_active-touches : {P : Type 0} (go : Bool) (cleared : List Bool) (s : Memories) (ts : Actives P) (a : Touch) → SomeActive (settle_active go cleared s ts) a → SomeActive ts a
+  pub settle_active-touches : {P : Type 0} (go : Bool) (cleared : List Bool) (s : Memories) (ts : Actives P) (a : Touch) → SomeActiveTouches (settle_active go cleared s ts) a → SomeActiveTouches ts a
   settle_active-touches go cleared s idle a h = h
   settle_active-touches go cleared s (busy v t ts) a h =
       elim h [ inl b ↦ inl (settle-touches go cleared s t a b) | inr b ↦ inr (settle_active-touches go cleared s ts a b) ]
@@ -83,5 +83,5 @@ mutual
   waits-settled_active go cleared s (busy v t ts) w = (waits-settled go cleared s t w.0, waits-settled_active go cleared s ts w.1)
 
 -- a settled term that took nothing takes nothing
-pub takes-nothing-settled : {P : Type 0} (go : Bool) (cleared : List Bool) (s : Memories) (t : Term P) → TakesNothing t → TakesNothing (settle go cleared s t)
+pub takes-nothing-settled : {P : Type 0} (go : Bool) (cleared : List Bool) (s : Memories) (t : Term P) → TakesNothingOutside t → TakesNothingOutside (settle go cleared s t)
 takes-nothing-settled go cleared s t h = λ l c a. h l c (settle-touches go cleared s t (takes l c) a)

@@ -3,14 +3,14 @@ use Rattle.std.proofs.Common.{◌≡◌, ℕ, zero, suc, ◌+◌, ◌<◌, List,
 use Rattle.sd_work.specs.Memory.{Memories, waiting}
 use Rattle.sd_work.specs.Residual.{Parts, Points, Term, leaf, list, owning, nested, ended, pool, Terms, none, also, part_at, Actives, idle, busy, finished, none_active, flags_of, is_ready, ready_from, IsOrder}
 use Rattle.sd_work.specs.Moves.{Path}
-use Rattle.sd_work.specs.Touch.{takes, SomePart, SomeActive}
+use Rattle.sd_work.specs.Touch.{takes, SomePartTouches, SomeActiveTouches}
 use Rattle.sd_work.specs.Settle.{is_empty, is_first_left, settle, settle_parts, settle_active}
 use Rattle.sd_work.specs.WellFormed.{IsOrdered, AreOrdered, AreActiveOrdered}
 use Rattle.sd_work.proofs.Fronts.{◌⊕◌, count_of}
 use Rattle.sd_work.proofs.LeftmostLists.{ready_late, plus_assoc, count_more}
 use Rattle.sd_work.proofs.Flags.{both, both_true}
 use Rattle.sd_work.proofs.LeftmostPools.{◌⊞◌, count_active, join_assoc}
-use Rattle.sd_confluence.specs.Safe.{TakesNothing}
+use Rattle.sd_confluence.specs.Safe.{TakesNothingOutside}
 use Rattle.sd_confluence.proofs.Waits.{Clear, PointsWait, Waits, AllWait, ActiveWait, clear_part, clear_inside}
 use Rattle.sd_confluence.proofs.ClosedPools.{ClosedAreIdle, AllClosedAreIdle, ActiveClosedAreIdle, settle-false, settle_active-finished}
 use Rattle.sd_confluence.proofs.Closings.{close, close_part, close_active, MayClose, MayClosePart, MayCloseActive, Closings}
@@ -85,10 +85,10 @@ closes_last l c body active s false d e f g h = (0, refl)
 
 -- of the parts that come after this many, the later points take nothing where they need not wait
 abbrev WaitAfter : {P : Type 0} → Parts → (ℕ → ℕ → Bool) → ℕ → Terms P → Type 0
-WaitAfter kind before n ts = kind ≡ Points → (i j m : ℕ) → m ≡ n + j → i < m → before i m ≡ false → TakesNothing (part_at ts j)
+WaitAfter kind before n ts = kind ≡ Points → (i j m : ℕ) → m ≡ n + j → i < m → before i m ≡ false → TakesNothingOutside (part_at ts j)
 
 wait_all : {P : Type 0} (kind : Parts) (before : ℕ → ℕ → Bool) (ts : Terms P) → PointsWait kind before ts → WaitAfter kind before 0 ts
-wait_all kind before ts w q i j m e h b = let same : m ≡ j = omega (arith, e) in subst (λ x. TakesNothing (part_at ts x)) same (w q i m h b)
+wait_all kind before ts w q i j m e h b = let same : m ≡ j = omega (arith, e) in subst (λ x. TakesNothingOutside (part_at ts x)) same (w q i m h b)
 
 wait_later : {P : Type 0} (kind : Parts) (before : ℕ → ℕ → Bool) (pre : Terms P) (x t : Term P) (ts : Terms P) → WaitAfter kind before (count_of pre) (also t ts) → WaitAfter kind before (count_of (◌⊕◌ pre (also x none))) ts
 wait_later kind before pre x t ts w q i j m e h b = w q i (suc j) m (omega (arith, e, count_more pre x)) h b
@@ -149,7 +149,7 @@ mutual
       closings_more h.0 g.0 (pool l d body active false) (pool l d body left false) (settle true cleared s (pool l d body active false)) s h.1 g.1
 
   pub settles_from : {P : Type 0} (kind : Parts) (before : ℕ → ℕ → Bool) → IsOrder before → (pre ts : Terms P) (cleared : List Bool) (s : Memories) → AreOrdered ts → AllWait ts → AllClosedAreIdle ts →
-      WaitAfter kind before (count_of pre) ts → ((l c : ℕ) → SomePart ts (takes l c) → slice_index_or cleared l false ≡ true) →
+      WaitAfter kind before (count_of pre) ts → ((l c : ℕ) → SomePartTouches ts (takes l c) → slice_index_or cleared l false ≡ true) →
       (k : ℕ) × Closings k (list kind before (◌⊕◌ pre ts)) (list kind before (◌⊕◌ pre (settle_parts true cleared s kind before (flags_of pre) (count_of pre) ts))) s
   settles_from kind before r pre none cleared s o w z a c = (0, refl)
   settles_from kind before r pre (also t ts) cleared s o w z a c =
@@ -159,7 +159,7 @@ mutual
       (λ x. settles_from kind before r (◌⊕◌ pre (also x none)) ts cleared s o.1 w.1 z.1 (wait_later kind before pre x t ts a) (λ l d h. c l d (inr h)))
 
   pub settles_active : {P : Type 0} (l d : ℕ) (body : ℤ → Term P) (pre ts : Actives P) (cleared : List Bool) (s : Memories) → AreActiveOrdered ts → ActiveWait ts → ActiveClosedAreIdle ts →
-      ((m c : ℕ) → SomeActive ts (takes m c) → slice_index_or cleared m false ≡ true) →
+      ((m c : ℕ) → SomeActiveTouches ts (takes m c) → slice_index_or cleared m false ≡ true) →
       (k : ℕ) × Closings k (pool l d body (◌⊞◌ pre ts) false) (pool l d body (◌⊞◌ pre (settle_active true cleared s ts)) false) s
   settles_active l d body pre idle cleared s o w z c = (0, refl)
   settles_active {P} l d body pre (busy v t ts) cleared s o w z c =

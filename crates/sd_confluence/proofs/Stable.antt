@@ -8,7 +8,7 @@ use Rattle.sd_work.specs.Leaf.{Leaf, reading, doing, write_value, transfer, push
 use Rattle.sd_work.specs.LeafMove.{leaf_move, read_move, write_move}
 use Rattle.sd_work.specs.Exit.{Guard, Exit, with_value, all_seen, decided, passed, or_later, first_exit}
 use Rattle.sd_work.specs.Harmless.{SameCommuting}
-use Rattle.sd_work.specs.Touch.{Touch, reads, writes, pushes, takes, AreCompatible, inner, inner_reference, IsRead, AreRead, LeafTouches, GuardTouches, SomeExit}
+use Rattle.sd_work.specs.Touch.{Touch, reads, writes, pushes, takes, AreCompatible, inner, inner_reference, IsRead, SomeRead, LeafTouches, GuardTouches, SomeExitTouches}
 use Rattle.sd_confluence.proofs.BagMemory.{Frame, Stack, Update, keep, put, add, remove, updated, plain}
 use Rattle.sd_confluence.proofs.Works.{Work, thread, group, scope, nest, over, basin, Works, no_works, and_work, is_over, Route, part_number, taking, acting, closing, map_answer, leaf_answer, follow, owned_answer, put_active, act, act_at, Can, CanAt, CanHere}
 use Rattle.sd_confluence.proofs.WorkTouches.{IsUnseen, WorkTouches, SomeWork, work_at}
@@ -161,7 +161,7 @@ seen_kept : (r : Option Reference) (u : Update) (s : Stack) → Avoids u (IsRead
 seen_kept None u s h = refl
 seen_kept (Some q) u s h = ap Some (look_apply q u (reading_apart q u (h (reads q) refl)) s)
 
-all_seen_kept : (rs : List (Option Reference)) (u : Update) (s : Stack) → Avoids u (AreRead rs) → all_seen rs (plain (updated u s)) ≡ all_seen rs (plain s)
+all_seen_kept : (rs : List (Option Reference)) (u : Update) (s : Stack) → Avoids u (SomeRead rs) → all_seen rs (plain (updated u s)) ≡ all_seen rs (plain s)
 all_seen_kept [] u s h = refl
 all_seen_kept (r ∷ rs) u s h =
     let e = seen_kept r u s (λ b m. h b (inl m)) in
@@ -172,7 +172,7 @@ passed_kept : {P : Type 0} (g : Option (Guard P)) (u : Update) (s : Stack) → A
 passed_kept None u s h = refl
 passed_kept (Some g) u s h = ap (decided g) (all_seen_kept g.reads u s h)
 
-chosen_kept : {P : Type 0} (es : List (Exit P)) (u : Update) (s : Stack) → Avoids u (SomeExit es) → first_exit es (plain (updated u s)) ≡ first_exit es (plain s)
+chosen_kept : {P : Type 0} (es : List (Exit P)) (u : Update) (s : Stack) → Avoids u (SomeExitTouches es) → first_exit es (plain (updated u s)) ≡ first_exit es (plain s)
 chosen_kept [] u s h = refl
 chosen_kept (e ∷ es) u s h =
     let p = passed_kept e.when u s (λ b m. h b (inl m)) in
@@ -208,7 +208,7 @@ mutual
       ap (owned_answer scope own) (ap (act inside p) (sym (raise_apply u own s)) ∙ stable inside p (raise_change u) (own ∷ s) (raise_avoids u (WorkTouches inside) h))
   stable (nest body exits own state values inside) p u s h =
       let e = ap (λ z. first_exit (exits state values) (plain z)) (sym (raise_apply u own s))
-      ∙ chosen_kept (exits state values) (raise_change u) (own ∷ s) (raise_avoids u (SomeExit (exits state values)) (λ b t. h b (inr (inr (state, values, t))))) in
+      ∙ chosen_kept (exits state values) (raise_change u) (own ∷ s) (raise_avoids u (SomeExitTouches (exits state values)) (λ b t. h b (inr (inr (state, values, t))))) in
       let e' = ap (act inside p) (sym (raise_apply u own s)) ∙ stable inside p (raise_change u) (own ∷ s) (raise_avoids u (WorkTouches inside) (λ b t. h b (inl t))) in
       λ i. cond (is_over inside) (follow body exits own (e i)) (owned_answer (λ f t. nest body exits f state values t) own (e' i))
   stable (over own) p u s h = refl

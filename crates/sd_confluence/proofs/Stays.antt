@@ -6,7 +6,7 @@ use Rattle.sd_work.specs.Move.{Fault}
 use Rattle.sd_work.specs.Exit.{Values, Exit, first_exit}
 use Rattle.sd_work.specs.Touch.{Touch, reads, writes, pushes, takes, AreCompatible}
 use Rattle.sd_work.proofs.Absorbing.{Below, ready_up}
-use Rattle.sd_confluence.specs.Alike.{same_value}
+use Rattle.std.specs.Ordering.{int_eq}
 use Rattle.sd_confluence.proofs.Values.{same-true, same-false}
 use Rattle.sd_confluence.proofs.BagMemory.{Frame, Stack, Update, keep, put, add, remove, updated, held, plain}
 use Rattle.sd_confluence.proofs.Works.{Work, thread, group, scope, nest, over, basin, Works, no_works, and_work, is_over, overs, part_number, taking, acting, closing, Route, leaf_answer, follow, owned_answer, at_last, put_active, act, act_at, Can, CanAt, CanHere}
@@ -31,14 +31,14 @@ safe_last (and_work u us) t a s = (a.0, safe_last us t a.1 s)
 
 taken_bodies : {P : Type 0} (v : ℤ) (body : ℤ → Work P) (active : ℤ → Works P) (a : Touch) → Bodies body (put_active v (at_last (active v) (body v)) active) a → Bodies body active a
 taken_bodies v body active a (inl x) =
-    elim (put_touches (same_value v x.0) (at_last (active v) (body v)) (active x.0) a x.1) [
+    elim (put_touches (int_eq v x.0) (at_last (active v) (body v)) (active x.0) a x.1) [
       | inl y ↦ elim (last_touches (active v) (body v) a y) [ inl z ↦ inl (v, z) | inr z ↦ inr (v, z) ]
       | inr y ↦ inl (x.0, y)
     ]
 taken_bodies v body active a (inr x) = inr x
 
 acted_bodies : {P : Type 0} (v : ℤ) (us : Works P) (body : ℤ → Work P) (active : ℤ → Works P) → ((a : Touch) → SomeWork us a → SomeWork (active v) a) → (a : Touch) → Bodies body (put_active v us active) a → Bodies body active a
-acted_bodies v us body active g a (inl x) = elim (put_touches (same_value v x.0) us (active x.0) a x.1) [ inl y ↦ inl (v, g a y) | inr y ↦ inl (x.0, y) ]
+acted_bodies v us body active g a (inl x) = elim (put_touches (int_eq v x.0) us (active x.0) a x.1) [ inl y ↦ inl (v, g a y) | inr y ↦ inl (x.0, y) ]
 acted_bodies v us body active g a (inr x) = inr x
 
 mutual
@@ -61,13 +61,13 @@ mutual
   safe_kept (basin l c body active closed) [] s h = tt
   safe_kept (basin l c body active closed) (part_number k ∷ p) s h = tt
   safe_kept (basin l c body active closed) (taking v ∷ p) s h = (
-    λ w. safe_put (same_value v w) (at_last (active v) (body v)) (active w) (safe_last (active v) (body v) (h.0 v) (h.1 v)) (h.0 w),
+    λ w. safe_put (int_eq v w) (at_last (active v) (body v)) (active w) (safe_last (active v) (body v) (h.0 v) (h.1 v)) (h.0 w),
     h.1,
     λ a b x y. h.2 a b (taken_bodies v body active a x) (taken_bodies v body active b y),
   )
   safe_kept (basin l c body active closed) (acting v k ∷ p) s h =
       gives_map (λ ts. basin l c body (put_active v ts active) closed) (λ b u us. AllSafe us × WithinParts (active v) k u us) (λ b u t. Safe t)
-      (λ b u us g. (λ w. safe_put (same_value v w) us (active w) g.0 (h.0 w), h.1, λ a b' x y. h.2 a b' (acted_bodies v us body active g.1.1 a x) (acted_bodies v us body active g.1.1 b' y)))
+      (λ b u us g. (λ w. safe_put (int_eq v w) us (active w) g.0 (h.0 w), h.1, λ a b' x y. h.2 a b' (acted_bodies v us body active g.1.1 a x) (acted_bodies v us body active g.1.1 b' y)))
       (act_at (active v) k p s)
       (two (λ b u us. AllSafe us) (λ b u us. WithinParts (active v) k u us) (act_at (active v) k p s) (safe_kept_at (active v) k p s (h.0 v)) (within_at (active v) k p s))
   safe_kept (basin l c body active closed) (closing ∷ p) s h = h
@@ -137,14 +137,14 @@ stays_acting l c body active closed v i p (taking w ∷ r) s h o a d n ih =
     gives_more (λ b u us. Covered u (WorkTouches (work_at (active v) i))) (λ b u us. Can (basin l c body (put_active v us active) closed) (taking w ∷ r) (updated u s))
     (λ b u us g. (d.0, d.1, body_leaves l c w u (WorkTouches (work_at (active v) i)) g (λ x tx. h.2 x x (in_part body active v i x tx) (in_part body active v i x tx)) s d.2.0 d.2.1))
     (act_at (active v) i p s) (covered_at (active v) i p s)
-stays_acting l c body active closed v i p (acting w j ∷ r) s h o a d n ih = go (same_value v w) refl
+stays_acting l c body active closed v i p (acting w j ∷ r) s h o a d n ih = go (int_eq v w) refl
   where
     same_list : v ≡ w → Gives (λ b u us. CanAt us j r (updated u s)) (act_at (active v) i p s)
     same_list e =
         ih j r (subst (λ x. CanAt (active x) j r s) (sym e) d.1) (λ f g. n (λ k. acting (e k) (f k) ∷ g k))
         (λ m x y tx ty. h.2 x y (in_part body active v i x tx) (in_part body active v j y ty))
 
-    go : (b : Bool) → same_value v w ≡ b → Gives (λ b u us. Can (basin l c body (put_active v us active) closed) (acting w j ∷ r) (updated u s)) (act_at (active v) i p s)
+    go : (b : Bool) → int_eq v w ≡ b → Gives (λ b u us. Can (basin l c body (put_active v us active) closed) (acting w j ∷ r) (updated u s)) (act_at (active v) i p s)
     go true e =
         gives_more (λ b u us. CanAt us j r (updated u s)) (λ b u us. Can (basin l c body (put_active v us active) closed) (acting w j ∷ r) (updated u s))
         (λ b u us g. (d.0, subst (λ x. CanAt (cond x us (active w)) j r (updated u s)) (sym e) g)) (act_at (active v) i p s) (same_list (same-true v w e))
@@ -166,13 +166,13 @@ stays_taking : {P : Type 0} (l c : ℕ) (body : ℤ → Work P) (active : ℤ �
 stays_taking l c body active closed v p [] s h a d n = elim d [ ]
 stays_taking l c body active closed v p (part_number k ∷ r) s h a d n = elim d [ ]
 stays_taking l c body active closed v p (taking w ∷ r) s h a d n =
-    let other : same_value v w ≡ false = same-false v w (λ e. n (λ k. taking (e k) ∷ (a.1 ∙ sym d.1) k)) in
+    let other : int_eq v w ≡ false = same-false v w (λ e. n (λ k. taking (e k) ∷ (a.1 ∙ sym d.1) k)) in
     (d.0, d.1, (d.2.0, held_other l c l c v w other s ∙ d.2.1))
 stays_taking l c body active closed v p (acting w j ∷ r) s h a d n =
     let kept : CanAt (active w) j r (updated (remove l c v) s) =
     can_kept_at (active w) j r (remove l c v) s (λ b tb. body_unseen l c b (h.2 b b (in_part body active w j b tb) (in_part body active w j b tb))) d.1 in (
       d.0,
-      put_case (same_value v w) (at_last (active v) (body v)) (active w) (λ us. CanAt us j r (updated (remove l c v) s))
+      put_case (int_eq v w) (at_last (active v) (body v)) (active w) (λ us. CanAt us j r (updated (remove l c v) s))
           (λ e. subst (λ x. CanAt (at_last (active x) (body x)) j r (updated (remove l c v) s)) (sym (same-true v w e)) (can_last (active w) (body w) j r (updated (remove l c v) s) kept)) (λ e. kept),
     )
 stays_taking l c body active closed v p (closing ∷ r) s h a d n = absurd (no_taking l c s v a.2.0 a.2.1 (d.3 v))

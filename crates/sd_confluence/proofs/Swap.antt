@@ -3,7 +3,7 @@ use Rattle.std.proofs.Common.{◌≡◌, ℕ, zero, suc, pred, List, [], ◌∷�
 use Rattle.sd_work.specs.Change.{changed_at}
 use Rattle.sd_work.specs.Exit.{Values, Exit, first_exit}
 use Rattle.sd_work.specs.Touch.{Touch, AreCompatible}
-use Rattle.sd_confluence.specs.Alike.{same_value}
+use Rattle.std.specs.Ordering.{int_eq}
 use Rattle.sd_confluence.proofs.Values.{same-true, same-refl, same-false}
 use Rattle.sd_confluence.proofs.BagMemory.{Holding, cells, bag, nth, on_bag, add_one_of, drop_one_of, count_in, Frame, Stack, Update, keep, put, add, remove, updated, held, plain}
 use Rattle.sd_confluence.proofs.Works.{Work, thread, group, scope, nest, over, basin, Works, no_works, and_work, is_over, part_number, taking, acting, closing, Route, Answer, stops, makes, no_answer, map_answer, follow, owned_answer, at_last, put_active, act, act_at, Can, CanAt, CanHere}
@@ -26,9 +26,9 @@ at_comm_at d (suc i) (suc j) f g (x ∷ xs) h = ap (λ ys. x ∷ ys) (at_comm_at
 -- a value that waits can be taken before or after a push
 drop_add : (v x : ℤ) (k : Holding) (n : ℕ) → count_in k v ≡ suc n → on_bag (drop_one_of v) (on_bag (add_one_of x) k) ≡ on_bag (add_one_of x) (on_bag (drop_one_of v) k)
 drop_add v x (cells elements) n e = refl
-drop_add v x (bag f) n e = ap bag (λ i y. go y (same_value v y) refl (same_value x y) i)
+drop_add v x (bag f) n e = ap bag (λ i y. go y (int_eq v y) refl (int_eq x y) i)
   where
-    go : (y : ℤ) (a : Bool) → same_value v y ≡ a → (b : Bool) → cond a (pred (cond b (suc (f y)) (f y))) (cond b (suc (f y)) (f y)) ≡ cond b (suc (cond a (pred (f y)) (f y))) (cond a (pred (f y)) (f y))
+    go : (y : ℤ) (a : Bool) → int_eq v y ≡ a → (b : Bool) → cond a (pred (cond b (suc (f y)) (f y))) (cond b (suc (f y)) (f y)) ≡ cond b (suc (cond a (pred (f y)) (f y))) (cond a (pred (f y)) (f y))
     go y true q true = let h : f y ≡ suc n = ap f (sym (same-true v y q)) ∙ e in h ∙ ap (λ m. suc (pred m)) (sym h)
     go y true q false = refl
     go y false q true = refl
@@ -49,29 +49,29 @@ pick_cond : {A : Type 0} (b c : Bool) (x y : A) → b ≡ c → cond b x y ≡ c
 pick_cond b c x y e = ap (λ w. cond w x y) e
 
 put_same : {P : Type 0} (v : ℤ) (ts : Works P) (active : ℤ → Works P) → put_active v ts active v ≡ ts
-put_same v ts active = pick_cond (same_value v v) true ts (active v) (same-refl v)
+put_same v ts active = pick_cond (int_eq v v) true ts (active v) (same-refl v)
 
-put_other : {P : Type 0} (v w : ℤ) (ts : Works P) (active : ℤ → Works P) → same_value v w ≡ false → put_active v ts active w ≡ active w
-put_other v w ts active e = pick_cond (same_value v w) false ts (active w) e
+put_other : {P : Type 0} (v w : ℤ) (ts : Works P) (active : ℤ → Works P) → int_eq v w ≡ false → put_active v ts active w ≡ active w
+put_other v w ts active e = pick_cond (int_eq v w) false ts (active w) e
 
 put_twice : {P : Type 0} (v : ℤ) (ts us : Works P) (active : ℤ → Works P) → put_active v ts (put_active v us active) ≡ put_active v ts active
-put_twice {P} v ts us active = λ i x. go (same_value v x) (active x) i
+put_twice {P} v ts us active = λ i x. go (int_eq v x) (active x) i
   where
     go : (b : Bool) (a : Works P) → cond b ts (cond b us a) ≡ cond b ts a
     go true a = refl
     go false a = refl
 
 put_self : {P : Type 0} (v : ℤ) (active : ℤ → Works P) → put_active v (active v) active ≡ active
-put_self v active = λ i x. go x (same_value v x) refl i
+put_self v active = λ i x. go x (int_eq v x) refl i
   where
-    go : (x : ℤ) (b : Bool) → same_value v x ≡ b → cond b (active v) (active x) ≡ active x
+    go : (x : ℤ) (b : Bool) → int_eq v x ≡ b → cond b (active v) (active x) ≡ active x
     go x true e = ap active (same-true v x e)
     go x false e = refl
 
 put_put : {P : Type 0} (v w : ℤ) (ts us : Works P) (active : ℤ → Works P) → (v ≡ w → ⊥) → put_active v ts (put_active w us active) ≡ put_active w us (put_active v ts active)
-put_put v w ts us active n = λ i x. go x (same_value v x) refl (same_value w x) refl i
+put_put v w ts us active n = λ i x. go x (int_eq v x) refl (int_eq w x) refl i
   where
-    go : (x : ℤ) (a : Bool) → same_value v x ≡ a → (b : Bool) → same_value w x ≡ b → cond a ts (cond b us (active x)) ≡ cond b us (cond a ts (active x))
+    go : (x : ℤ) (a : Bool) → int_eq v x ≡ a → (b : Bool) → int_eq w x ≡ b → cond a ts (cond b us (active x)) ≡ cond b us (cond a ts (active x))
     go x true e true f = absurd (n (same-true v x e ∙ sym (same-true w x f)))
     go x true e false f = refl
     go x false e true f = refl
@@ -109,8 +109,8 @@ module _ {P : Type 0} (l c : ℕ) (body : ℤ → Work P) (active : ℤ → Work
   take_take : (v w : ℤ) → (v ≡ w → ⊥) → Square act (basin l c body active closed) (taking v ∷ []) (taking w ∷ []) s
   unfolding more
   take_take v w n =
-      let v_w : same_value v w ≡ false = same-false v w n in
-      let w_v : same_value w v ≡ false = same-false w v (λ e. n (sym e)) in
+      let v_w : int_eq v w ≡ false = same-false v w n in
+      let w_v : int_eq w v ≡ false = same-false w v (λ e. n (sym e)) in
       let first : put_active v (at_last (more w v) (body v)) (more w) ≡ put_active v (at_last (active v) (body v)) (more w) =
       ap (λ ts. put_active v (at_last ts (body v)) (more w)) (put_other w v (at_last (active w) (body w)) active w_v) in
       let second : put_active w (at_last (more v w) (body w)) (more v) ≡ put_active w (at_last (active w) (body w)) (more v) =
@@ -127,7 +127,7 @@ module _ {P : Type 0} (l c : ℕ) (body : ℤ → Work P) (active : ℤ → Work
   -- a take and then a move of an active work
   take_act : (v : ℤ) (n : ℕ) → held l c v s ≡ suc n → (w : ℤ) (k : ℕ) (p : Route) → CanAt (active w) k p s → Square act (basin l c body active closed) (taking v ∷ []) (acting w k ∷ p) s
   unfolding more
-  take_act v n e w k p a = go (same_value v w) refl
+  take_act v n e w k p a = go (int_eq v w) refl
     where
       -- for each move of the active work: what the other order gives
       both_orders : (m : Answer P (Works P)) → act_at (active w) k p s ≡ m → Gives (λ b u x. Covered u (WorkTouches (work_at (active w) k))) m → (f : Works P → ℤ → Works P) →
@@ -142,10 +142,10 @@ module _ {P : Type 0} (l c : ℕ) (body : ℤ → Work P) (active : ℤ → Work
         take_body l c v u (WorkTouches (work_at (active w) k)) g s n e,
       )
 
-      go : (b : Bool) → same_value v w ≡ b → Square act (basin l c body active closed) (taking v ∷ []) (acting w k ∷ p) s
+      go : (b : Bool) → int_eq v w ≡ b → Square act (basin l c body active closed) (taking v ∷ []) (acting w k ∷ p) s
       go false q =
-          let n' : v ≡ w → ⊥ = λ x. let bad : true ≡ false = sym (same-refl v) ∙ ap (same_value v) x ∙ q in cc in
-          let w_v : same_value w v ≡ false = same-false w v (λ x. n' (sym x)) in
+          let n' : v ≡ w → ⊥ = λ x. let bad : true ≡ false = sym (same-refl v) ∙ ap (int_eq v) x ∙ q in cc in
+          let w_v : int_eq w v ≡ false = same-false w v (λ x. n' (sym x)) in
           let moved : act_at (more v w) k p (updated (remove l c v) s) ≡ act_at (active w) k p s =
           ap (λ ts. act_at ts k p (updated (remove l c v) s)) (put_other v w (at_last (active v) (body v)) active q) ∙ stable_take v w k p in
           subst (λ m. Gives (λ b u z. Other act (basin l c body active closed) (taking v ∷ []) (acting w k ∷ p) s false (remove l c v) b u z) m)
@@ -171,10 +171,10 @@ module _ {P : Type 0} (l c : ℕ) (body : ℤ → Work P) (active : ℤ → Work
   unfolding more
   act_take v i p a w n e = at_move (act_at (active v) i p s) refl (covered_at (active v) i p s)
     where
-      after : (b : Bool) → same_value w v ≡ b → (us : Works P) (d : Bool) (u : Update) → act_at (active v) i p s ≡ makes d u us →
+      after : (b : Bool) → int_eq w v ≡ b → (us : Works P) (d : Bool) (u : Update) → act_at (active v) i p s ≡ makes d u us →
           act (basin l c body (more w) closed) (acting v i ∷ p) (updated (remove l c w) s) ≡ makes d u (basin l c body (put_active w (at_last (put_active v us active w) (body w)) (put_active v us active)) closed)
       after false q us d u f =
-          let n' : w ≡ v → ⊥ = λ x. let bad : true ≡ false = sym (same-refl w) ∙ ap (same_value w) x ∙ q in cc in
+          let n' : w ≡ v → ⊥ = λ x. let bad : true ≡ false = sym (same-refl w) ∙ ap (int_eq w) x ∙ q in cc in
           ap (map_answer (λ ts. basin l c body (put_active v ts (more w)) closed))
           (ap (λ ts. act_at ts i p (updated (remove l c w) s)) (put_other w v (at_last (active w) (body w)) active q) ∙ stable_take w v i p ∙ f)
           ∙ ap (λ x. makes d u (basin l c body x closed))
@@ -196,25 +196,25 @@ module _ {P : Type 0} (l c : ℕ) (body : ℤ → Work P) (active : ℤ → Work
       at_move (stops turn z) f g = tt
       at_move no_answer f g = tt
       at_move (makes d u us) f g =
-          (basin l c body (more w) closed, refl, after (same_value w v) refl us d u f, sym (take_body l c w u (WorkTouches (work_at (active v) i)) g s n e))
+          (basin l c body (more w) closed, refl, after (int_eq w v) refl us d u f, sym (take_body l c w u (WorkTouches (work_at (active v) i)) g s n e))
 
   -- moves of two active works
   act_act : (v : ℤ) (i : ℕ) (p : Route) (w : ℤ) (j : ℕ) (q : Route) → (v ≡ w → Square at_place (active v) (i, p) (j, q) s) → Square act (basin l c body active closed) (acting v i ∷ p) (acting w j ∷ q) s
-  act_act v i p w j q sq = go (same_value v w) refl
+  act_act v i p w j q sq = go (int_eq v w) refl
     where
       one_list : (k : ℕ) (r : Route) (x : Works P) (s' : Stack) → act (basin l c body (put_active v x active) closed) (acting v k ∷ r) s' ≡ map_answer (λ ts. basin l c body (put_active v ts active) closed) (act_at x k r s')
       one_list k r x s' =
           ap (λ ts. map_answer (λ us. basin l c body (put_active v us (put_active v x active)) closed) (act_at ts k r s')) (put_same v x active)
           ∙ ap (λ (f : Works P → ℤ → Works P). map_answer (λ us. basin l c body (f us) closed) (act_at x k r s')) (λ i' us. put_twice v us x active i')
 
-      go : (b : Bool) → same_value v w ≡ b → Square act (basin l c body active closed) (acting v i ∷ p) (acting w j ∷ q) s
+      go : (b : Bool) → int_eq v w ≡ b → Square act (basin l c body active closed) (acting v i ∷ p) (acting w j ∷ q) s
       go true e =
           let same : v ≡ w = same-true v w e in
           subst (λ x. Square act (basin l c body active closed) (acting v i ∷ p) (acting x j ∷ q) s) same
           (subst (λ a. Square act (basin l c body a closed) (acting v i ∷ p) (acting v j ∷ q) s) (put_self v active)
           (square_map (λ ts. basin l c body (put_active v ts active) closed) at_place act (i, p) (j, q) (acting v i ∷ p) (acting v j ∷ q) (λ x s'. one_list i p x s') (λ x s'. one_list j q x s') (active v) s (sq same)))
       go false e =
-          let n' : v ≡ w → ⊥ = λ x. let bad : true ≡ false = sym (same-refl v) ∙ ap (same_value v) x ∙ e in cc in
+          let n' : v ≡ w → ⊥ = λ x. let bad : true ≡ false = sym (same-refl v) ∙ ap (int_eq v) x ∙ e in cc in
           subst (λ a. Square act (basin l c body a closed) (acting v i ∷ p) (acting w j ∷ q) s) (ap (λ a. put_active w (active w) a) (put_self v active) ∙ put_self w active)
           (beside (λ x y. basin l c body (put_active w y (put_active v x active)) closed) act (acting v i ∷ p) (acting w j ∷ q) (λ x s'. act_at x i p s') (λ y s'. act_at y j q s')
           (λ x y s'.

@@ -12,7 +12,7 @@ use Rattle.sd_work.specs.Exit.{Values, Exit, first_exit}
 use Rattle.sd_work.specs.Residual.{Term, leaf, list, owning, nested, ended, pool, Terms, none, also, Actives, idle, busy, finished}
 use Rattle.sd_work.specs.Moves.{Path}
 use Rattle.sd_work.specs.Fire.{owned, transition, take_move, fire, fire_part, fire_active}
-use Rattle.sd_work.specs.Touch.{Touch, takes, inner, Touches, SomePart, SomeActive}
+use Rattle.sd_work.specs.Touch.{Touch, takes, inner, Touches, SomePartTouches, SomeActiveTouches}
 
 -- a stream that a change takes from is among these
 abbrev pub TakesOf : Change → (Touch → Type 0) → Type 0
@@ -104,7 +104,7 @@ mutual
   pub takes-touched : {P : Type 0} (t : Term P) (p : Path) (s : Memories) → Changes (λ u x. TakesOf u (Touches t)) (fire t p s)
   takes-touched (leaf place work) p s = within_map (leaf place) (Touches (leaf place work)) (Touches (leaf place work)) (λ a x. x) (leaf_move place work s) (within_leaf place (Touches (leaf place work)) work s)
   takes-touched (list kind before parts) [] s = tt
-  takes-touched (list kind before parts) (k ∷ p) s = within_map (list kind before) (SomePart parts) (SomePart parts) (λ a x. x) (fire_part parts k p s) (part_takes parts k p s)
+  takes-touched (list kind before parts) (k ∷ p) s = within_map (list kind before) (SomePartTouches parts) (SomePartTouches parts) (λ a x. x) (fire_part parts k p s) (part_takes parts k p s)
   takes-touched (owning own part) p s = within_owned owning own (Touches part) (Touches (owning own part)) (λ a x. x) (fire part p (own ∷ s)) (takes-touched part p (own ∷ s))
   takes-touched (nested body exits own state values part) p s =
       changes_cond (λ u x. TakesOf u (Touches (nested body exits own state values part))) (finished part) _ _
@@ -116,14 +116,14 @@ mutual
   takes-touched (pool l c body active closed) (zero ∷ k ∷ p) s = within_take l c body active closed k (slice_get (waiting l c s) k)
   takes-touched (pool l c body active closed) (suc n ∷ []) s = tt
   takes-touched (pool l c body active closed) (suc n ∷ k ∷ p) s =
-      within_map (λ x. pool l c body x closed) (SomeActive active) (Touches (pool l c body active closed)) (λ a x. inr (inl x)) (fire_active active k p s) (active_takes active k p s)
+      within_map (λ x. pool l c body x closed) (SomeActiveTouches active) (Touches (pool l c body active closed)) (λ a x. inr (inl x)) (fire_active active k p s) (active_takes active k p s)
 
-  part_takes : {P : Type 0} (ts : Terms P) (k : ℕ) (p : Path) (s : Memories) → TakesWithin (SomePart ts) (fire_part ts k p s)
+  part_takes : {P : Type 0} (ts : Terms P) (k : ℕ) (p : Path) (s : Memories) → TakesWithin (SomePartTouches ts) (fire_part ts k p s)
   part_takes none k p s = tt
-  part_takes (also t ts) zero p s = within_map (λ x. also x ts) (Touches t) (SomePart (also t ts)) (λ a x. inl x) (fire t p s) (takes-touched t p s)
-  part_takes (also t ts) (suc k) p s = within_map (also t) (SomePart ts) (SomePart (also t ts)) (λ a x. inr x) (fire_part ts k p s) (part_takes ts k p s)
+  part_takes (also t ts) zero p s = within_map (λ x. also x ts) (Touches t) (SomePartTouches (also t ts)) (λ a x. inl x) (fire t p s) (takes-touched t p s)
+  part_takes (also t ts) (suc k) p s = within_map (also t) (SomePartTouches ts) (SomePartTouches (also t ts)) (λ a x. inr x) (fire_part ts k p s) (part_takes ts k p s)
 
-  active_takes : {P : Type 0} (ts : Actives P) (k : ℕ) (p : Path) (s : Memories) → TakesWithin (SomeActive ts) (fire_active ts k p s)
+  active_takes : {P : Type 0} (ts : Actives P) (k : ℕ) (p : Path) (s : Memories) → TakesWithin (SomeActiveTouches ts) (fire_active ts k p s)
   active_takes idle k p s = tt
-  active_takes (busy v t ts) zero p s = within_map (λ x. busy v x ts) (Touches t) (SomeActive (busy v t ts)) (λ a x. inl x) (fire t p s) (takes-touched t p s)
-  active_takes (busy v t ts) (suc k) p s = within_map (busy v t) (SomeActive ts) (SomeActive (busy v t ts)) (λ a x. inr x) (fire_active ts k p s) (active_takes ts k p s)
+  active_takes (busy v t ts) zero p s = within_map (λ x. busy v x ts) (Touches t) (SomeActiveTouches (busy v t ts)) (λ a x. inl x) (fire t p s) (takes-touched t p s)
+  active_takes (busy v t ts) (suc k) p s = within_map (busy v t) (SomeActiveTouches ts) (SomeActiveTouches (busy v t ts)) (λ a x. inr x) (fire_active ts k p s) (active_takes ts k p s)

@@ -65,7 +65,7 @@ taking-order {P} own other container body turns picks others left happened may s
     x = r.0
 
     mayB : MayInterleave B
-    mayB = record { ordered = may.ordered; safe = may.safe; whole = may.whole }
+    mayB = record { ordered = may.ordered; safe = may.safe; inside = may.inside }
 
     c : (j : ℕ) × (y : Machine P) × Reaches j others (opening B turns) y × (engine y.term y.turns ≡ engine x.term x.turns)
     c = confluent A B (ap (λ f. scope f (work_of (pool 0 container body idle false))) (alike-frame own other same)) (sound-of A may) (sound-of B mayB) (safe-image A may.safe) turns done.0 picks x r.1 others
@@ -93,7 +93,7 @@ taking-order {P} own other container body turns picks others left happened may s
     memories : AreAlike first.0 second.0
     memories =
         subst (λ m. AreAlike m second.0) (ap (λ (m : Machine P). memory_of m.term) first.4)
-        (subst (λ m. AreAlike (memory_of x.term) m) (ap (λ (m : Machine P). memory_of m.term) second.4) (left-alike x y (sym c.3)).memories)
+        (subst (λ m. AreAlike (memory_of x.term) m) (ap (λ (m : Machine P). memory_of m.term) second.4) (left-alike x y (sym c.3)).memory)
 
     taken : (st : ℕ) → HoldAlike (values_taken st es1) (values_taken st es2)
     taken st v =

@@ -7,7 +7,7 @@ use Rattle.sd_work.specs.Touch.{takes, inner, Touches}
 use Rattle.sd_work.specs.Settle.{all_true, is_first_left}
 use Rattle.sd_work.proofs.Absorbing.{flag_joined}
 use Rattle.sd_work.proofs.Flags.{both, not_true}
-use Rattle.sd_confluence.specs.Safe.{TakesNothing, IsSafe, AreSafe, AreActiveSafe}
+use Rattle.sd_confluence.specs.Safe.{TakesNothingOutside, IsSafe, AreSafe, AreActiveSafe}
 
 -- the streams that this term takes from are cleared
 abbrev pub Clear : {P : Type 0} → Term P → List Bool → Type 0
@@ -15,7 +15,7 @@ Clear t cleared = (level container : ℕ) → Touches t (takes level container) 
 
 -- of two points of which neither is before the other, the later takes nothing
 abbrev pub PointsWait : {P : Type 0} → Parts → (ℕ → ℕ → Bool) → Terms P → Type 0
-PointsWait kind before parts = kind ≡ Points → (i j : ℕ) → i < j → before i j ≡ false → TakesNothing (part_at parts j)
+PointsWait kind before parts = kind ≡ Points → (i j : ℕ) → i < j → before i j ≡ false → TakesNothingOutside (part_at parts j)
 
 -- so it is in each list, also in what is unfolded later
 abbrev mutual
@@ -61,7 +61,7 @@ unfinished before j k (false ∷ bs) e r = (j, omega arith, not_true (before j k
 
 -- a ready part of a list has its streams cleared as the list has, for either all earlier points are finished or it takes nothing
 pub clear_part : {P : Type 0} (kind : Parts) (before : ℕ → ℕ → Bool) (bs : List Bool) (k : ℕ) (t : Term P) (cleared : List Bool) → length bs ≡ k → is_ready before bs k ≡ true →
-    (kind ≡ Points → (i : ℕ) → i < k → before i k ≡ false → TakesNothing t) → Clear t cleared → Clear t (map (λ flag. is_first_left kind bs && flag) cleared)
+    (kind ≡ Points → (i : ℕ) → i < k → before i k ≡ false → TakesNothingOutside t) → Clear t cleared → Clear t (map (λ flag. is_first_left kind bs && flag) cleared)
 clear_part Items before bs k t cleared n r w c = λ l d h. flag_joined true cleared l ∙ c l d h
 clear_part Points before bs k t cleared n r w c = λ l d h. go l d h (all_true bs) refl
   where

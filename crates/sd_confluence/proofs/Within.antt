@@ -8,7 +8,7 @@ use Rattle.sd_work.specs.Move.{Fault}
 use Rattle.sd_work.specs.LeafMove.{leaf_move, read_move, write_move, evaluation_move}
 use Rattle.sd_work.specs.Exit.{Values, Exit, first_exit}
 use Rattle.sd_work.specs.Touch.{Touch, writes, pushes, takes, inner, LeafTouches}
-use Rattle.sd_confluence.specs.Alike.{same_value}
+use Rattle.std.specs.Ordering.{int_eq}
 use Rattle.sd_confluence.proofs.BagMemory.{Frame, Stack, Update, keep, put, add, remove, plain, outer_put, outer_update, own_update}
 use Rattle.sd_confluence.proofs.Works.{Work, thread, group, scope, nest, over, basin, Works, no_works, and_work, is_over, Route, part_number, taking, acting, closing, Answer, stops, makes, no_answer, map_answer, leaf_answer, follow, owned_answer, at_last, put_active, act, act_at}
 use Rattle.sd_confluence.proofs.WorkTouches.{WorkTouches, SomeWork, work_at}
@@ -123,13 +123,13 @@ put_touches false ts us a h = inr h
 take_touches : {P : Type 0} (v : ℤ) (body : ℤ → Work P) (active : ℤ → Works P) (a : Touch) (w : ℤ) → SomeWork (put_active v (at_last (active v) (body v)) active w) a →
     ((x : ℤ) × SomeWork (active x) a) ⊎ ((x : ℤ) × WorkTouches (body x) a)
 take_touches v body active a w h =
-    elim (put_touches (same_value v w) (at_last (active v) (body v)) (active w) a h) [
+    elim (put_touches (int_eq v w) (at_last (active v) (body v)) (active w) a h) [
       | inl x ↦ elim (last_touches (active v) (body v) a x) [ inl y ↦ inl (v, y) | inr y ↦ inr (v, y) ]
       | inr x ↦ inl (w, x)
     ]
 
 act_touches : {P : Type 0} (v : ℤ) (us : Works P) (active : ℤ → Works P) (a : Touch) → ((a : Touch) → SomeWork us a → SomeWork (active v) a) → (w : ℤ) → SomeWork (put_active v us active w) a → (x : ℤ) × SomeWork (active x) a
-act_touches v us active a g w h = elim (put_touches (same_value v w) us (active w) a h) [ inl x ↦ (v, g a x) | inr x ↦ (w, x) ]
+act_touches v us active a g w h = elim (put_touches (int_eq v w) us (active w) a h) [ inl x ↦ (v, g a x) | inr x ↦ (w, x) ]
 
 mutual
   -- a move touches what its work may touch, and leaves work that touches no more

@@ -2,7 +2,7 @@
 use Rattle.std.proofs.Common.{◌≡◌, ℕ, zero, suc, ◌<◌, ℤ, false, ◌⊎◌, [], Bool, true, cond}
 use Rattle.std.specs.Bool.{⊤}
 use Rattle.sd_work.specs.Exit.{Values}
-use Rattle.sd_work.specs.Touch.{Touch, reads, writes, pushes, takes, AreCompatible, inner, LeafTouches, SomeExit}
+use Rattle.sd_work.specs.Touch.{Touch, reads, writes, pushes, takes, AreCompatible, inner, LeafTouches, SomeExitTouches}
 use Rattle.sd_confluence.proofs.Works.{Work, thread, group, scope, nest, over, basin, Works, no_works, and_work}
 
 -- the second touch does not depend on what the first one changes
@@ -20,7 +20,7 @@ abbrev mutual
   WorkTouches (nest body exits own state values part) a =
       WorkTouches part (inner a)
       ⊎ (((k : ℕ) × (e : Values) × WorkTouches (body k e) (inner a))
-      ⊎ ((k : ℕ) × (e : Values) × SomeExit (exits k e) (inner a)))
+      ⊎ ((k : ℕ) × (e : Values) × SomeExitTouches (exits k e) (inner a)))
   WorkTouches (over own) a = ⊥
   WorkTouches (basin l c body active closed) a = (a ≡ takes l c) ⊎ (((v : ℤ) × SomeWork (active v) a) ⊎ ((v : ℤ) × WorkTouches (body v) a))
 

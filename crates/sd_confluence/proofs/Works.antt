@@ -5,7 +5,7 @@ use Rattle.sd_work.specs.Move.{Fault, Move, fails, goes, no_move}
 use Rattle.sd_work.specs.LeafMove.{leaf_move}
 use Rattle.sd_work.specs.Exit.{Values, Exit, first_exit}
 use Rattle.sd_work.specs.Residual.{is_ready}
-use Rattle.sd_confluence.specs.Alike.{same_value}
+use Rattle.std.specs.Ordering.{int_eq}
 use Rattle.sd_confluence.proofs.BagMemory.{Frame, Stack, Update, keep, remove, update_by, outer_update, own_update, plain, held}
 
 mutual
@@ -83,7 +83,7 @@ at_last no_works t = and_work t no_works
 at_last (and_work u us) t = and_work u (at_last us t)
 
 abbrev pub put_active : {P : Type 0} → ℤ → Works P → (ℤ → Works P) → ℤ → Works P
-put_active v ts active w = cond (same_value v w) ts (active w)
+put_active v ts active w = cond (int_eq v w) ts (active w)
 
 -- the move at a place
 abbrev mutual

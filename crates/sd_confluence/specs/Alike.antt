@@ -1,19 +1,13 @@
 -- Memories that differ in the order of streams alone.
-use Rattle.std.specs.Prelude.{◌≡◌, ℕ, suc, ℤ, pos, negsuc, List, [], ◌∷◌, Bool, false, cond, eqb, ⊤}
+use Rattle.std.specs.Prelude.{◌≡◌, ℕ, suc, ℤ, List, [], ◌∷◌, cond, ⊤}
+use Rattle.std.specs.Ordering.{int_eq}
 use Rattle.sd_work.specs.Memory.{Contents, array, stream, Memory}
 use Rattle.sd_work.specs.Run.{Left}
-
--- whether two values are one
-abbrev pub same_value : ℤ → ℤ → Bool
-same_value (pos m) (pos n) = eqb m n
-same_value (pos m) (negsuc n) = false
-same_value (negsuc m) (pos n) = false
-same_value (negsuc m) (negsuc n) = eqb m n
 
 -- how often a value stands in a list
 abbrev pub how_often : List ℤ → (value : ℤ) → ℕ
 how_often [] value = 0
-how_often (first ∷ values) value = cond (same_value first value) (suc (how_often values value)) (how_often values value)
+how_often (first ∷ values) value = cond (int_eq first value) (suc (how_often values value)) (how_often values value)
 
 -- each value stands in both lists equally often
 abbrev pub HoldAlike : List ℤ → List ℤ → Type 0
@@ -35,5 +29,5 @@ AreAlike (contents ∷ memory) (others ∷ other) = AreContentsAlike contents ot
 
 -- two runs leave the same: memories alike, and as many turns
 pub record LeaveAlike (left other : Left) : Type 0 where
-  pub memories : AreAlike left.memory other.memory
+  pub memory : AreAlike left.memory other.memory
   pub turns : left.turns ≡ other.turns

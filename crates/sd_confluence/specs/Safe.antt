@@ -4,30 +4,30 @@ use Rattle.sd_work.specs.Exit.{Values}
 use Rattle.sd_work.specs.Residual.{Parts, Points, Term, leaf, list, owning, nested, ended, pool, Terms, none, also, part_at, Actives, idle, busy, none_active}
 use Rattle.sd_work.specs.WellFormed.{IsOrdered}
 use Rattle.sd_work.specs.Memory.{Memory}
-use Rattle.sd_work.specs.Touch.{Touch, takes, AreCompatible, Touches, SomeActive}
+use Rattle.sd_work.specs.Touch.{Touch, takes, AreCompatible, Touches, SomeActiveTouches}
 
 -- whatever the two touch does not conflict
-abbrev pub DoNotConflict : {P : Type 0} → (first second : Term P) → Type 0
-DoNotConflict first second = (touch other : Touch) → Touches first touch → Touches second other → AreCompatible touch other
+abbrev pub TouchCompatibly : {P : Type 0} → (first second : Term P) → Type 0
+TouchCompatibly first second = (touch other : Touch) → Touches first touch → Touches second other → AreCompatible touch other
 
 -- no stream outside of this work is taken from
-abbrev pub TakesNothing : {P : Type 0} → Term P → Type 0
-TakesNothing term = (level container : ℕ) → Touches term (takes level container) → ⊥
+abbrev pub TakesNothingOutside : {P : Type 0} → Term P → Type 0
+TakesNothingOutside term = (level container : ℕ) → Touches term (takes level container) → ⊥
 
 -- parts of which neither is before the other do not conflict, and of two such points the later takes from no stream outside of it
 pub record ArePartsSafe {P : Type 0} (kind : Parts) (before : ℕ → ℕ → Bool) (parts : Terms P) : Type 0 where
-  pub apart : (i j : ℕ) → i < j → before i j ≡ false → DoNotConflict (part_at parts i) (part_at parts j)
-  pub points : kind ≡ Points → (i j : ℕ) → i < j → before i j ≡ false → TakesNothing (part_at parts j)
+  pub compatible : (i j : ℕ) → i < j → before i j ≡ false → TouchCompatibly (part_at parts i) (part_at parts j)
+  pub points : kind ≡ Points → (i j : ℕ) → i < j → before i j ≡ false → TakesNothingOutside (part_at parts j)
 
 -- what the work of a pool touches, for any value
 abbrev pub PoolTouches : {P : Type 0} → (ℤ → Term P) → Actives P → Touch → Type 0
-PoolTouches body active touch = SomeActive active touch ⊎ ((value : ℤ) × Touches (body value) touch)
+PoolTouches body active touch = SomeActiveTouches active touch ⊎ ((value : ℤ) × Touches (body value) touch)
 
--- the works of a pool for any two values do not conflict
+-- the works of a pool for any two values do not conflict, those of one value twice and one work with itself included
 abbrev pub IsPoolSafe : {P : Type 0} → (ℤ → Term P) → Actives P → Type 0
 IsPoolSafe body active = (touch other : Touch) → PoolTouches body active touch → PoolTouches body active other → AreCompatible touch other
 
--- each list and each pool of a term is safe, also in what is unfolded later; a pool that is finished for good has no active term
+-- each list and each pool of a term is safe, also in all that may be unfolded later, for every state and all values; a pool that is finished for good has no active term
 abbrev mutual
   pub IsSafe : {P : Type 0} → Term P → Type 0
   IsSafe (leaf place work) = ⊤
@@ -49,8 +49,8 @@ abbrev mutual
 pub record MayInterleave {P : Type 0} (term : Term P) : Type 0 where
   pub ordered : IsOrdered term
   pub safe : IsSafe term
-  pub whole : TakesNothing term
+  pub inside : TakesNothingOutside term
 
--- the work of one pool over a stream of this memory
+-- the work of one pool over a stream of this memory, which is all that stands around it
 abbrev pub pool_over : {P : Type 0} → Memory → (container : ℕ) → (ℤ → Term P) → Term P
 pool_over own container body = owning own (pool 0 container body idle false)

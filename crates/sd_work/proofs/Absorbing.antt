@@ -4,7 +4,7 @@ use Rattle.std.specs.Bool.{⊤}
 use Rattle.sd_work.specs.Memory.{Memory, Memories, waiting}
 use Rattle.sd_work.specs.Residual.{Parts, Items, Points, Term, leaf, list, owning, nested, ended, pool, Terms, none, also, Actives, idle, busy, finished, all_finished, none_active, is_ready, ready_from}
 use Rattle.sd_work.specs.Settle.{is_empty, all_true, is_first_left, settle, settle_parts, settle_active}
-use Rattle.sd_work.specs.Touch.{takes, Touches, SomePart, SomeActive}
+use Rattle.sd_work.specs.Touch.{takes, Touches, SomePartTouches, SomeActiveTouches}
 use Rattle.sd_work.proofs.Flags.{both, both_true, or_left, and_up, or_up}
 
 -- ---- what is finished stays so
@@ -126,7 +126,7 @@ KeepParts go cl s s' kind before fs n (also part parts) =
     × ((b : Bool) → KeepParts go cl s s' kind before (fs ++ b ∷ []) (suc n) parts)
 
 keep_parts : {P : Type 0} (go : Bool) (cl : List Bool) (s s' : Memories) (kind : Parts) (before : ℕ → ℕ → Bool) (fs : List Bool) (n : ℕ) (parts : Terms P) →
-    Keeps go cl s s' (λ l c. SomePart parts (takes l c)) → KeepParts go cl s s' kind before fs n parts
+    Keeps go cl s s' (λ l c. SomePartTouches parts (takes l c)) → KeepParts go cl s s' kind before fs n parts
 keep_parts go cl s s' kind before fs n none h = tt
 keep_parts go cl s s' kind before fs n (also part parts) h = (
   λ l c t e f g. h l c (inl t) (both go (is_ready before fs n) e).0 (index_both (is_first_left kind fs) cl l f).1 g,
@@ -185,7 +185,7 @@ mutual
 
   -- the same of active terms
   absorb_active : {P : Type 0} (go go' : Bool) → (go ≡ true → go' ≡ true) → (cl cl' : List Bool) → Below cl cl' → (s s' : Memories) (active : Actives P) →
-      Keeps go cl s s' (λ l c. SomeActive active (takes l c)) → settle_active go' cl' s' (settle_active go cl s active) ≡ settle_active go' cl' s' active
+      Keeps go cl s s' (λ l c. SomeActiveTouches active (takes l c)) → settle_active go' cl' s' (settle_active go cl s active) ≡ settle_active go' cl' s' active
   absorb_active go go' g cl cl' b s s' idle k = refl
   absorb_active go go' g cl cl' b s s' (busy value part active) k =
       λ i. busy value (absorb go go' g cl cl' b s s' part (λ l c t. k l c (inl t)) i) (absorb_active go go' g cl cl' b s s' active (λ l c t. k l c (inr t)) i)

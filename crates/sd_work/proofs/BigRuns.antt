@@ -14,7 +14,7 @@ use Rattle.sd_work.specs.Run.{Left, Sequential, run}
 use Rattle.sd_work.specs.BigStep.{Coming, and_then, spending, after_exit, big_step, big_states}
 use Rattle.sd_work.specs.BigRun.{left_by, big_run}
 use Rattle.sd_work.specs.WellFormed.{IsOrdered, IsRun}
-use Rattle.sd_work.specs.OrderedPools.{OrdersPools}
+use Rattle.sd_work.specs.OrderedPools.{HasOrderedPools}
 use Rattle.sd_work.proofs.Leads.{front, Pays, Feeds, Leads, FailsBy, Stops, Makes, Agrees}
 use Rattle.sd_work.proofs.LeftmostLists.{leads_more, makes_then, agrees_then, agrees_less}
 use Rattle.sd_work.proofs.LeftmostOwners.{inside, owned_leads, owned_stops, cons_leads, outer_length, nest_moves, nest_fires, exit_moves, exit_fires}
@@ -119,7 +119,7 @@ ends d t n None a outcome e = cc
 
 -- the leftmost moves of a whole run
 whole_run : {P : Type 0} (body : ℕ → Values → Term P) (exits : ℕ → Values → List (Exit P)) (own : Memory) (state : ℕ) (values : Values) (part : Term P) (most turns : ℕ) →
-    IsOrdered (nested body exits own state values part) → OrdersPools 0 (nested body exits own state values part) →
+    IsOrdered (nested body exits own state values part) → HasOrderedPools 0 (nested body exits own state values part) →
     AgreesWhole anywhere most (nested body exits own state values part) [] turns (and_then (big_step part most (own ∷ []) turns) (big_states most (λ k v. big_step (body k v) most) exits state values))
 whole_run body exits own state values part most turns o h =
     whole_owned anywhere body exits state values most own part [] turns (big_step part most (own ∷ []) turns) (big_states most (λ k v. big_step (body k v) most) exits state values)
@@ -128,7 +128,7 @@ whole_run body exits own state values part most turns o h =
     (agree part o.0 1 h.0 (inside anywhere) (λ l c into. anywhere_inside l c) most (own ∷ []) turns refl)
 
 -- a run that is done from left to right ends as the sequential run
-pub big_run-sequential : {P : Type 0} (term : Term P) (most turns : ℕ) (outcome : Outcome P Left) → IsOrdered term → OrdersPools 0 term → big_run term most turns ≡ Some outcome → Sequential term turns outcome
+pub big_run-sequential : {P : Type 0} (term : Term P) (most turns : ℕ) (outcome : Outcome P Left) → IsOrdered term → HasOrderedPools 0 term → big_run term most turns ≡ Some outcome → Sequential term turns outcome
 big_run-sequential (nested body exits own state values part) most turns outcome o h e =
     ends most (nested body exits own state values part) turns (and_then (big_step part most (own ∷ []) turns) (big_states most (λ k v. big_step (body k v) most) exits state values))
     (whole_run body exits own state values part most turns o h)
@@ -147,11 +147,11 @@ answers t looks n (Some Spent) a outcome e = (Spent, refl)
 answers t looks n None a outcome e = let none : run looks [] (machine (settled t) n) ≡ None = run-none anywhere looks a.0 a.4 t n a.1 a.2 a.3 a.5 in cc
 
 -- an answer is that of the sequential run
-the_answer : {P : Type 0} (term : Term P) (most turns : ℕ) (outcome : Outcome P Left) → IsOrdered term → OrdersPools 0 term → Sequential term turns outcome → (other : Outcome P Left) × (big_run term most turns ≡ Some other) → big_run term most turns ≡ Some outcome
+the_answer : {P : Type 0} (term : Term P) (most turns : ℕ) (outcome : Outcome P Left) → IsOrdered term → HasOrderedPools 0 term → Sequential term turns outcome → (other : Outcome P Left) × (big_run term most turns ≡ Some other) → big_run term most turns ≡ Some outcome
 the_answer term most turns outcome o h s r = r.1 ∙ ap Some (Run-unique term turns [] r.0 outcome (big_run-sequential term most turns r.0 o h r.1) s)
 
 -- and it has an end wherever the sequential run has one
-pub sequential-big_run : {P : Type 0} (term : Term P) (turns : ℕ) (outcome : Outcome P Left) → IsOrdered term → OrdersPools 0 term → IsRun term → Sequential term turns outcome → (most : ℕ) × (big_run term most turns ≡ Some outcome)
+pub sequential-big_run : {P : Type 0} (term : Term P) (turns : ℕ) (outcome : Outcome P Left) → IsOrdered term → HasOrderedPools 0 term → IsRun term → Sequential term turns outcome → (most : ℕ) × (big_run term most turns ≡ Some outcome)
 sequential-big_run (nested body exits own state values part) turns outcome o h g s = (
   s.0,
   the_answer (nested body exits own state values part) s.0 turns outcome o h s

@@ -4,9 +4,9 @@ use Rattle.sd_work.specs.Memory.{Memories}
 use Rattle.sd_work.specs.Leaf.{reading, doing}
 use Rattle.sd_work.specs.Residual.{Parts, Items, Term, leaf, list, owning, nested, ended, pool, Terms, none, also, Actives, idle, busy, finished, all_finished, none_active, IsOrder, part_at}
 use Rattle.sd_work.specs.BigStep.{Coming, reached, and_then, leaving, big_states, big_step, big_parts, big_active, big_takes}
-use Rattle.sd_work.specs.Touch.{pushes, Touches, SomePart, SomeActive}
+use Rattle.sd_work.specs.Touch.{pushes, Touches, SomePartTouches, SomeActiveTouches}
 use Rattle.sd_work.specs.WellFormed.{IsOrdered, AreOrdered, AreActiveOrdered}
-use Rattle.sd_work.specs.OrderedPools.{DoesNotFeed, IsAlone, OrdersPools, OrderPools, OrderActivePools}
+use Rattle.sd_work.specs.OrderedPools.{DoesNotFeed, AllButLastFinished, HasOrderedPools, HaveOrderedPools, HaveOrderedActivePools}
 use Rattle.sd_work.proofs.Fronts.{◌⊕◌, count_of, Apart}
 use Rattle.sd_work.proofs.Leads.{Feeds, Agrees}
 use Rattle.sd_work.proofs.LeftmostLists.{list_agrees, plus_assoc, plus_finished, plus_none, count_more}
@@ -62,7 +62,7 @@ mutual
 
 mutual
   -- the leftmost moves of a term do what it does all at once, or are at least as many as the transitions and takes that are allowed
-  pub agree : {P : Type 0} (term : Term P) → IsOrdered term → (depth : ℕ) → OrdersPools depth term → (W : Feeds) → ((l c : ℕ) → Touches term (pushes l c) → W l c) → (most : ℕ) (memories : Memories) (turns : ℕ) → length memories ≡ depth →
+  pub agree : {P : Type 0} (term : Term P) → IsOrdered term → (depth : ℕ) → HasOrderedPools depth term → (W : Feeds) → ((l c : ℕ) → Touches term (pushes l c) → W l c) → (most : ℕ) (memories : Memories) (turns : ℕ) → length memories ≡ depth →
       Agrees W most term memories turns (big_step term most memories turns)
   agree (leaf place (reading begun left values evaluation)) h depth op W w d s n len = agree_reading W d place begun left values evaluation (λ given effects e l c t. w l c (inr (given, effects, e, t))) s n
   agree (leaf place (doing left)) h depth op W w d s n len = agree_doing W d place left w s n
@@ -93,7 +93,7 @@ mutual
       idle refl s n len
 
   -- the same of the parts of a list, behind finished ones
-  agree_parts : {P : Type 0} (parts : Terms P) → AreOrdered parts → (depth : ℕ) → OrderPools depth parts → (W : Feeds) → ((l c : ℕ) → SomePart parts (pushes l c) → W l c) → (kind : Parts) (before : ℕ → ℕ → Bool) → IsOrder before →
+  agree_parts : {P : Type 0} (parts : Terms P) → AreOrdered parts → (depth : ℕ) → HaveOrderedPools depth parts → (W : Feeds) → ((l c : ℕ) → SomePartTouches parts (pushes l c) → W l c) → (kind : Parts) (before : ℕ → ℕ → Bool) → IsOrder before →
       (pre : Terms P) → all_finished pre ≡ true → (number : ℕ) → count_of pre ≡ number → Unfed kind before number parts →
       (most : ℕ) (memories : Memories) (turns : ℕ) → length memories ≡ depth → Agrees W most (list kind before (◌⊕◌ pre parts)) memories turns (big_parts parts most memories turns)
   agree_parts none h depth op W w kind before o pre e number c unfed d s n len = (0, list kind before (◌⊕◌ pre none), (refl, refl, refl), ap all_finished (plus_none pre) ∙ e)
@@ -107,7 +107,7 @@ mutual
       (agree t h.0 depth op.0 V (λ l c into. into) d s n len)
 
   -- the same of the active terms of a pool, of which all but the last are finished, and then of its takes
-  agree_active : {P : Type 0} (active : Actives P) → AreActiveOrdered active → (depth : ℕ) → IsAlone active → OrderActivePools depth active → (W : Feeds) → ((l c : ℕ) → SomeActive active (pushes l c) → W l c) →
+  agree_active : {P : Type 0} (active : Actives P) → AreActiveOrdered active → (depth : ℕ) → AllButLastFinished active → HaveOrderedActivePools depth active → (W : Feeds) → ((l c : ℕ) → SomeActiveTouches active (pushes l c) → W l c) →
       (level container : ℕ) (body : ℤ → Term P) (most : ℕ) (then : Memories → ℕ → Coming P) →
       ((b : Actives P) → none_active b ≡ true → (s : Memories) (m : ℕ) → length s ≡ depth → Agrees W most (pool level container body b false) s m (then s m)) →
       (pre : Actives P) → none_active pre ≡ true → (memories : Memories) (turns : ℕ) → length memories ≡ depth →

@@ -15,7 +15,7 @@ use Rattle.sd_work.specs.Moves.{Path, moves}
 use Rattle.sd_work.specs.Fire.{owned, transition, fire}
 use Rattle.sd_work.specs.Step.{Outcome, Done, Faulted, Spent}
 use Rattle.sd_work.specs.BigStep.{Reached, Coming, reached, and_then, spending, after_move, big_doing, big_evaluated, after_read, big_reading, leaving, after_exit, big_states}
-use Rattle.sd_work.specs.Touch.{pushes, PendingTouches, SomePending}
+use Rattle.sd_work.specs.Touch.{pushes, PendingTouches, SomePendingTouches}
 use Rattle.sd_work.proofs.Absorbing.{stays}
 use Rattle.sd_work.proofs.Changes.{apply-own}
 use Rattle.sd_work.proofs.Leads.{front, Feeds, Within, Leads, FailsBy, FailsNow, Stops, Agrees, clear}
@@ -168,7 +168,7 @@ effect_within W place (transfer from to by) s left h b u w q = write_within W pl
 effect_within W place (push_to l c v) s left h b u w q = let same : push l c v ≡ u = cc in subst (Within W) same (h l c refl)
 
 -- a leaf that does what it is to do
-pub agree_doing : {P : Type 0} (W : Feeds) (d : ℕ) (place : P) (es : List Pending) → ((l c : ℕ) → SomePending es (pushes l c) → W l c) → (s : Memories) (n : ℕ) → Agrees W d (leaf place (doing es)) s n (big_doing place es s n)
+pub agree_doing : {P : Type 0} (W : Feeds) (d : ℕ) (place : P) (es : List Pending) → ((l c : ℕ) → SomePendingTouches es (pushes l c) → W l c) → (s : Memories) (n : ℕ) → Agrees W d (leaf place (doing es)) s n (big_doing place es s n)
 agree_doing W d place [] h s n = (0, leaf place (doing []), (refl, refl, refl), refl)
 agree_doing W d place (e ∷ es) h s n =
     one_agrees W d d (omega arith) (leaf place) (leaf place (doing (e ∷ es))) s n (do_move place e s es) (big_doing place es) [] [] refl refl (effect_some place e s es)
@@ -177,7 +177,7 @@ agree_doing W d place (e ∷ es) h s n =
 
 -- what an evaluation gives pushes into these streams
 abbrev Evaluated : Feeds → Evaluation → Type 0
-Evaluated W eval = (given : List ℤ) (effects : List Pending) → eval given ≡ Ok effects → (l c : ℕ) → SomePending effects (pushes l c) → W l c
+Evaluated W eval = (given : List ℤ) (effects : List Pending) → eval given ≡ Ok effects → (l c : ℕ) → SomePendingTouches effects (pushes l c) → W l c
 
 agree_evaluated : {P : Type 0} (W : Feeds) (d : ℕ) (place : P) (b : Bool) (got : List ℤ) (eval : Evaluation) → Evaluated W eval → (s : Memories) (n : ℕ) (r : Result (List Pending) FaultKind) → eval got ≡ r → Agrees W d (leaf place (reading b [] got eval)) s n (big_evaluated place (not b) r s n)
 agree_evaluated W d place b got eval h s n (Err f) q =

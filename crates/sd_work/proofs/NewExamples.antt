@@ -35,14 +35,17 @@ a_memory_with_a_waiting_value_is_not_new h = cc
 -- ---- terms
 
 a_pool_without_active_terms_is_new : IsNew counts_down
-a_pool_without_active_terms_is_new = refl
+a_pool_without_active_terms_is_new = (refl, refl)
 
 -- also where what is active is new
 a_pool_with_an_active_term_is_not_new : IsNew (pool 0 1 (λ value. sets 1 (cell 0 0 0) value) (busy (pos 7) (sets 1 (cell 0 0 0) (pos 7)) idle) false) → ⊥
-a_pool_with_an_active_term_is_not_new h = cc
+a_pool_with_an_active_term_is_not_new h = let no : busy (pos 7) (sets 1 (cell 0 0 0) (pos 7)) idle ≡ idle = h.0 in cc
+
+a_finished_pool_is_not_new : IsNew (pool 0 1 (λ value. sets 1 (cell 0 0 0) value) idle true) → ⊥
+a_finished_pool_is_not_new h = let no : true ≡ false = h.1 in cc
 
 a_map_of_new_points_is_new : IsNew (points (two (passes_on (pos 1)) (passes_on (pos 2))))
-a_map_of_new_points_is_new = ((refl, (refl, tt)), ((refl, (refl, tt)), tt))
+a_map_of_new_points_is_new = (((refl, refl), (refl, tt)), (((refl, refl), (refl, tt)), tt))
 
 a_point_where_a_value_waits_is_not_new : IsNew (owning (memory (pos 0) (pos 3 ∷ [])) counts_down) → ⊥
 a_point_where_a_value_waits_is_not_new h = cc
@@ -51,7 +54,7 @@ a_run_that_left_a_value_is_not_new : IsNew {P = ℕ} (ended (memory (pos 0) (pos
 a_run_that_left_a_value_is_not_new h = cc
 
 a_graph_that_begins_is_new : IsNew (graph counts_down (memory (pos 0) []))
-a_graph_that_begins_is_new = ((refl, (refl, tt)), refl)
+a_graph_that_begins_is_new = ((refl, (refl, tt)), (refl, refl))
 
 -- ---- what is unfolded later
 
@@ -64,7 +67,7 @@ a_pool_with_element_containers_unfolds_new = (tt, λ value. (((refl, tt), refl),
 
 -- values may wait at the begin
 a_run_with_a_pool_unfolds_new : (values : List ℤ) → UnfoldsNew (graph counts_down (memory (pos 0) values))
-a_run_with_a_pool_unfolds_new values = (counts_down_unfolds_new, λ state w. (refl, counts_down_unfolds_new))
+a_run_with_a_pool_unfolds_new values = (counts_down_unfolds_new, λ state w. ((refl, refl), counts_down_unfolds_new))
 
 a_run_with_a_pool_pays : (values : List ℤ) → PaysCycles (graph counts_down (memory (pos 0) values))
 a_run_with_a_pool_pays values = ((tt, λ value. tt), (λ state w. (tt, λ value. tt)), record { rank = λ state. 0; bound = 1; rises = λ state w. tt })

@@ -5,9 +5,9 @@ use Rattle.sd_work.specs.Leaf.{Pending, write_value, transfer, push_to, Leaf, re
 use Rattle.sd_work.specs.Exit.{Guard, Exit}
 use Rattle.sd_num.specs.declared.resolution.Resolution.{Resolution}
 use Rattle.sd_work.specs.Residual.{Term, leaf, list, owning, nested, ended, pool, Terms, none, also, part_at}
-use Rattle.sd_work.specs.Touch.{takes, IsRead, IsWrite, AreRead, PendingTouches, SomePending, LeafTouches, GuardTouches, SomeExit, Touches, SomePart}
+use Rattle.sd_work.specs.Touch.{takes, IsRead, IsWrite, SomeRead, PendingTouches, SomePendingTouches, LeafTouches, GuardTouches, SomeExitTouches, Touches, SomePartTouches}
 use Rattle.sd_work.specs.WellFormed.{HasNoPool, HaveNoPool}
-use Rattle.sd_work.specs.OrderedPools.{OrdersPools, OrderPools}
+use Rattle.sd_work.specs.OrderedPools.{HasOrderedPools, HaveOrderedPools}
 
 read_takes : (from : Option Reference) (l c : ℕ) → IsRead from (takes l c) → ⊥
 read_takes None l c h = h
@@ -17,7 +17,7 @@ write_takes : (to : Option Reference) (by : Option Resolution) (l c : ℕ) → I
 write_takes None by l c h = h
 write_takes (Some to) by l c h = cc
 
-reads_take : (reads : List (Option Reference)) (l c : ℕ) → AreRead reads (takes l c) → ⊥
+reads_take : (reads : List (Option Reference)) (l c : ℕ) → SomeRead reads (takes l c) → ⊥
 reads_take [] l c h = h
 reads_take (next ∷ left) l c h = elim h [ inl a ↦ read_takes next l c a | inr b ↦ reads_take left l c b ]
 
@@ -26,7 +26,7 @@ pending_takes (write_value value to by) l c h = write_takes to by l c h
 pending_takes (transfer from to by) l c h = elim h [ inl a ↦ read_takes from l c a | inr b ↦ write_takes to by l c b ]
 pending_takes (push_to m d value) l c h = cc
 
-pendings_take : (left : List Pending) (l c : ℕ) → SomePending left (takes l c) → ⊥
+pendings_take : (left : List Pending) (l c : ℕ) → SomePendingTouches left (takes l c) → ⊥
 pendings_take [] l c h = h
 pendings_take (next ∷ left) l c h = elim h [ inl a ↦ pending_takes next l c a | inr b ↦ pendings_take left l c b ]
 
@@ -38,7 +38,7 @@ guard_takes : {P : Type 0} (when : Option (Guard P)) (l c : ℕ) → GuardTouche
 guard_takes None l c h = h
 guard_takes (Some guard) l c h = reads_take guard.reads l c h
 
-exits_take : {P : Type 0} (exits : List (Exit P)) (l c : ℕ) → SomeExit exits (takes l c) → ⊥
+exits_take : {P : Type 0} (exits : List (Exit P)) (l c : ℕ) → SomeExitTouches exits (takes l c) → ⊥
 exits_take [] l c h = h
 exits_take (exit ∷ exits) l c h = elim h [ inl a ↦ guard_takes exit.when l c a | inr b ↦ exits_take exits l c b ]
 
@@ -58,7 +58,7 @@ mutual
   takes-none (ended own) h l c touch = touch
   takes-none (pool level container body active closed) h l c touch = elim h [ ]
 
-  parts_take-none : {P : Type 0} (parts : Terms P) → HaveNoPool parts → (l c : ℕ) → SomePart parts (takes l c) → ⊥
+  parts_take-none : {P : Type 0} (parts : Terms P) → HaveNoPool parts → (l c : ℕ) → SomePartTouches parts (takes l c) → ⊥
   parts_take-none none h l c touch = touch
   parts_take-none (also part parts) h l c touch = elim touch [ inl a ↦ takes-none part h.0 l c a | inr b ↦ parts_take-none parts h.1 l c b ]
 
@@ -70,7 +70,7 @@ part-none (also part parts) h (suc i) = part-none parts h.1 i
 
 mutual
   -- the pools of a term without pools stand in order
-  pub ordered-without-pools : {P : Type 0} (term : Term P) (depth : ℕ) → HasNoPool term → OrdersPools depth term
+  pub ordered-without-pools : {P : Type 0} (term : Term P) (depth : ℕ) → HasNoPool term → HasOrderedPools depth term
   ordered-without-pools (leaf place work) depth h = tt
   ordered-without-pools (list kind before parts) depth h = (parts_ordered-without-pools parts depth h, λ e i j up q l c into touch. takes-none (part_at parts j) (part-none parts h j) l c touch)
   ordered-without-pools (owning own part) depth h = ordered-without-pools part (suc depth) h
@@ -79,6 +79,6 @@ mutual
   ordered-without-pools (ended own) depth h = tt
   ordered-without-pools (pool level container body active closed) depth h = elim h [ ]
 
-  parts_ordered-without-pools : {P : Type 0} (parts : Terms P) (depth : ℕ) → HaveNoPool parts → OrderPools depth parts
+  parts_ordered-without-pools : {P : Type 0} (parts : Terms P) (depth : ℕ) → HaveNoPool parts → HaveOrderedPools depth parts
   parts_ordered-without-pools none depth h = tt
   parts_ordered-without-pools (also part parts) depth h = (ordered-without-pools part depth h.0, parts_ordered-without-pools parts depth h.1)

@@ -138,7 +138,7 @@ mutual
   total-new f g a b (owning own part) h = let x : g own ≡ 0 = b own h.0 in let y : total f g part ≡ 0 = total-new f g a b part h.1 in omega (arith, x, y)
   total-new f g a b (nested body exits own state values part) h = let x : g own ≡ 0 = b own h.0 in let y : total f g part ≡ 0 = total-new f g a b part h.1 in omega (arith, x, y)
   total-new f g a b (ended own) h = b own h
-  total-new f g a b (pool level container body active closed) h = ap (total_active f g) h
+  total-new f g a b (pool level container body active closed) h = ap (total_active f g) h.0
 
   total_parts-new : {P : Type 0} (f : Leaf → ℕ) (g : Memory → ℕ) → ((w : Leaf) → IsNewLeaf w → f w ≡ 0) → ((m : Memory) → HasEmptyStreams m → g m ≡ 0) → (ts : Terms P) → AreNew ts → total_parts f g ts ≡ 0
   total_parts-new f g a b none h = refl

@@ -15,7 +15,7 @@ SameCommuting (Some resolution) (Some other) = (resolution ≡ other) × IsCommu
 abbrev pub AreTwo : (level container other_level other : ℕ) → Type 0
 AreTwo level container other_level other = level ≡ other_level → container ≡ other → ⊥
 
--- two changes are of different places, or resolve values into one element by one resolution that commutes. A stream as a whole is one place
+-- two changes are of different places, or resolve values into one element by one resolution that commutes. A stream as a whole is one place, and its order counts
 abbrev pub AreHarmless : Change → Change → Type 0
 AreHarmless (write to by value) (write into other new) = to ≡ into → SameCommuting by other
 AreHarmless (push level container value) (push other_level other new) = AreTwo level container other_level other

@@ -22,7 +22,7 @@ abbrev pub HasEmptyStreams : Memory → Type 0
 HasEmptyStreams [] = ⊤
 HasEmptyStreams (contents ∷ memory) = (values_of contents ≡ []) × HasEmptyStreams memory
 
--- a term as it is unfolded: new leaves, empty streams in its own memories, and pools without active terms
+-- a term as it is unfolded: new leaves, empty streams in its own memories, and open pools without active terms
 abbrev mutual
   pub IsNew : {P : Type 0} → Term P → Type 0
   IsNew (leaf place work) = IsNewLeaf work
@@ -30,13 +30,13 @@ abbrev mutual
   IsNew (owning own part) = HasEmptyStreams own × IsNew part
   IsNew (nested body exits own state values part) = HasEmptyStreams own × IsNew part
   IsNew (ended own) = HasEmptyStreams own
-  IsNew (pool level container body active closed) = active ≡ idle
+  IsNew (pool level container body active closed) = (active ≡ idle) × (closed ≡ false)
 
   pub AreNew : {P : Type 0} → Terms P → Type 0
   AreNew none = ⊤
   AreNew (also part parts) = IsNew part × AreNew parts
 
--- what is unfolded later is new
+-- what may be unfolded later is new, for every state and all values
 abbrev mutual
   pub UnfoldsNew : {P : Type 0} → Term P → Type 0
   UnfoldsNew (leaf place work) = ⊤

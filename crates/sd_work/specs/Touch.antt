@@ -14,7 +14,7 @@ pub data Touch : Type 0 where
   pushes : (level container : ℕ) → Touch
   takes : (level container : ℕ) → Touch
 
--- two touches do not conflict: both read, both push, both resolve by one resolution that commutes, or they are of different places
+-- two touches do not conflict: both read, both push, both resolve by one resolution that commutes, or they are of different places. Two pushes into one stream do not, as its order is left aside
 abbrev pub AreCompatible : Touch → Touch → Type 0
 AreCompatible (reads from) (writes to by) = from ≢ to
 AreCompatible (writes to by) (reads from) = to ≢ from
@@ -44,51 +44,51 @@ abbrev pub IsWrite : Option Reference → Option Resolution → Touch → Type 0
 IsWrite None by touch = ⊥
 IsWrite (Some to) by touch = touch ≡ writes to by
 
-abbrev pub AreRead : List (Option Reference) → Touch → Type 0
-AreRead [] touch = ⊥
-AreRead (next ∷ left) touch = IsRead next touch ⊎ AreRead left touch
+abbrev pub SomeRead : List (Option Reference) → Touch → Type 0
+SomeRead [] touch = ⊥
+SomeRead (next ∷ left) touch = IsRead next touch ⊎ SomeRead left touch
 
 abbrev pub PendingTouches : Pending → Touch → Type 0
 PendingTouches (write_value value to by) touch = IsWrite to by touch
 PendingTouches (transfer from to by) touch = IsRead from touch ⊎ IsWrite to by touch
 PendingTouches (push_to level container value) touch = touch ≡ pushes level container
 
-abbrev pub SomePending : List Pending → Touch → Type 0
-SomePending [] touch = ⊥
-SomePending (next ∷ left) touch = PendingTouches next touch ⊎ SomePending left touch
+abbrev pub SomePendingTouches : List Pending → Touch → Type 0
+SomePendingTouches [] touch = ⊥
+SomePendingTouches (next ∷ left) touch = PendingTouches next touch ⊎ SomePendingTouches left touch
 
--- an instance touches what it reads, and what it may do by any values that its evaluation is given
+-- an instance touches what it reads, and what it would do by any values that its evaluation is given
 abbrev pub LeafTouches : Leaf → Touch → Type 0
 LeafTouches (reading begun left values evaluation) touch =
-    AreRead left touch ⊎ ((given : List ℤ) × (effects : List Pending) × (evaluation given ≡ Ok effects) × SomePending effects touch)
-LeafTouches (doing left) touch = SomePending left touch
+    SomeRead left touch ⊎ ((given : List ℤ) × (effects : List Pending) × (evaluation given ≡ Ok effects) × SomePendingTouches effects touch)
+LeafTouches (doing left) touch = SomePendingTouches left touch
 
 abbrev pub GuardTouches : {P : Type 0} → Option (Guard P) → Touch → Type 0
 GuardTouches None touch = ⊥
-GuardTouches (Some guard) touch = AreRead guard.reads touch
+GuardTouches (Some guard) touch = SomeRead guard.reads touch
 
-abbrev pub SomeExit : {P : Type 0} → List (Exit P) → Touch → Type 0
-SomeExit [] touch = ⊥
-SomeExit (exit ∷ exits) touch = GuardTouches exit.when touch ⊎ SomeExit exits touch
+abbrev pub SomeExitTouches : {P : Type 0} → List (Exit P) → Touch → Type 0
+SomeExitTouches [] touch = ⊥
+SomeExitTouches (exit ∷ exits) touch = GuardTouches exit.when touch ⊎ SomeExitTouches exits touch
 
--- a term touches what its parts do, now or in any state and by any values of variables that it may come to; a pool takes from its stream
+-- a term touches what its parts do, now and in every state for all values of the variables, whether it comes to them or not; a pool takes from its stream
 abbrev mutual
   pub Touches : {P : Type 0} → Term P → Touch → Type 0
   Touches (leaf place work) touch = LeafTouches work touch
-  Touches (list kind before parts) touch = SomePart parts touch
+  Touches (list kind before parts) touch = SomePartTouches parts touch
   Touches (owning own part) touch = Touches part (inner touch)
   Touches (nested body exits own state values part) touch =
       Touches part (inner touch)
       ⊎ (((state : ℕ) × (values : Values) × Touches (body state values) (inner touch))
-      ⊎ ((state : ℕ) × (values : Values) × SomeExit (exits state values) (inner touch)))
+      ⊎ ((state : ℕ) × (values : Values) × SomeExitTouches (exits state values) (inner touch)))
   Touches (ended own) touch = ⊥
   Touches (pool level container body active closed) touch =
-      (touch ≡ takes level container) ⊎ (SomeActive active touch ⊎ ((value : ℤ) × Touches (body value) touch))
+      (touch ≡ takes level container) ⊎ (SomeActiveTouches active touch ⊎ ((value : ℤ) × Touches (body value) touch))
 
-  pub SomePart : {P : Type 0} → Terms P → Touch → Type 0
-  SomePart none touch = ⊥
-  SomePart (also part parts) touch = Touches part touch ⊎ SomePart parts touch
+  pub SomePartTouches : {P : Type 0} → Terms P → Touch → Type 0
+  SomePartTouches none touch = ⊥
+  SomePartTouches (also part parts) touch = Touches part touch ⊎ SomePartTouches parts touch
 
-  pub SomeActive : {P : Type 0} → Actives P → Touch → Type 0
-  SomeActive idle touch = ⊥
-  SomeActive (busy value part active) touch = Touches part touch ⊎ SomeActive active touch
+  pub SomeActiveTouches : {P : Type 0} → Actives P → Touch → Type 0
+  SomeActiveTouches idle touch = ⊥
+  SomeActiveTouches (busy value part active) touch = Touches part touch ⊎ SomeActiveTouches active touch

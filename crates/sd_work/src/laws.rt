@@ -11,7 +11,7 @@ ghost use Rattle.sd_work.specs.Run.{Left, Run, Sequential};
 ghost use Rattle.sd_work.specs.BigRun.{big_run};
 ghost use Rattle.sd_work.specs.WellFormed.{IsOrdered, HasNoPool, PaysCycles, IsRun};
 ghost use Rattle.sd_work.specs.New.{UnfoldsNew};
-ghost use Rattle.sd_work.specs.OrderedPools.{OrdersPools};
+ghost use Rattle.sd_work.specs.OrderedPools.{HasOrderedPools};
 ghost use Rattle.sd_work.specs.Harmless.{AreHarmless, SparesElement, SparesStream};
 
 /// What is written to an element is the new value, or the old one resolved with it.
@@ -65,12 +65,12 @@ pub fn a_run_has_one_outcome<P>()
 /// without pools they are in order.
 pub fn a_run_from_left_to_right_is_sequential<P>()
     ensures sequential { (term : Term P) (most turns : ℕ) (outcome : Outcome P Left)
-        → IsOrdered term → OrdersPools 0 term
+        → IsOrdered term → HasOrderedPools 0 term
         → big_run term most turns ≡ Some outcome → Sequential term turns outcome }
     ensures answers { (term : Term P) (turns : ℕ) (outcome : Outcome P Left)
-        → IsOrdered term → OrdersPools 0 term → IsRun term
+        → IsOrdered term → HasOrderedPools 0 term → IsRun term
         → Sequential term turns outcome → (most : ℕ) × (big_run term most turns ≡ Some outcome) }
-    ensures without_pools { (term : Term P) (depth : ℕ) → HasNoPool term → OrdersPools depth term }
+    ensures without_pools { (term : Term P) (depth : ℕ) → HasNoPool term → HasOrderedPools depth term }
 {}
 
 /// Every run ends, by whatever picks, where each cycle of transitions spends a turn and the term
