@@ -7,9 +7,9 @@ use Rattle.sd_work.specs.Moves.{Path}
 use Rattle.sd_work.specs.Fire.{fire}
 use Rattle.sd_work.specs.Settle.{settled}
 use Rattle.sd_work.specs.Step.{Machine, Done, opening, next_moves, moved, step}
-use Rattle.sd_work.specs.Run.{chosen_number}
+use Rattle.sd_work.specs.Run.{chosen_number, chosen}
 use Rattle.sd_work.proofs.Leads.{Pays}
-use Rattle.sd_work.proofs.Paths.{AllOf, all_at, chosen}
+use Rattle.sd_work.proofs.Paths.{AllOf, all_at}
 use Rattle.sd_work.proofs.LeftmostRuns.{machine, moves_on}
 use Rattle.sd_confluence.proofs.BagMemory.{Update}
 use Rattle.sd_confluence.proofs.Works.{stops, makes, no_answer, Route, act, Can}

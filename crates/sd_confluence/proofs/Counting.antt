@@ -1,5 +1,5 @@
 -- What a run of one pool does to its streams: values are pushed, and those that are taken become active.
-use Rattle.std.proofs.Common.{◌≡◌, ℕ, zero, suc, ◌+◌, List, [], ◌∷◌, ◌++◌, drop, Option, Some, None, ℤ, Bool, true, false, cond, eqb, slice_get, refl, sym, ◌∙◌, ap, subst, arith, inl, inr}
+use Rattle.std.proofs.Common.{◌≡◌, ℕ, zero, suc, ◌+◌, List, [], ◌∷◌, ◌++◌, drop, flat_map, Option, Some, None, ℤ, Bool, true, false, cond, eqb, slice_get, refl, sym, ◌∙◌, ap, subst, arith, inl, inr}
 use Rattle.sd_work.specs.Memory.{Memory, Memories, waiting}
 use Rattle.sd_work.specs.Change.{Change, nothing, write, push, take, own_after, outer}
 use Rattle.sd_work.specs.Move.{Move, fails, goes, no_move, map_move}
@@ -10,11 +10,11 @@ use Rattle.sd_work.specs.Settle.{settle_active, settled}
 use Rattle.sd_work.specs.Step.{Machine, Outcome, Done, moved, step}
 use Rattle.sd_work.specs.Touch.{Touch, takes, Touches, SomeActiveTouches}
 use Rattle.sd_work.proofs.Leaving.{Leaves}
-use Rattle.sd_work.proofs.Paths.{chosen}
+use Rattle.sd_work.specs.Run.{chosen, Choice, choices_by, choices_on, choices}
 use Rattle.std.specs.Ordering.{int_eq}
 use Rattle.sd_confluence.specs.Alike.{how_often}
 use Rattle.sd_confluence.specs.Safe.{PoolTouches}
-use Rattle.sd_confluence.specs.Event.{Event, pushed_if, taken_if, event_of, event_of_move, event_at, events_on, events_by, events, values_pushed, values_taken}
+use Rattle.sd_confluence.specs.Event.{Event, pushed_if, taken_if, event_of, event_of_move, event_at, events, values_pushed, values_taken}
 use Rattle.sd_confluence.proofs.Works.{Works, no_works, and_work}
 use Rattle.sd_confluence.proofs.Images.{work_of, active_of}
 use Rattle.sd_confluence.proofs.Reaching.{Reaches, failed, paid}
@@ -216,19 +216,23 @@ joined own container body active es fs x e first second = (
   second.7,
 )
 
+-- the events of a choice
+abbrev event_of_choice : {P : Type 0} → Choice P → List Event
+event_of_choice choice = event_at choice.machine.term choice.place
+
 -- in a run of one pool whose works take nothing from outside, each value that is pushed waits at the end or is taken, and those taken are worked on
 pub counts : {P : Type 0} (k : ℕ) (picks : List ℕ) (own : Memory) (container : ℕ) (body : ℤ → Term P) (active : Actives P) (closed : Bool) (n : ℕ) (e : Machine P) → NoTake active body →
     Reaches k picks (pool_machine own container body active closed n) e → Counted own container body active (events k picks (pool_machine own container body active closed n)) e
 counts zero picks own container body active closed n e free h = elim h [ ]
 counts {P} (suc k) picks own container body active closed n e free (inl h) =
     let m : Machine P = pool_machine own container body active closed n in
-    subst (λ es. Counted own container body active es e) (sym (ap (λ l. events_by l picks m (events k (drop 1 picks))) h.0)) (stays own container body active closed n e free h.1)
+    subst (λ es. Counted own container body active es e) (sym (ap (λ l. flat_map event_of_choice (choices_by l picks m (choices k (drop 1 picks)))) h.0)) (stays own container body active closed n e free h.1)
 counts {P} (suc k) picks own container body active closed n e free (inr h) =
     let m : Machine P = pool_machine own container body active closed n in
     let path : Path = chosen picks h.0 h.1 in
     let first : Counted own container body active (event_at m.term path) h.3 = fired own container body active closed n path h.3 free h.4 in
     let second = counts k (drop 1 picks) first.0 container body first.1 first.2 first.3 e first.7 (subst (λ y. Reaches k (drop 1 picks) y e) first.4 h.5) in
     subst (λ es. Counted own container body active es e)
-    (sym (ap (λ l. events_by l picks m (events k (drop 1 picks))) h.2 ∙ ap (λ o. event_at m.term path ++ events_on o (events k (drop 1 picks))) h.4))
+    (sym (ap (λ l. flat_map event_of_choice (choices_by l picks m (choices k (drop 1 picks)))) h.2 ∙ ap (λ o. event_at m.term path ++ flat_map event_of_choice (choices_on o (choices k (drop 1 picks)))) h.4))
     (joined own container body active (event_at m.term path) (events k (drop 1 picks) h.3) h.3 e first
     (subst (λ y. Counted first.0 container body first.1 (events k (drop 1 picks) y) e) (sym first.4) second))

@@ -2,12 +2,11 @@
 use Rattle.std.proofs.Common.{◌≡◌, ℕ, zero, suc, List, [], ◌∷◌, drop, Some, refl, sym, ◌∙◌, ap, inl, inr, ◌⊎◌, Bool, true, false}
 use Rattle.sd_work.specs.Moves.{Path}
 use Rattle.sd_work.specs.Step.{Machine, Outcome, Done, Faulted, Spent, next_moves, step, spend, moved}
-use Rattle.sd_work.specs.Run.{Left, memory_of, go_on, run_by, run}
+use Rattle.sd_work.specs.Run.{Left, memory_of, go_on, run_by, run, chosen}
 use Rattle.sd_work.specs.Change.{Change}
 use Rattle.sd_work.specs.Move.{Fault, goes}
 use Rattle.sd_work.specs.Residual.{Term}
 use Rattle.sd_work.specs.Settle.{settled}
-use Rattle.sd_work.proofs.Paths.{chosen}
 use Rattle.sd_work.proofs.Leads.{Pays}
 use Rattle.sd_work.proofs.LeftmostRuns.{machine}
 

@@ -1,5 +1,5 @@
 -- Whether two values are one, and how often a value stands in a list.
-use Rattle.std.proofs.Common.{◌≡◌, ℕ, zero, suc, pred, ◌+◌, ℤ, pos, negsuc, List, [], ◌∷◌, ◌++◌, Some, None, Bool, true, false, cond, slice_get, refl, ◌∙◌, ap, arith}
+use Rattle.std.proofs.Common.{◌≡◌, ℕ, zero, suc, pred, ◌+◌, ℤ, List, [], ◌∷◌, ◌++◌, Some, None, Bool, true, false, cond, slice_get, refl, ◌∙◌, ap, arith}
 use Rattle.std.specs.Cmp.{signed_Decides}
 use Rattle.sd_work.specs.Change.{without}
 use Rattle.std.specs.Ordering.{int_eq}

@@ -1,5 +1,5 @@
 -- What a run does to the streams of its memory.
-use Rattle.std.specs.Prelude.{◌≡◌, ℕ, zero, suc, ℤ, List, [], ◌∷◌, ◌++◌, drop, Option, Some, None, cond, eqb, slice_get, slice_index_or}
+use Rattle.std.specs.Prelude.{◌≡◌, ℕ, zero, ℤ, List, [], ◌∷◌, flat_map, Option, Some, None, cond, eqb, slice_get}
 use Rattle.sd_num.specs.Wrapped.{wrapped}
 use Rattle.sd_work.specs.Memory.{Contents, array, stream, Memory, waiting}
 use Rattle.sd_work.specs.Change.{Change, push, take}
@@ -7,8 +7,8 @@ use Rattle.sd_work.specs.Move.{Move, fails, goes, no_move}
 use Rattle.sd_work.specs.Residual.{Term, leaf, list, owning, nested, ended, pool, finished}
 use Rattle.sd_work.specs.Moves.{Path}
 use Rattle.sd_work.specs.Fire.{fire}
-use Rattle.sd_work.specs.Step.{Machine, Outcome, Done, Faulted, Spent, opening, next_moves, step}
-use Rattle.sd_work.specs.Run.{Left, chosen_number, run}
+use Rattle.sd_work.specs.Step.{Machine, Done, opening}
+use Rattle.sd_work.specs.Run.{Left, choices, run}
 use Rattle.sd_confluence.specs.Alike.{HoldAlike}
 
 -- a value is pushed into a stream, or taken from it
@@ -47,22 +47,9 @@ event_at (list kind before parts) path = []
 event_at (ended own) path = []
 event_at (pool level container body active closed) path = []
 
-abbrev pub events_on : {P : Type 0} → Outcome P (Machine P) → (Machine P → List Event) → List Event
-events_on (Done machine) rest = rest machine
-events_on (Faulted fault) rest = []
-events_on Spent rest = []
-
--- the event of the picked move, and the events after it
-abbrev pub events_by : {P : Type 0} → (moves : List Path) → (picks : List ℕ) → Machine P → (Machine P → List Event) → List Event
-events_by [] picks machine rest = []
-events_by (first ∷ others) picks machine rest =
-    let path = slice_index_or (first ∷ others) (chosen_number picks (first ∷ others)) first in
-    event_at machine.term path ++ events_on (step path machine) rest
-
 -- the events of the first so many steps of a run by picks
 abbrev pub events : {P : Type 0} → ℕ → (picks : List ℕ) → Machine P → List Event
-events zero picks machine = []
-events (suc steps) picks machine = events_by (next_moves machine) picks machine (events steps (drop 1 picks))
+events steps picks machine = flat_map (λ choice. event_at choice.machine.term choice.place) (choices steps picks machine)
 
 -- the values pushed into a stream, in order
 abbrev pub values_pushed : (container : ℕ) → List Event → List ℤ

@@ -7,10 +7,10 @@ use Rattle.sd_work.specs.Moves.{Path, moves}
 use Rattle.sd_work.specs.Fire.{fire}
 use Rattle.sd_work.specs.Settle.{settled}
 use Rattle.sd_work.specs.Step.{Outcome, Done, Faulted, Spent}
-use Rattle.sd_work.specs.Run.{Left, memory_of, chosen_number, run_by, run}
+use Rattle.sd_work.specs.Run.{Left, memory_of, chosen_number, run_by, run, chosen}
 use Rattle.sd_work.proofs.LeftmostRuns.{machine, one_move}
 use Rattle.sd_work.proofs.NextMoves.{IsMove, MovesAt, all_move}
-use Rattle.sd_work.proofs.Paths.{AllOf, all_at, chosen}
+use Rattle.sd_work.proofs.Paths.{AllOf, all_at}
 
 -- a run by these picks comes to an end
 abbrev pub Comes : {P : Type 0} → ℕ → Term P → List ℕ → Type 0

@@ -8,9 +8,8 @@ use Rattle.sd_work.specs.Moves.{Path, moves}
 use Rattle.sd_work.specs.Fire.{fire}
 use Rattle.sd_work.specs.Settle.{settled}
 use Rattle.sd_work.specs.Step.{Machine, Done, Faulted, Spent, moved, step}
-use Rattle.sd_work.specs.Run.{go_on, run_by, run}
+use Rattle.sd_work.specs.Run.{go_on, run_by, run, chosen}
 use Rattle.sd_work.proofs.Leads.{front, Pays, Feeds, Leads, FailsBy, FailsNow, Stops}
-use Rattle.sd_work.proofs.Paths.{chosen}
 
 -- a machine with this term, settled or not
 abbrev pub machine : {P : Type 0} → Term P → ℕ → Machine P

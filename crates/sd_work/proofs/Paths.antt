@@ -2,7 +2,6 @@
 use Rattle.std.proofs.Common.{◌≡◌, ℕ, zero, suc, List, [], ◌∷◌, ◌++◌, Bool, true, false, cond, refl, slice_index_or}
 use Rattle.std.specs.Bool.{⊤}
 use Rattle.sd_work.specs.Moves.{Path, moves_in}
-use Rattle.sd_work.specs.Run.{chosen_number}
 
 -- what holds of each path of a list
 abbrev pub AllOf : (Path → Type 0) → List Path → Type 0
@@ -39,7 +38,3 @@ pub all_at : (T : Path → Type 0) (d : Path) (k : ℕ) (ps : List Path) → T d
 all_at T d k [] h a = h
 all_at T d zero (p ∷ ps) h a = a.0
 all_at T d (suc k) (p ∷ ps) h a = all_at T d k ps h a.1
-
--- the place that a pick chooses
-abbrev pub chosen : List ℕ → Path → List Path → Path
-chosen picks p ps = slice_index_or (p ∷ ps) (chosen_number picks (p ∷ ps)) p
