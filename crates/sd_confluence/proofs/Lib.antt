@@ -35,3 +35,7 @@ pub mod StreamCounts
 pub mod TakesTouched
 pub mod Counting
 pub mod TakingOrder
+pub mod TouchExamples
+pub mod SafeExamples
+pub mod AlikeExamples
+pub mod EventExamples

@@ -90,6 +90,16 @@ writes_of_two_elements_are_harmless = λ e. let clash : 0 ≡ 1 = ap (λ (r : Re
 sums_into_one_element_are_harmless : AreHarmless (at 0 (Some Sum)) (at 0 (Some Sum))
 sums_into_one_element_are_harmless = λ e. (refl, λ same. cc)
 
+a_sum_and_a_replacement_are_not_harmless : AreHarmless (at 0 (Some Sum)) (at 0 None) → ⊥
+a_sum_and_a_replacement_are_not_harmless h = h refl
+
+-- the containers have one number
+changes_of_streams_of_two_memories_are_harmless : AreHarmless (push 0 1 (pos 5)) (take 1 1 0)
+changes_of_streams_of_two_memories_are_harmless = λ e f. cc
+
+changes_of_one_stream_are_not_harmless : AreHarmless (push 0 1 (pos 5)) (take 0 1 0) → ⊥
+changes_of_one_stream_are_not_harmless h = h refl refl
+
 a_write_and_a_push_are_harmless : AreHarmless (at 0 None) (push 0 0 (pos 5))
 a_write_and_a_push_are_harmless = tt
 

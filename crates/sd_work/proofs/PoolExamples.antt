@@ -3,8 +3,9 @@ use Rattle.std.proofs.Common.{◌≡◌, ℕ, zero, suc, ℤ, pos, negsuc, List,
 use Rattle.std.specs.Int.{int_wrap}
 use Rattle.sd_num.specs.declared.resolution.Resolution.TheVariants.{Sum}
 use Rattle.sd_work.specs.Memory.{Memory, array, stream}
-use Rattle.sd_work.specs.Leaf.{Pending, write_value, push_to}
-use Rattle.sd_work.specs.Residual.{Term, owning, pool, idle, list, Items, also}
+use Rattle.sd_work.specs.Leaf.{Pending, write_value, push_to, doing}
+use Rattle.sd_work.specs.Residual.{Term, leaf, owning, pool, idle, busy, list, Items, also}
+use Rattle.sd_work.specs.Step.{opening, next_moves}
 use Rattle.sd_work.proofs.ExampleParts.{cell, value_of, task, sets, two, unordered, then, points, graph, run_of, trace_of, done, spent}
 
 abbrev pub memory : (element : ℤ) → (values : List ℤ) → Memory
@@ -65,6 +66,10 @@ active_terms_go_in_the_order_of_taking : run_of (2 ∷ 1 ∷ 2 ∷ []) (graph wr
 unfolding int_wrap
 active_terms_go_in_the_order_of_taking = refl
 
+-- a finished active term keeps its place, so the next one is still number 1
+a_finished_active_term_is_kept : next_moves (opening (pool 0 1 (sets 1 (cell 0 0 0)) (busy (pos 7) (leaf 1 (doing [])) (busy (pos 8) (sets 1 (cell 0 0 0) (pos 8)) idle)) false) 1) ≡ (1 ∷ 1 ∷ []) ∷ []
+a_finished_active_term_is_kept = refl
+
 -- an element container is private to its active term
 abbrev pub by_element : Term ℕ
 by_element = consume 0 (λ value. owning (array (value ∷ []) ∷ []) (task 1 (cell 0 0 0 ∷ []) (λ values. write_value (value_of values 0) (cell 1 0 0) (Some Sum) ∷ [])))
@@ -79,6 +84,10 @@ an_active_term_has_its_element = refl
 a_run_is_settled_at_its_begin : run_of [] (graph (then writes (sets 2 (cell 0 0 0) (pos 5))) (memory (pos 0) [])) 1 ≡ done (memory (pos 5) []) 0
 unfolding int_wrap
 a_run_is_settled_at_its_begin = refl
+
+-- one after the other in one pass, so the transition is the first move
+pools_in_turn_are_finished_in_one_pass : trace_of [] (graph (then writes writes) (memory (pos 0) [])) 0 ≡ (0, 1) ∷ []
+pools_in_turn_are_finished_in_one_pass = refl
 
 -- not before it may go on: what the item before it pushes is taken
 a_pool_waits_for_its_turn : run_of [] (graph (then (pushes 0 (pos 5)) writes) (memory (pos 0) [])) 2 ≡ done (memory (pos 5) []) 0
