@@ -47,7 +47,7 @@ alike-frame (c ∷ m) (d ∷ n) h = λ i. contents_image c d h.0 i ∷ alike-fra
 abbrev frame_of_work : {P : Type 0} → Work P → Frame
 frame_of_work (thread place work) = []
 frame_of_work (group before parts) = []
-frame_of_work (scope own part) = own
+frame_of_work (scope own part) = []
 frame_of_work (nest body exits own state values part) = own
 frame_of_work (over own) = own
 frame_of_work (basin level container body active closed) = []

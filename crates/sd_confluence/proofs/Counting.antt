@@ -1,5 +1,5 @@
--- What a run of one pool does to its streams: values are pushed, and those that are taken become active.
-use Rattle.std.proofs.Common.{◌≡◌, ℕ, zero, suc, ◌+◌, List, [], ◌∷◌, ◌++◌, drop, flat_map, Option, Some, None, ℤ, Bool, true, false, cond, eqb, slice_get, refl, sym, ◌∙◌, ap, subst, arith, inl, inr}
+-- In a run of one pool the values that are taken become active.
+use Rattle.std.proofs.Common.{◌≡◌, ℕ, zero, suc, ◌+◌, List, [], ◌∷◌, ◌++◌, drop, Option, Some, None, ℤ, Bool, true, false, cond, eqb, slice_get, refl, sym, ◌∙◌, ap, subst, arith, inl, inr}
 use Rattle.sd_work.specs.Memory.{Memory, Memories, waiting}
 use Rattle.sd_work.specs.Change.{Change, nothing, write, push, take, own_after, outer}
 use Rattle.sd_work.specs.Move.{Move, fails, goes, no_move, map_move}
@@ -10,18 +10,19 @@ use Rattle.sd_work.specs.Settle.{settle_active, settled}
 use Rattle.sd_work.specs.Step.{Machine, Outcome, Done, moved, step}
 use Rattle.sd_work.specs.Touch.{Touch, takes, Touches, SomeActiveTouches}
 use Rattle.sd_work.proofs.Leaving.{Leaves}
-use Rattle.sd_work.specs.Run.{chosen, Choice, choices_by, choices_on, choices}
+use Rattle.sd_work.specs.Run.{chosen}
 use Rattle.std.specs.Ordering.{int_eq}
 use Rattle.sd_confluence.specs.Alike.{how_often}
 use Rattle.sd_confluence.specs.Safe.{PoolTouches}
-use Rattle.sd_confluence.specs.Event.{Event, pushed_if, taken_if, event_of, event_of_move, event_at, events, values_pushed, values_taken}
+use Rattle.sd_confluence.specs.Event.{Event, pushed_if, taken_if, event_of, event_of_move, values_taken}
 use Rattle.sd_confluence.proofs.Works.{Works, no_works, and_work}
 use Rattle.sd_confluence.proofs.Images.{work_of, active_of}
 use Rattle.sd_confluence.proofs.Reaching.{Reaches, failed, paid}
+use Rattle.sd_confluence.proofs.Told.{event_inside, told, told-none, told-next}
 use Rattle.sd_confluence.proofs.Kept.{TouchesAtMost, touches-kept, AtMostActive, less_last}
 use Rattle.sd_confluence.proofs.TakesTouched.{TakesOf, takes_more, Changes, changes_map, takes-touched}
 use Rattle.sd_confluence.proofs.SettleKept.{settle_active-touches}
-use Rattle.sd_confluence.proofs.StreamCounts.{taken-sum, pushed-sum, pushes-only, same-eqb, change-counts}
+use Rattle.sd_confluence.proofs.StreamCounts.{taken-sum, pushes-only, same-eqb}
 use Rattle.sd_confluence.proofs.Values.{count-append}
 
 -- ---- the values that are worked on
@@ -92,20 +93,15 @@ acted (busy v t ts) (suc k) p s =
 abbrev pub pool_machine : {P : Type 0} → Memory → (container : ℕ) → (ℤ → Term P) → Actives P → (closed : Bool) → (turns : ℕ) → Machine P
 pool_machine own container body active closed turns = record { term = owning own (pool 0 container body active closed); turns = turns }
 
--- the values that wait later, and those taken, are those that waited and those pushed
-abbrev pub StreamsKeep : Memory → Memory → List Event → Type 0
-StreamsKeep own left es =
-    (st : ℕ) (v : ℤ) → how_often (waiting 0 st (left ∷ [])) v + how_often (values_taken st es) v ≡ how_often (waiting 0 st (own ∷ [])) v + how_often (values_pushed st es) v
-
 -- the values that are worked on later are those that were and those taken
 abbrev pub WorkGrows : {P : Type 0} → (container : ℕ) → Actives P → Actives P → List Event → Type 0
 WorkGrows container active left es = (st : ℕ) (v : ℤ) → how_often (values_taken st es) v + cond (eqb st container) (how_often (values_in active) v) 0 ≡ cond (eqb st container) (how_often (values_in left) v) 0
 
 -- a machine of this pool later, after these events
-abbrev pub Counted : {P : Type 0} → Memory → (container : ℕ) → (ℤ → Term P) → Actives P → List Event → Machine P → Type 0
-Counted {P} own container body active es e =
+abbrev pub Counted : {P : Type 0} → (container : ℕ) → (ℤ → Term P) → Actives P → List Event → Machine P → Type 0
+Counted {P} container body active es e =
     (left : Memory) × (later : Actives P) × (closed : Bool) × (turns : ℕ) × (e ≡ record { term = owning left (pool 0 container body later closed); turns = turns })
-    × StreamsKeep own left es × WorkGrows container active later es × NoTake later body
+    × WorkGrows container active later es × NoTake later body
 
 done : {P A : Type 0} (y z : A) → ◌≡◌ {A = Outcome P A} (Done y) (Done z) → y ≡ z
 done y z e = cc
@@ -115,20 +111,19 @@ none_taken a b e = omega (arith, e)
 
 -- nothing happened
 stays : {P : Type 0} (own : Memory) (container : ℕ) (body : ℤ → Term P) (active : Actives P) (closed : Bool) (n : ℕ) (x : Machine P) → NoTake active body →
-    ◌≡◌ {A = Machine P} (record { term = owning own (pool 0 container body active closed); turns = n }) x → Counted own container body active [] x
-stays own container body active closed n x free e = (own, active, closed, n, sym e, λ st v. refl, λ st v. none_taken 0 _ refl, free)
+    ◌≡◌ {A = Machine P} (record { term = owning own (pool 0 container body active closed); turns = n }) x → Counted container body active [] x
+stays own container body active closed n x free e = (own, active, closed, n, sym e, λ st v. none_taken 0 _ refl, free)
 
 -- a change of the memory and of the active terms, and then settling
 made : {P : Type 0} (own : Memory) (container : ℕ) (body : ℤ → Term P) (active left : Actives P) (closed : Bool) (n : ℕ) (u : Change) (x : Machine P) →
     NoTake left body → WorkGrows container active left (event_of own u) →
-    ◌≡◌ {A = Machine P} (record { term = settled (owning (own_after u own) (pool 0 container body left closed)); turns = n }) x → Counted own container body active (event_of own u) x
+    ◌≡◌ {A = Machine P} (record { term = settled (owning (own_after u own) (pool 0 container body left closed)); turns = n }) x → Counted container body active (event_of own u) x
 made own container body active left closed n u x free grows e = (
   own_after u own,
   settle_active true (true ∷ []) (own_after u own ∷ []) left,
   _,
   n,
   sym e,
-  λ st v. change-counts st v u own,
   λ st v. grows st v ∙ ap (λ xs. cond (eqb st container) (how_often xs v) 0) (sym (values_settled true (true ∷ []) (own_after u own ∷ []) left)),
   no_take_more left (settle_active true (true ∷ []) (own_after u own ∷ []) left) body (λ a h. inl (settle_active-touches true (true ∷ []) (own_after u own ∷ []) left a h)) free,
 )
@@ -136,7 +131,7 @@ made own container body active left closed n u x free grows e = (
 -- a move that went
 went : {P : Type 0} (own : Memory) (container : ℕ) (body : ℤ → Term P) (active left : Actives P) (closed : Bool) (n : ℕ) (turn : Bool) (u : Change) (x : Machine P) →
     NoTake left body → WorkGrows container active left (event_of own u) →
-    moved (record { term = owning own (pool 0 container body active closed); turns = n }) (owned owning own (goes turn u (pool 0 container body left closed))) ≡ Done x → Counted own container body active (event_of own u) x
+    moved (record { term = owning own (pool 0 container body active closed); turns = n }) (owned owning own (goes turn u (pool 0 container body left closed))) ≡ Done x → Counted container body active (event_of own u) x
 went own container body active left closed n turn u x free grows e =
     let r = paid (owning own (pool 0 container body active closed)) n turn (outer u) (owning (own_after u own) (pool 0 container body left closed)) x e in
     made own container body active left closed r.0 u x free grows r.2
@@ -169,7 +164,7 @@ other_grows own container body active left (take l c k) free g same = absurd (fr
 
 -- a step by any place
 fired : {P : Type 0} (own : Memory) (container : ℕ) (body : ℤ → Term P) (active : Actives P) (closed : Bool) (n : ℕ) (path : Path) (x : Machine P) → NoTake active body →
-    step path (pool_machine own container body active closed n) ≡ Done x → Counted own container body active (event_at (owning own (pool 0 container body active closed)) path) x
+    step path (pool_machine own container body active closed n) ≡ Done x → Counted container body active (event_inside (owning own (pool 0 container body active closed)) path) x
 fired own container body active closed n [] x free e = stays own container body active closed n x free (done _ x e)
 fired own container body active closed n (zero ∷ []) x free e = stays own container body active closed n x free (done _ x e)
 fired own container body active closed n (suc i ∷ []) x free e = stays own container body active closed n x free (done _ x e)
@@ -177,7 +172,7 @@ fired {P} own container body active closed n (zero ∷ j ∷ p) x free e = go (s
   where
     go : (o : Option ℤ) → slice_get (waiting 0 container (own ∷ [])) j ≡ o →
         moved (pool_machine own container body active closed n) (owned owning own (take_move 0 container body active closed j o)) ≡ Done x →
-        Counted own container body active (event_of_move own (take_move 0 container body active closed j o)) x
+        Counted container body active (event_of_move own (take_move 0 container body active closed j o)) x
     go None h d = stays own container body active closed n x free (done _ x d)
     go (Some w) h d =
         went own container body active (and_last active w (body w)) closed n false (take 0 container j) x
@@ -186,7 +181,7 @@ fired {P} own container body active closed n (zero ∷ j ∷ p) x free e = go (s
 fired {P} own container body active closed n (suc i ∷ k ∷ p) x free e = go (fire_active active k p (own ∷ [])) (acted active k p (own ∷ [])) e
   where
     go : (m : Move P (Actives P)) → Changes (Acted active) m → moved (pool_machine own container body active closed n) (owned owning own (map_move (λ left. pool 0 container body left closed) m)) ≡ Done x →
-        Counted own container body active (event_of_move own (map_move (λ left. pool 0 container body left closed) m)) x
+        Counted container body active (event_of_move own (map_move (λ left. pool 0 container body left closed) m)) x
     go (fails turn fault) g d = absurd (failed turn n fault x d)
     go (goes turn u left) g d =
         went own container body active left closed n turn u x (no_take_more active left body (λ a t. inl (g.2 a t)) free) (other_grows own container body active left u free g.0 g.1) d
@@ -194,9 +189,9 @@ fired {P} own container body active closed n (suc i ∷ k ∷ p) x free e = go (
 
 -- ---- a run
 
-joined : {P : Type 0} (own : Memory) (container : ℕ) (body : ℤ → Term P) (active : Actives P) (es fs : List Event) (x e : Machine P) → (first : Counted own container body active es x) →
-    Counted first.0 container body first.1 fs e → Counted own container body active (es ++ fs) e
-joined own container body active es fs x e first second = (
+joined : {P : Type 0} (container : ℕ) (body : ℤ → Term P) (active : Actives P) (es fs : List Event) (x e : Machine P) → (first : Counted container body active es x) →
+    Counted container body first.1 fs e → Counted container body active (es ++ fs) e
+joined container body active es fs x e first second = (
   second.0,
   second.1,
   second.2,
@@ -206,33 +201,22 @@ joined own container body active es fs x e first second = (
       let a = first.5 st v in
       let b = second.5 st v in
       let c = taken-sum st es fs v in
-      let d = pushed-sum st es fs v in
-      omega (arith, a, b, c, d),
-  λ st v.
-      let a = first.6 st v in
-      let b = second.6 st v in
-      let c = taken-sum st es fs v in
       omega (arith, a, b, c),
-  second.7,
+  second.6,
 )
 
--- the events of a choice
-abbrev event_of_choice : {P : Type 0} → Choice P → List Event
-event_of_choice choice = event_at choice.machine.term choice.place
-
--- in a run of one pool whose works take nothing from outside, each value that is pushed waits at the end or is taken, and those taken are worked on
+-- in a run of one pool whose works take nothing from outside, each value that is taken is worked on
 pub counts : {P : Type 0} (k : ℕ) (picks : List ℕ) (own : Memory) (container : ℕ) (body : ℤ → Term P) (active : Actives P) (closed : Bool) (n : ℕ) (e : Machine P) → NoTake active body →
-    Reaches k picks (pool_machine own container body active closed n) e → Counted own container body active (events k picks (pool_machine own container body active closed n)) e
+    Reaches k picks (pool_machine own container body active closed n) e → Counted container body active (told event_inside k picks (pool_machine own container body active closed n)) e
 counts zero picks own container body active closed n e free h = elim h [ ]
 counts {P} (suc k) picks own container body active closed n e free (inl h) =
     let m : Machine P = pool_machine own container body active closed n in
-    subst (λ es. Counted own container body active es e) (sym (ap (λ l. flat_map event_of_choice (choices_by l picks m (choices k (drop 1 picks)))) h.0)) (stays own container body active closed n e free h.1)
+    subst (λ es. Counted container body active es e) (sym (told-none event_inside (suc k) picks m h.0)) (stays own container body active closed n e free h.1)
 counts {P} (suc k) picks own container body active closed n e free (inr h) =
     let m : Machine P = pool_machine own container body active closed n in
     let path : Path = chosen picks h.0 h.1 in
-    let first : Counted own container body active (event_at m.term path) h.3 = fired own container body active closed n path h.3 free h.4 in
-    let second = counts k (drop 1 picks) first.0 container body first.1 first.2 first.3 e first.7 (subst (λ y. Reaches k (drop 1 picks) y e) first.4 h.5) in
-    subst (λ es. Counted own container body active es e)
-    (sym (ap (λ l. flat_map event_of_choice (choices_by l picks m (choices k (drop 1 picks)))) h.2 ∙ ap (λ o. event_at m.term path ++ flat_map event_of_choice (choices_on o (choices k (drop 1 picks)))) h.4))
-    (joined own container body active (event_at m.term path) (events k (drop 1 picks) h.3) h.3 e first
-    (subst (λ y. Counted first.0 container body first.1 (events k (drop 1 picks) y) e) (sym first.4) second))
+    let first : Counted container body active (event_inside m.term path) h.3 = fired own container body active closed n path h.3 free h.4 in
+    let second = counts k (drop 1 picks) first.0 container body first.1 first.2 first.3 e first.6 (subst (λ y. Reaches k (drop 1 picks) y e) first.4 h.5) in
+    subst (λ es. Counted container body active es e) (sym (told-next event_inside k picks m h.3 h.0 h.1 h.2 h.4))
+    (joined container body active (event_inside m.term path) (told event_inside k (drop 1 picks) h.3) h.3 e first
+    (subst (λ y. Counted container body first.1 (told event_inside k (drop 1 picks) y) e) (sym first.4) second))

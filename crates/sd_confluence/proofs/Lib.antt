@@ -32,8 +32,11 @@ pub mod Confluent
 pub mod AlikeImages
 pub mod Interleavings
 pub mod StreamCounts
+pub mod Told
+pub mod RunCounts
 pub mod TakesTouched
 pub mod Counting
+pub mod OneState
 pub mod TakingOrder
 pub mod TouchExamples
 pub mod SafeExamples

@@ -1,5 +1,5 @@
 -- Runs by picks to the machine at their end.
-use Rattle.std.proofs.Common.{◌≡◌, ℕ, zero, suc, List, [], ◌∷◌, drop, Some, refl, sym, ◌∙◌, ap, inl, inr, ◌⊎◌, Bool, true, false}
+use Rattle.std.proofs.Common.{◌≡◌, ℕ, zero, suc, List, [], ◌∷◌, drop, Some, refl, sym, ◌∙◌, ap, subst, inl, inr, ◌⊎◌, Bool, true, false}
 use Rattle.sd_work.specs.Moves.{Path}
 use Rattle.sd_work.specs.Step.{Machine, Outcome, Done, Faulted, Spent, next_moves, step, spend, moved}
 use Rattle.sd_work.specs.Run.{Left, memory_of, go_on, run_by, run, chosen}
@@ -56,3 +56,18 @@ pub paid : {P : Type 0} (t : Term P) (n : ℕ) (b : Bool) (u : Change) (y : Term
 paid t zero true u y x e = cc
 paid t (suc n) true u y x e = (n, refl, cc)
 paid t n false u y x e = (n, refl, cc)
+
+-- a run by picks has one end
+pub one-end : {P : Type 0} (k j : ℕ) (picks : List ℕ) (m e f : Machine P) → Reaches k picks m e → Reaches j picks m f → e ≡ f
+one-end zero j picks m e f h g = elim h [ ]
+one-end (suc k) zero picks m e f h g = elim g [ ]
+one-end (suc k) (suc j) picks m e f (inl h) (inl g) = sym h.1 ∙ g.1
+one-end (suc k) (suc j) picks m e f (inl h) (inr g) = let bad : [] ≡ g.0 ∷ g.1 = sym h.0 ∙ g.2 in cc
+one-end (suc k) (suc j) picks m e f (inr h) (inl g) = let bad : [] ≡ h.0 ∷ h.1 = sym g.0 ∙ h.2 in cc
+one-end {P} (suc k) (suc j) picks m e f (inr h) (inr g) =
+    let all : h.0 ∷ h.1 ≡ g.0 ∷ g.1 = sym h.2 ∙ g.2 in
+    let first : h.0 ≡ g.0 = cc in
+    let others : h.1 ≡ g.1 = cc in
+    let done : Done h.3 ≡ Done g.3 = sym h.4 ∙ (λ i. step (chosen picks (first i) (others i)) m) ∙ g.4 in
+    let next : h.3 ≡ g.3 = cc in
+    one-end k j (drop 1 picks) h.3 e f h.5 (subst (λ x. Reaches j (drop 1 picks) x f) (sym next) g.5)

@@ -38,12 +38,12 @@ event_of_move memory (goes turn change left) = event_of memory change
 event_of_move memory (fails turn fault) = []
 event_of_move memory no_move = []
 
--- the event of the move at a place in the memory that a term owns
+-- the event of the move at a place in the memory of a run of a graph
 abbrev pub event_at : {P : Type 0} → Term P → Path → List Event
-event_at (owning own part) path = event_of_move own (fire part path (own ∷ []))
 event_at (nested body exits own state values part) path = cond (finished part) [] (event_of_move own (fire part path (own ∷ [])))
 event_at (leaf place work) path = []
 event_at (list kind before parts) path = []
+event_at (owning own part) path = []
 event_at (ended own) path = []
 event_at (pool level container body active closed) path = []
 

@@ -1,7 +1,7 @@
 -- Safe work: what may go on side by side never conflicts.
-use Rattle.std.specs.Prelude.{◌≡◌, ◌⊎◌, ◌<◌, ℕ, ℤ, true, false, Bool, ⊤}
+use Rattle.std.specs.Prelude.{◌≡◌, ◌⊎◌, ◌<◌, ℕ, ℤ, [], true, false, Bool, ⊤}
 use Rattle.sd_work.specs.Exit.{Values}
-use Rattle.sd_work.specs.Residual.{Parts, Points, Term, leaf, list, owning, nested, ended, pool, Terms, none, also, part_at, Actives, idle, busy, none_active}
+use Rattle.sd_work.specs.Residual.{Parts, Points, Term, leaf, list, owning, nested, ended, pool, Terms, none, also, part_at, Actives, idle, busy, begun, none_active}
 use Rattle.sd_work.specs.WellFormed.{IsOrdered}
 use Rattle.sd_work.specs.Memory.{Memory}
 use Rattle.sd_work.specs.Touch.{Touch, takes, AreCompatible, Touches, SomeActiveTouches}
@@ -51,6 +51,6 @@ pub record MayInterleave {P : Type 0} (term : Term P) : Type 0 where
   pub safe : IsSafe term
   pub inside : TakesNothingOutside term
 
--- the work of one pool over a stream of this memory, which is all that stands around it
+-- the run of a graph of one state that is one pool over a stream of this memory, which is all that stands around it
 abbrev pub pool_over : {P : Type 0} → Memory → (container : ℕ) → (ℤ → Term P) → Term P
-pool_over own container body = owning own (pool 0 container body idle false)
+pool_over own container body = begun (λ state values. pool 0 container body idle false) (λ state values. []) own []

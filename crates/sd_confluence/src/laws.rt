@@ -2,7 +2,7 @@ ghost use Rattle.std.specs.Prelude.{◌≡◌, ◌+◌, ℕ, ℤ, List, [], ◌�
 ghost use Rattle.sd_work.specs.Memory.{Memory, waiting};
 ghost use Rattle.sd_work.specs.Residual.{Term};
 ghost use Rattle.sd_work.specs.Step.{Done};
-ghost use Rattle.sd_work.specs.Run.{Left, Run};
+ghost use Rattle.sd_work.specs.Run.{Left, Run, memory_of};
 ghost use Rattle.sd_confluence.specs.Safe.{MayInterleave, pool_over};
 ghost use Rattle.sd_confluence.specs.Alike.{how_often, AreAlike, LeaveAlike};
 ghost use Rattle.sd_confluence.specs.Event.{Event, values_pushed, values_taken, DoneWith, AreEventsAlike};
@@ -26,14 +26,12 @@ pub fn the_order_of_taking_makes_no_difference<P>()
         × LeaveAlike left end × AreEventsAlike happened also }
 {}
 
-/// In a run of one safe pool no value of a stream is lost and none is made: each that waited at the
-/// begin or was pushed is taken or waits at the end.
+/// In a run no value of a stream of its memory is lost and none is made: each that waited at the begin or was
+/// pushed is taken or waits at the end.
 pub fn each_value_is_taken_or_waits<P>()
-    ensures { (own : Memory) (container : ℕ) (body : ℤ → Term P) (turns : ℕ) (picks : List ℕ)
-        (left : Left) (happened : List Event)
-        → MayInterleave (pool_over own container body)
-        → DoneWith (pool_over own container body) turns picks left happened
+    ensures { (term : Term P) (turns : ℕ) (picks : List ℕ) (left : Left) (happened : List Event)
+        → DoneWith term turns picks left happened
         → (stream : ℕ) (value : ℤ)
         → how_often (waiting 0 stream (left.memory ∷ [])) value + how_often (values_taken stream happened) value
-        ≡ how_often (waiting 0 stream (own ∷ [])) value + how_often (values_pushed stream happened) value }
+        ≡ how_often (waiting 0 stream (memory_of term ∷ [])) value + how_often (values_pushed stream happened) value }
 {}

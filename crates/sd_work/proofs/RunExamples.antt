@@ -168,7 +168,7 @@ a_nested_run_changes_what_is_outside = refl
 a_nested_run_goes_on_until_it_has_ended : trace_of [] nested_write 1 ≡ (0, 1) ∷ (0, 1) ∷ (0, 1) ∷ (0, 1) ∷ []
 a_nested_run_goes_on_until_it_has_ended = refl
 
--- points without an owner leave no memory
+-- a term that is no run of a graph leaves no memory
 points_alone_have_no_memory : run_of [] (points none) 3 ≡ done [] 3
 points_alone_have_no_memory = refl
 

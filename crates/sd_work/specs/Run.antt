@@ -10,13 +10,13 @@ pub record Left : Type 0 where
   pub memory : Memory
   pub turns : ℕ
 
--- the memory of a run of a graph, of a point or of an element; any other term has none
+-- the memory of a run of a graph; any other term has none
 abbrev pub memory_of : {P : Type 0} → Term P → Memory
 memory_of (nested body exits own state values part) = own
 memory_of (ended own) = own
 memory_of (leaf place work) = []
 memory_of (list kind before parts) = []
-memory_of (owning own part) = own
+memory_of (owning own part) = []
 memory_of (pool level container body active closed) = []
 
 -- the next pick, or 0 once they are used up
