@@ -1,5 +1,5 @@
 -- Which memories are alike, and what an interleaving of one pool leaves.
-use Rattle.std.proofs.Common.{◌≡◌, ℕ, suc, ℤ, pos, negsuc, List, [], ◌∷◌, Bool, true, false, cond, int_eq, refl, ap, arith}
+use Rattle.std.proofs.Common.{◌≡◌, ℕ, suc, ℤ, pos, List, [], ◌∷◌, Bool, true, false, cond, int_eq, refl, ap, arith}
 use Rattle.std.specs.Int.{int_wrap}
 use Rattle.sd_work.specs.Memory.{Memory, array, stream}
 use Rattle.sd_work.specs.Leaf.{push_to}

@@ -114,10 +114,10 @@ a_push_inside_a_private_memory_is_no_event_outside : events_by_picks [] (graph p
 unfolding int_wrap
 a_push_inside_a_private_memory_is_no_event_outside = refl
 
--- the memory of the point is its own when nothing is round it
-a_push_of_a_point_is_its_event : events_by_picks [] pushes_both 1 ≡ pushed 1 (pos 7) ∷ []
+-- nor is it one of a point alone, which is no run of a graph
+a_push_of_a_point_alone_is_no_event : events_by_picks [] pushes_both 1 ≡ []
 unfolding int_wrap
-a_push_of_a_point_is_its_event = refl
+a_push_of_a_point_alone_is_no_event = refl
 
 -- points have no memory of their own, so what they do inside theirs is no event of the whole
 work_without_a_memory_has_no_event : events_by_picks [] (points (two (sets 1 (cell 0 0 0) (pos 5)) pushes_both)) 2 ≡ []

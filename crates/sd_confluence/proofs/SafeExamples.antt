@@ -1,18 +1,16 @@
 -- Which work is safe, and which may interleave.
-use Rattle.std.proofs.Common.{◌≡◌, ℕ, zero, suc, ◌<◌, ◌⊎◌, ℤ, pos, negsuc, ◌-ℤ◌, List, [], ◌∷◌, Option, Some, None, Ok, Err, Bool, true, false, refl, sym, subst, ap, inl, inr, nat_lt, arith}
+use Rattle.std.proofs.Common.{◌≡◌, ℕ, zero, suc, ◌<◌, ◌⊎◌, ℤ, pos, negsuc, List, [], ◌∷◌, Some, None, Bool, true, false, refl, sym, subst, ap, inl, inr, nat_lt, arith}
 use Rattle.std.specs.Int.{int_wrap}
-use Rattle.sd_num.specs.declared.resolution.Resolution.TheVariants.{Sum, Product, Last}
-use Rattle.sd_work.specs.declared.fault.FaultKind.TheVariants.{Division}
-use Rattle.sd_work.specs.Memory.{Memory, array, Reference}
-use Rattle.sd_work.specs.Leaf.{Pending, write_value, push_to, reading, doing, instance_of, copy_of}
-use Rattle.sd_work.specs.Exit.{Values, Exit}
-use Rattle.sd_work.specs.Residual.{Items, Points, Term, leaf, list, owning, nested, ended, pool, begun, none, also, part_at, Actives, idle, busy, none_active, IsOrder}
+use Rattle.sd_num.specs.declared.resolution.Resolution.TheVariants.{Sum}
+use Rattle.sd_work.specs.Memory.{Memory}
+use Rattle.sd_work.specs.Leaf.{Pending, write_value, push_to, doing}
+use Rattle.sd_work.specs.Exit.{Values}
+use Rattle.sd_work.specs.Residual.{Items, Points, Term, leaf, list, owning, pool, begun, none, also, part_at, Actives, idle, busy, none_active, IsOrder}
 use Rattle.sd_work.specs.Step.{Done}
 use Rattle.sd_work.specs.Run.{Left, Run}
-use Rattle.sd_work.specs.Touch.{Touch, reads, writes, pushes, takes, AreCompatible, inner, SomeRead, SomePendingTouches, SomeExitTouches, Touches, SomeActiveTouches}
-use Rattle.sd_work.proofs.ExampleParts.{cell, value_of, task, sets, two, unordered, in_turn, points, graph, run_of, trace_of, done}
+use Rattle.sd_work.specs.Touch.{Touch, writes, pushes, takes, AreCompatible, inner, SomePendingTouches, Touches, SomeActiveTouches}
+use Rattle.sd_work.proofs.ExampleParts.{cell, task, sets, two, unordered, in_turn, points, graph, run_of, trace_of, done}
 use Rattle.sd_work.proofs.PoolExamples.{memory, counts_down}
-use Rattle.sd_work.proofs.RunExamples.{round, leads, loop}
 use Rattle.sd_confluence.specs.Safe.{TouchCompatibly, TakesNothingOutside, ArePartsSafe, PoolTouches, IsSafe, AreActiveSafe, MayInterleave, pool_over}
 use Rattle.sd_confluence.specs.Alike.{LeaveAlike}
 use Rattle.sd_confluence.proofs.Interleavings.{every-run}
@@ -315,8 +313,9 @@ a_graph_with_a_pool_over_its_own_stream_may_interleave =
       inside = graph_takes_nothing (memory (pos 0) (pos 3 ∷ []));
     }
 
+-- the same graph, by its name
 a_pool_over_its_own_stream_may_interleave : MayInterleave (pool_over (memory (pos 0) (pos 3 ∷ [])) 1 counting)
-a_pool_over_its_own_stream_may_interleave = record { ordered = (tt, λ value. tt); safe = counts_down_is_safe; inside = λ level container h. takes_its_own level container h }
+a_pool_over_its_own_stream_may_interleave = a_graph_with_a_pool_over_its_own_stream_may_interleave
 
 a_pool_over_a_stream_outside_may_not_interleave : MayInterleave (graph (pool 1 1 counting idle false) cells) → ⊥
 a_pool_over_a_stream_outside_may_not_interleave m = m.inside 0 1 (inl (inl refl))
@@ -345,7 +344,7 @@ items_in_no_order_may_not_interleave : MayInterleave in_no_order → ⊥
 items_in_no_order_may_not_interleave m = not_in_order m.ordered.0
 
 items_in_no_order_may_not_be_the_body_of_a_pool : MayInterleave (pool_over (memory (pos 0) []) 1 (λ value. in_no_order)) → ⊥
-items_in_no_order_may_not_be_the_body_of_a_pool m = not_in_order (m.ordered.1 (pos 5)).0
+items_in_no_order_may_not_be_the_body_of_a_pool m = not_in_order (m.ordered.0.1 (pos 5)).0
 
 -- state 0 does nothing
 abbrev turns_in_no_order : ℕ → Values → Term ℕ

@@ -1,21 +1,15 @@
 -- What work touches, and which touches conflict.
-use Rattle.std.proofs.Common.{◌≡◌, ℕ, zero, suc, ◌<◌, ◌⊎◌, ℤ, pos, negsuc, ◌-ℤ◌, List, [], ◌∷◌, Option, Some, None, Ok, Err, Bool, true, false, refl, sym, subst, ap, inl, inr, nat_lt, arith}
-use Rattle.std.specs.Int.{int_wrap}
+use Rattle.std.proofs.Common.{◌≡◌, ℕ, zero, suc, ◌⊎◌, ℤ, pos, negsuc, ◌-ℤ◌, List, [], ◌∷◌, Option, Some, None, Ok, Err, Bool, true, false, refl, sym, subst, ap, inl, inr, arith}
 use Rattle.sd_num.specs.declared.resolution.Resolution.TheVariants.{Sum, Product, Last}
 use Rattle.sd_work.specs.declared.fault.FaultKind.TheVariants.{Division}
 use Rattle.sd_work.specs.Memory.{Memory, array, Reference}
-use Rattle.sd_work.specs.Leaf.{Pending, write_value, push_to, reading, doing, instance_of, copy_of}
+use Rattle.sd_work.specs.Leaf.{Pending, write_value, push_to, reading, instance_of, copy_of}
 use Rattle.sd_work.specs.Exit.{Values, Exit}
-use Rattle.sd_work.specs.Residual.{Items, Points, Term, leaf, list, owning, nested, ended, pool, begun, none, also, part_at, Actives, idle, busy, none_active, IsOrder}
-use Rattle.sd_work.specs.Step.{Done}
-use Rattle.sd_work.specs.Run.{Left, Run}
-use Rattle.sd_work.specs.Touch.{Touch, reads, writes, pushes, takes, AreCompatible, inner, SomeRead, SomePendingTouches, SomeExitTouches, Touches, SomeActiveTouches}
-use Rattle.sd_work.proofs.ExampleParts.{cell, value_of, task, sets, two, unordered, in_turn, points, graph, run_of, trace_of, done}
-use Rattle.sd_work.proofs.PoolExamples.{memory, counts_down}
+use Rattle.sd_work.specs.Residual.{Items, Term, leaf, list, owning, nested, ended, pool, begun, none, Actives, idle, busy}
+use Rattle.sd_work.specs.Touch.{Touch, reads, writes, pushes, takes, AreCompatible, inner, SomeRead, SomePendingTouches, SomeExitTouches, Touches}
+use Rattle.sd_work.proofs.ExampleParts.{cell, value_of, task, sets, two, unordered, points}
+use Rattle.sd_work.proofs.PoolExamples.{counts_down}
 use Rattle.sd_work.proofs.RunExamples.{round, leads, loop}
-use Rattle.sd_confluence.specs.Safe.{TouchCompatibly, TakesNothingOutside, ArePartsSafe, PoolTouches, IsSafe, AreActiveSafe, MayInterleave, pool_over}
-use Rattle.sd_confluence.specs.Alike.{LeaveAlike}
-use Rattle.sd_confluence.proofs.Interleavings.{every-run}
 
 -- ---- two touches
 

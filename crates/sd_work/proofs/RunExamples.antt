@@ -172,10 +172,9 @@ a_nested_run_goes_on_until_it_has_ended = refl
 points_alone_have_no_memory : run_of [] (points none) 3 ≡ done [] 3
 points_alone_have_no_memory = refl
 
--- one that nothing is round leaves its private containers
-a_point_alone_leaves_its_memory : run_of [] (owning pair (sets 1 (cell 0 0 0) (pos 5))) 1 ≡ done (array (pos 5 ∷ pos 0 ∷ []) ∷ []) 0
-unfolding int_wrap
-a_point_alone_leaves_its_memory = refl
+-- its private containers, which nothing is round, are no memory of a run
+a_point_alone_leaves_no_memory : run_of [] (owning pair (sets 1 (cell 0 0 0) (pos 5))) 1 ≡ done [] 0
+a_point_alone_leaves_no_memory = refl
 
 -- ---- exits
 
