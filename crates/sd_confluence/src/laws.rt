@@ -15,15 +15,17 @@ pub fn every_interleaving_ends_alike<P>()
         → (end : Left) × Run term turns others (Done end) × LeaveAlike left end }
 {}
 
-/// Of two runs of one safe pool, from memories that are alike and by any picks, the one is done where the other is.
-/// They leave the same, and from each stream they took, and into each they pushed, each value equally often.
+/// Of two runs of a graph that is one safe pool, from memories that are alike and by any picks, the one is done
+/// where the other is. They leave alike memories and as many turns, and took from each stream and pushed into
+/// each each value equally often.
 pub fn the_order_of_taking_makes_no_difference<P>()
     ensures { (own other : Memory) (container : ℕ) (body : ℤ → Term P) (turns : ℕ) (picks others : List ℕ)
         (left : Left) (happened : List Event)
         → MayInterleave (pool_over own container body) → AreAlike own other
         → DoneWith (pool_over own container body) turns picks left happened
-        → (end : Left) × (also : List Event) × DoneWith (pool_over other container body) turns others end also
-        × LeaveAlike left end × AreEventsAlike happened also }
+        → (end : Left) × (happened_there : List Event)
+        × DoneWith (pool_over other container body) turns others end happened_there
+        × LeaveAlike left end × AreEventsAlike happened happened_there }
 {}
 
 /// In a run no value of a stream of its memory is lost and none is made: each that waited at the begin or was

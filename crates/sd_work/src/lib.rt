@@ -1,8 +1,8 @@
 //! Residual work: what is left to do of a run, apart from graphs. `specs/` defines memories and
 //! their changes, the terms of residual work, their next moves, steps and runs by picks
-//! (`docs/SEMANTICS.md` has each in plain words). By `laws`, changes at different places commute,
-//! a run has at most one outcome, which work from left to right gives where all is in order, and
-//! without pools it has one.
+//! (`docs/SEMANTICS.md` has each in plain words). By `laws`, changes at different places commute;
+//! a run has at most one outcome, and has one where its cycles of transitions pay and what it unfolds
+//! is new; and work from left to right gives that of the sequential run where all is in order.
 //! There is no code here but the kinds of faults.
 #![tactic(auto)]
 
