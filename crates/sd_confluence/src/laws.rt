@@ -16,8 +16,8 @@ pub fn every_interleaving_ends_alike<P>()
 {}
 
 /// Of two runs of a graph that is one safe pool, from memories that are alike and by any picks, the one is done
-/// where the other is. They leave alike memories and as many turns, and took from each stream and pushed into
-/// each each value equally often.
+/// where the other is. They leave alike memories and as many turns; from each stream they took, and into each
+/// they pushed, each value equally often.
 pub fn the_order_of_taking_makes_no_difference<P>()
     ensures { (own other : Memory) (container : ℕ) (body : ℤ → Term P) (turns : ℕ) (picks others : List ℕ)
         (left : Left) (happened : List Event)
