@@ -2,7 +2,7 @@
 //! when memories are alike, and what a run pushes and takes. By `laws`, of two runs by any picks the one
 //! is done where the other is, with alike memories and as many turns; and so are two runs of one pool
 //! from alike streams, which take and push each value equally often. The proof goes by work whose
-//! streams are bags (`proofs/BagMemory`, `proofs/Works`), where any next move can be made first.
+//! streams are bags (`proofs/bags/`), where any next move can be made first (`proofs/commuting/`).
 #![tactic(auto)]
 
 mod laws;

@@ -1,5 +1,5 @@
-use Rattle.sd_work.proofs.BigRuns.{big_run-sequential, sequential-big_run}
-use Rattle.sd_work.proofs.OrderedWithoutPools.{ordered-without-pools}
+use Rattle.sd_work.proofs.left_to_right.BigRuns.{big_run-sequential, sequential-big_run}
+use Rattle.sd_work.proofs.left_to_right.OrderedWithoutPools.{ordered-without-pools}
 use Rattle.sd_work.proofs.laws.a_run_from_left_to_right_is_sequential.Goals as goal
 
 pub returns-clause-sequential : goal.returns-clause-sequential

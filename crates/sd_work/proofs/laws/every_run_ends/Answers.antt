@@ -1,5 +1,5 @@
-use Rattle.sd_work.proofs.Halting.{run-ends}
-use Rattle.sd_work.proofs.HaltingPools.{run-ends_with_pools}
+use Rattle.sd_work.proofs.ending.Halting.{run-ends}
+use Rattle.sd_work.proofs.ending.HaltingPools.{run-ends_with_pools}
 use Rattle.sd_work.proofs.laws.every_run_ends.Goals as goal
 
 pub returns-clause-without_pools : goal.returns-clause-without_pools

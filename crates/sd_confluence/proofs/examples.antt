@@ -1,0 +1,4 @@
+pub mod TouchExamples
+pub mod SafeExamples
+pub mod AlikeExamples
+pub mod EventExamples

@@ -1,0 +1,6 @@
+pub mod Images
+pub mod ImageChanges
+pub mod Link
+pub mod NextLinked
+pub mod SafeImage
+pub mod AlikeImages

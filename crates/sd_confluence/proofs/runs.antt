@@ -1,0 +1,5 @@
+pub mod Listed
+pub mod Nearer
+pub mod Reaching
+pub mod Confluent
+pub mod Interleavings

@@ -1,0 +1,9 @@
+pub mod ExampleParts
+pub mod ChangeExamples
+pub mod LeafExamples
+pub mod RunExamples
+pub mod PoolExamples
+pub mod BigExamples
+pub mod WellFormedExamples
+pub mod NewExamples
+pub mod OrderedPoolsExamples

@@ -1,0 +1,10 @@
+pub mod Leads
+pub mod Fronts
+pub mod LeftmostLists
+pub mod LeftmostPools
+pub mod LeftmostOwners
+pub mod Leftmost
+pub mod LeftmostRuns
+pub mod BigRuns
+pub mod WithoutPools
+pub mod OrderedWithoutPools
