@@ -1,10 +1,8 @@
-ghost use Rattle.std.specs.Prelude.{IfOk, ◌∷◌, [], ◌≡◌, pos, negsuc};
+ghost use Rattle.std.specs.Prelude.{◌∷◌, [], ◌≡◌, pos, negsuc, IfOk, FitsSigned, ◌+ℤ◌, ◌*ℤ◌};
+ghost use Rattle.std.specs.Int.{w128};
 
 use super::*;
-use crate::memory::NoMemory;
 use crate::sequence::Sequence;
-use std::alloc::Global;
-use std::test::Fail;
 
 /// 1 + 2*N - 3*M, where N and M are the first two variables.
 fn sample(alloc: Global) -> Result<Affine, NoMemory>
@@ -16,24 +14,32 @@ fn sample(alloc: Global) -> Result<Affine, NoMemory>
     Ok(Affine { constant: 1, terms })
 }
 
+/// These values for N and M.
+fn env(alloc: Global, n: i128, m: i128) -> Result<Env, NoMemory>
+    ensures { IfOk result (λ env. env.values ≡ n ∷ m ∷ []) }
+{
+    Ok(Env {
+        values: Sequence::from(vec![in alloc; n, m]?),
+    })
+}
+
+/// The value of the sample.
+fn value(alloc: Global, n: i128, m: i128) -> Result<i128, NoMemory>
+    requires { FitsSigned w128 (pos 1 +ℤ ((pos 2 *ℤ n) +ℤ ((negsuc 2 *ℤ m) +ℤ pos 0))) }
+{
+    Ok(sample(alloc)?.value(&env(alloc, n, m)?))
+}
+
 #[test]
-fn the_constant_and_each_term_count(rt: HostRuntime) -> Result<(), Fail> {
+fn the_constant_and_each_term_count(rt: HostRuntime) {
     let alloc = rt.alloc();
-    let affine = sample(alloc)?;
-    let small = Env {
-        values: Sequence::from(vec![in alloc; 10, 4]?),
-    };
-    assert_eq!(rt; affine.value(&small), 9);
+    assert!(rt; value(alloc, 10, 4) == Ok(9));
     // N = 2^100 and M = 2^100 + 1
-    let large = Env {
-        values: Sequence::from(vec![in alloc;
+    assert!(rt;
+        value(
+            alloc,
             1_267_650_600_228_229_401_496_703_205_376,
-            1_267_650_600_228_229_401_496_703_205_377,
-        ]?),
-    };
-    assert_eq!(rt;
-        affine.value(&large),
-        -1_267_650_600_228_229_401_496_703_205_378
+            1_267_650_600_228_229_401_496_703_205_377
+        ) == Ok(-1_267_650_600_228_229_401_496_703_205_378)
     );
-    Ok(())
 }

@@ -96,24 +96,31 @@ fn substitution_keeps_the_constant_and_the_other_terms(rt: HostRuntime) -> Resul
     Ok(())
 }
 
-#[test]
-fn expressions_are_the_same_where_all_numbers_are(rt: HostRuntime) -> Result<(), Fail> {
-    let alloc = rt.alloc();
-    let a = built(alloc, 1, &[(0, 2), (1, -3)])?;
-    let higher = built(alloc, 2, &[(0, 2), (1, -3)])?;
-    let steeper = built(alloc, 1, &[(0, 2), (1, -4)])?;
-    assert!(rt; a.same(&a));
-    assert!(rt; !a.same(&higher));
-    assert!(rt; !a.same(&steeper));
-    Ok(())
+/// Whether 1 + 2*v0 - 3*v1 is this expression.
+fn is_example(alloc: Global, constant: i128, terms: &[(u32, i128)]) -> Result<bool, NoMemory>
+    requires { IsNormal terms.now }
+{
+    Ok(built(alloc, 1, &[(0, 2), (1, -3)])?.same(&built(alloc, constant, terms)?))
 }
 
 #[test]
-fn an_absent_variable_has_the_coefficient_zero(rt: HostRuntime) -> Result<(), Fail> {
+fn expressions_are_the_same_where_all_numbers_are(rt: HostRuntime) {
     let alloc = rt.alloc();
-    let a = built(alloc, 9, &[(1, 2), (4, -3)])?;
-    for (variable, coefficient) in [(0, 0), (1, 2), (2, 0), (4, -3), (5, 0)] {
-        assert_eq!(rt; a.terms.coefficient(variable), coefficient, "at {variable}");
+    assert!(rt; is_example(alloc, 1, &[(0, 2), (1, -3)]) == Ok(true));
+    assert!(rt; is_example(alloc, 2, &[(0, 2), (1, -3)]) == Ok(false));
+    assert!(rt; is_example(alloc, 1, &[(0, 2), (1, -4)]) == Ok(false));
+}
+
+/// The coefficient of this variable in 9 + 2*v1 - 3*v4.
+fn coefficient(alloc: Global, variable: u32) -> Result<i128, NoMemory> {
+    let example = built(alloc, 9, &[(1, 2), (4, -3)])?;
+    Ok(example.terms.coefficient(variable))
+}
+
+#[test]
+fn an_absent_variable_has_the_coefficient_zero(rt: HostRuntime) {
+    let alloc = rt.alloc();
+    for (variable, wanted) in [(0, 0), (1, 2), (2, 0), (4, -3), (5, 0)] {
+        assert!(rt; coefficient(alloc, variable) == Ok(wanted), "at {variable}");
     }
-    Ok(())
 }

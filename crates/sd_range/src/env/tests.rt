@@ -1,44 +1,51 @@
-ghost use Rattle.std.specs.Prelude.{◌≡◌};
+ghost use Rattle.std.specs.Prelude.{◌≡◌, IfOk};
 
 use super::*;
-use std::test::Fail;
 
-fn env(values: Vec<i128>) -> Env
-    ensures { result.values ≡ values.items }
+fn env(alloc: Global, values: &[i128]) -> Result<Env, NoMemory>
+    ensures { IfOk result (λ env. env.values ≡ values.now) }
 {
-    Env {
-        values: Sequence::from(values),
+    Ok(Env {
+        values: Sequence::from(values.to_vec(alloc)?),
+    })
+}
+
+/// Whether these values are the same.
+fn same(alloc: Global, values: &[i128], others: &[i128]) -> Result<bool, NoMemory> {
+    Ok(env(alloc, values)?.same(&env(alloc, others)?))
+}
+
+/// Whether the copy of these values is the same.
+fn copies(alloc: Global, values: &[i128]) -> Result<bool, NoMemory> {
+    let original = env(alloc, values)?;
+    Ok(original.copy_of(alloc)?.same(&original))
+}
+
+#[test]
+fn a_copy_is_the_same(rt: HostRuntime) {
+    let alloc = rt.alloc();
+    assert!(rt; copies(alloc, &[3, -5, 7]) == Ok(true));
+    // a variable less, another value, another order
+    for values in [[3, -5].as_slice(), &[3, -5, 8], &[-5, 3, 7]] {
+        assert!(rt; same(alloc, &[3, -5, 7], values) == Ok(false));
     }
 }
 
-#[test]
-fn a_copy_is_the_same(rt: HostRuntime) -> Result<(), Fail> {
-    let alloc = rt.alloc();
-    let original = env(vec![in alloc; 3, -5, 7]?);
-    assert!(rt; original.copy_of(alloc)?.same(&original));
-    assert!(rt;
-        !original.same(&env(vec![in alloc; 3, -5]?)),
-        "a variable less"
-    );
-    assert!(rt;
-        !original.same(&env(vec![in alloc; 3, -5, 8]?)),
-        "another value"
-    );
-    assert!(rt;
-        !original.same(&env(vec![in alloc; -5, 3, 7]?)),
-        "another order"
-    );
-    Ok(())
+/// Whether these values have become the other ones where the variable 1 is set to 4, and a copy
+/// from before stays and is not the same.
+fn sets(alloc: Global, values: &[i128; 3], others: &[i128]) -> Result<bool, NoMemory> {
+    let mut changed = env(alloc, values)?;
+    let copy = changed.copy_of(alloc)?;
+    changed.set(1, 4);
+    Ok(
+        changed.values.as_slice() == others
+            && copy.values.as_slice() == values.as_slice()
+            && !changed.same(&copy),
+    )
 }
 
 #[test]
-fn one_variable_is_set(rt: HostRuntime) -> Result<(), Fail> {
+fn one_variable_is_set(rt: HostRuntime) {
     let alloc = rt.alloc();
-    let mut changed = env(vec![in alloc; 3, -5, 7]?);
-    let copy = changed.copy_of(alloc)?;
-    changed.set(1, 4);
-    assert!(rt; changed.same(&env(vec![in alloc; 3, 4, 7]?)));
-    assert!(rt; copy.same(&env(vec![in alloc; 3, -5, 7]?)));
-    assert!(rt; !changed.same(&copy));
-    Ok(())
+    assert!(rt; sets(alloc, &[3, -5, 7], &[3, 4, 7]) == Ok(true));
 }
