@@ -2,6 +2,7 @@ pub mod Flags
 pub mod Leaving
 pub mod Paths
 pub mod Changes
+pub mod Spared
 pub mod Outcomes
 pub mod Absorbing
 pub mod Settling

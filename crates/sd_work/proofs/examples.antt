@@ -1,5 +1,6 @@
 pub mod ExampleParts
 pub mod ChangeExamples
+pub mod SparedExamples
 pub mod LeafExamples
 pub mod RunExamples
 pub mod PoolExamples

@@ -4,7 +4,8 @@ use Rattle.sd_num.specs.declared.resolution.Resolution.{Resolution}
 use Rattle.sd_work.specs.Memory.{Reference}
 use Rattle.sd_work.specs.Leaf.{Pending, write_value, transfer, push_to, Leaf, reading, doing}
 use Rattle.sd_work.specs.Exit.{Values, Guard, Exit}
-use Rattle.sd_work.specs.Harmless.{SameCommuting, AreTwo}
+use Rattle.sd_work.specs.Change.{Change}
+use Rattle.sd_work.specs.Harmless.{SameCommuting, AreTwo, SparesElement, SparesStream}
 use Rattle.sd_work.specs.Residual.{Term, leaf, list, owning, nested, ended, pool, Terms, none, also, Actives, idle, busy}
 
 -- an element read; an element written, with its resolution; a stream pushed into; a stream taken from
@@ -92,3 +93,13 @@ abbrev mutual
   pub SomeActiveTouches : {P : Type 0} → Actives P → Touch → Type 0
   SomeActiveTouches idle touch = ⊥
   SomeActiveTouches (busy value part active) touch = Touches part touch ⊎ SomeActiveTouches active touch
+
+-- a change is not seen by what touches this: it writes no element that is read, and leaves a stream alone that is taken from
+abbrev pub SparesTouch : Touch → Change → Type 0
+SparesTouch (reads from) change = SparesElement from change
+SparesTouch (takes level container) change = SparesStream level container change
+SparesTouch touch change = ⊤
+
+-- a change is not seen by work, whatever it may touch
+abbrev pub SparesWork : {P : Type 0} → Term P → Change → Type 0
+SparesWork term change = (touch : Touch) → Touches term touch → SparesTouch touch change

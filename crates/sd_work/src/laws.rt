@@ -4,7 +4,8 @@ ghost use Rattle.sd_num.specs.declared.resolution.Resolution.{Resolution};
 ghost use Rattle.sd_work.specs.Memory.{Memory, Memories, Reference, look, waiting};
 ghost use Rattle.sd_work.specs.Change.{Change, apply, became, outer, own_after, written};
 ghost use Rattle.sd_work.specs.Residual.{Term, finished};
-ghost use Rattle.sd_work.specs.Moves.{moves};
+ghost use Rattle.sd_work.specs.Moves.{Path, moves};
+ghost use Rattle.sd_work.specs.Fire.{fire};
 ghost use Rattle.sd_work.specs.Settle.{settled};
 ghost use Rattle.sd_work.specs.Step.{Outcome};
 ghost use Rattle.sd_work.specs.Run.{Left, Run, Sequential};
@@ -13,6 +14,7 @@ ghost use Rattle.sd_work.specs.WellFormed.{IsOrdered, HasNoPool, PaysCycles, IsR
 ghost use Rattle.sd_work.specs.New.{UnfoldsNew};
 ghost use Rattle.sd_work.specs.OrderedPools.{HasOrderedPools};
 ghost use Rattle.sd_work.specs.Harmless.{AreHarmless, SparesElement, SparesStream};
+ghost use Rattle.sd_work.specs.Touch.{SparesWork};
 
 /// What is written to an element is the new value, or the old one resolved with it.
 pub fn an_element_is_replaced_or_resolved()
@@ -28,13 +30,19 @@ pub fn changes_at_different_places_commute()
         → apply change (apply other memories) ≡ apply other (apply change memories) }
 {}
 
-/// A change elsewhere is not seen.
-pub fn a_change_elsewhere_is_not_seen()
+/// A change elsewhere is not seen: not of an element or a stream, and not by work that neither reads
+/// nor takes what it changes. So what work does depends on itself and on what it reads alone.
+pub fn a_change_elsewhere_is_not_seen<P>()
     ensures element { (reference : Reference) (change : Change) → SparesElement reference change
         → (memories : Memories) → look reference (apply change memories) ≡ look reference memories }
     ensures stream { (level container : ℕ) (change : Change) → SparesStream level container change
         → (memories : Memories)
         → waiting level container (apply change memories) ≡ waiting level container memories }
+    ensures moves { (term : Term P) (change : Change) → SparesWork term change
+        → (memories : Memories) → moves term (apply change memories) ≡ moves term memories }
+    ensures work { (term : Term P) (change : Change) → SparesWork term change
+        → (path : Path) (memories : Memories)
+        → fire term path (apply change memories) ≡ fire term path memories }
 {}
 
 /// A change splits at an owner into what it leaves in the owner's memory and what it is outside.
