@@ -31,7 +31,7 @@ pub fn changes_at_different_places_commute()
 {}
 
 /// A change elsewhere is not seen: not of an element or a stream, and not by work that neither reads
-/// nor takes what it changes. So what work does depends on itself and on what it reads alone.
+/// nor takes what it changes. So what work does depends on itself and on what it reads and takes alone.
 pub fn a_change_elsewhere_is_not_seen<P>()
     ensures element { (reference : Reference) (change : Change) → SparesElement reference change
         → (memories : Memories) → look reference (apply change memories) ≡ look reference memories }
