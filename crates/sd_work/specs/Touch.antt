@@ -15,7 +15,7 @@ pub data Touch : Type 0 where
   pushes : (level container : ℕ) → Touch
   takes : (level container : ℕ) → Touch
 
--- two touches do not conflict: both read, both push, both resolve by one resolution that commutes, or they are of different places. Two pushes into one stream do not, as its order is left aside
+-- two touches do not conflict: both read, both push (the order of a stream is left aside), both resolve by one resolution that commutes, or they are of different places
 abbrev pub AreCompatible : Touch → Touch → Type 0
 AreCompatible (reads from) (writes to by) = from ≢ to
 AreCompatible (writes to by) (reads from) = to ≢ from

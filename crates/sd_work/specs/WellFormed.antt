@@ -3,7 +3,7 @@ use Rattle.std.specs.Prelude.{◌≡◌, ◌⊎◌, ◌<◌, ℕ, ℤ, List, [],
 use Rattle.sd_work.specs.Exit.{Values, Exit}
 use Rattle.sd_work.specs.Residual.{Term, leaf, list, owning, nested, ended, pool, Terms, none, also, Actives, idle, busy, IsOrder}
 
--- each list has an order, also in what is unfolded later
+-- each list has an order, also in all that may be unfolded later, for every state and all values
 abbrev mutual
   pub IsOrdered : {P : Type 0} → Term P → Type 0
   IsOrdered (leaf place work) = ⊤
@@ -21,7 +21,7 @@ abbrev mutual
   AreActiveOrdered idle = ⊤
   AreActiveOrdered (busy value part active) = IsOrdered part × AreActiveOrdered active
 
--- no pool, also in what is unfolded later
+-- no pool, also in all that may be unfolded later
 abbrev mutual
   pub HasNoPool : {P : Type 0} → Term P → Type 0
   HasNoPool (leaf place work) = ⊤
@@ -47,7 +47,7 @@ pub record HasRanks {P : Type 0} (exits : ℕ → Values → List (Exit P)) : Ty
   pub bound : ℕ
   pub rises : (state : ℕ) (values : Values) → Rises rank bound state (exits state values)
 
--- each cycle of transitions spends a turn, also in what is unfolded later
+-- each cycle of transitions spends a turn, also in all that may be unfolded later
 abbrev mutual
   pub PaysCycles : {P : Type 0} → Term P → Type 0
   PaysCycles (leaf place work) = ⊤

@@ -30,14 +30,18 @@ pub fn changes_at_different_places_commute()
         → apply change (apply other memories) ≡ apply other (apply change memories) }
 {}
 
-/// A change elsewhere is not seen: not of an element or a stream, and not by work that neither reads
-/// nor takes what it changes. So what work does depends on itself and on what it reads and takes alone.
-pub fn a_change_elsewhere_is_not_seen<P>()
+/// A change elsewhere is not seen of an element or a stream.
+pub fn a_change_elsewhere_is_not_seen()
     ensures element { (reference : Reference) (change : Change) → SparesElement reference change
         → (memories : Memories) → look reference (apply change memories) ≡ look reference memories }
     ensures stream { (level container : ℕ) (change : Change) → SparesStream level container change
         → (memories : Memories)
         → waiting level container (apply change memories) ≡ waiting level container memories }
+{}
+
+/// Work does not see a change of what it neither reads nor takes. So what it does depends on itself
+/// and on what it reads and takes alone.
+pub fn work_does_not_see_a_change_elsewhere<P>()
     ensures moves { (term : Term P) (change : Change) → SparesWork term change
         → (memories : Memories) → moves term (apply change memories) ≡ moves term memories }
     ensures work { (term : Term P) (change : Change) → SparesWork term change

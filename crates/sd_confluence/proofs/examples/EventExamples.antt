@@ -1,5 +1,5 @@
 -- What runs push into streams and take from them, in order.
-use Rattle.std.proofs.Common.{◌≡◌, ◌+◌, ◌^◌, ℕ, zero, suc, ℤ, pos, negsuc, List, [], ◌∷◌, Some, None, true, false, refl}
+use Rattle.std.proofs.Common.{◌≡◌, ◌+◌, ◌^◌, ℕ, zero, suc, ℤ, pos, negsuc, List, [], ◌∷◌, Some, None, true, false, refl, arith}
 use Rattle.std.specs.Int.{int_wrap}
 use Rattle.sd_num.specs.declared.resolution.Resolution.TheVariants.{Sum}
 use Rattle.sd_work.specs.Leaf.{Pending, write_value, push_to}
@@ -9,7 +9,7 @@ use Rattle.sd_work.specs.Step.{opening}
 use Rattle.sd_work.proofs.examples.ExampleParts.{cell, task, two, points, graph, sets}
 use Rattle.sd_work.proofs.examples.PoolExamples.{memory}
 use Rattle.sd_confluence.specs.Safe.{pool_over}
-use Rattle.sd_confluence.specs.Event.{Event, pushed, taken, event_of, event_at, events, values_pushed, values_taken}
+use Rattle.sd_confluence.specs.Event.{Event, pushed, taken, event_of, event_at, events, values_pushed, values_taken, AreEventsAlike}
 
 abbrev below : ℤ → List Pending
 below (pos zero) = []
@@ -78,6 +78,20 @@ a_run_without_turns_has_no_more_events = refl
 a_transition_is_no_event : events_by_picks [] (graph (pool 0 1 counting idle false) (memory (pos 0) (pos 1 ∷ []))) 2 ≡ taken 1 (pos 1) ∷ pushed 1 (pos 0) ∷ taken 1 (pos 0) ∷ []
 unfolding int_wrap
 a_transition_is_no_event = refl
+
+-- ---- events that are alike
+
+the_same_events_in_another_order_are_alike : AreEventsAlike (taken 1 (pos 7) ∷ pushed 1 (pos 8) ∷ []) (pushed 1 (pos 8) ∷ taken 1 (pos 7) ∷ [])
+the_same_events_in_another_order_are_alike container = (λ value. refl, λ value. refl)
+
+takes_of_other_values_are_not_alike : AreEventsAlike (taken 1 (pos 7) ∷ []) (taken 1 (pos 8) ∷ []) → ⊥
+takes_of_other_values_are_not_alike h = let clash : 1 ≡ 0 = (h 1).0 (pos 7) in omega (arith, clash)
+
+pushes_of_other_values_are_not_alike : AreEventsAlike (pushed 1 (pos 7) ∷ []) (pushed 1 (pos 8) ∷ []) → ⊥
+pushes_of_other_values_are_not_alike h = let clash : 1 ≡ 0 = (h 1).1 (pos 7) in omega (arith, clash)
+
+a_take_and_a_push_are_not_alike : AreEventsAlike (taken 1 (pos 7) ∷ []) (pushed 1 (pos 7) ∷ []) → ⊥
+a_take_and_a_push_are_not_alike h = let clash : 1 ≡ 0 = (h 1).0 (pos 7) in omega (arith, clash)
 
 -- ---- what is no event
 

@@ -52,7 +52,7 @@ fn a_copy_is_the_same(rt: HostRuntime) {
     assert!(rt; same(alloc, &[], &rows) == Ok(false));
 }
 
-/// Whether these are the elements 0 to 4 in row 3.
+/// Whether these are the index 3 and then the numbers from 0 to 4.
 fn is_example(alloc: Global, rows: &[Row]) -> Result<bool, NoMemory> {
     same(alloc, &[Row::Number(3), Row::Numbers(0, 4)], rows)
 }
