@@ -110,6 +110,14 @@ equal true false h = grind (arith, h)
 equal false true h = grind (arith, h)
 equal false false h = refl
 
+-- nothing lies between zero and a divisor of zero
+none_between : (b r : ℤ) → Between b r → b ≢ pos 0
+none_between b r (inl h) e = omega (arith, ints, h.0, h.1, e)
+none_between b r (inr h) e = omega (arith, ints, h.0, h.1, e)
+
+pub some_divisor : (a b quotient remainder : ℤ) → IsFloorDivision a b quotient remainder → b ≢ pos 0
+some_divisor a b quotient remainder d = none_between b remainder d.between
+
 -- a division of numbers read back from their bits
 pub read_back : (a b quotient remainder : ℤ) → FitsSigned w64 a → FitsSigned w64 b → IsFloorDivision (cast_signed w64 (cast_unsigned w64 a)) (cast_signed w64 (cast_unsigned w64 b)) quotient remainder → IsFloorDivision a b quotient remainder
 read_back a b quotient remainder f g d =

@@ -3,3 +3,4 @@ pub mod ResolutionLemmas
 pub mod FloorLemmas
 pub mod FoldLemmas
 pub mod FloorUnique
+pub mod FloorValues

@@ -1,6 +1,6 @@
 ghost use Rattle.std.specs.Prelude.{◌≡◌, ◌↔◌, ℤ, pos, None, IfSome};
 ghost use Rattle.sd_num.specs.Wrapped.{wrapped};
-ghost use Rattle.sd_num.specs.Floor.{IsFloorDivision};
+ghost use Rattle.sd_num.specs.Floor.{IsFloorDivision, floor_quotient, floor_remainder};
 
 use crate::{add, sub};
 
@@ -24,7 +24,7 @@ fn divided(a: i64, b: i64) -> Option<(i64, i64)>
 /// divisor is 0.
 pub fn floor_div(a: i64, b: i64) -> Option<i64>
     ensures none { result ≡ None ↔ b ≡ pos 0 }
-    ensures some { IfSome result (λ value. (quotient : ℤ) × (remainder : ℤ) × IsFloorDivision a b quotient remainder × (value ≡ wrapped quotient)) }
+    ensures some { IfSome result (λ quotient. quotient ≡ wrapped (floor_quotient a b)) }
 {
     let (quotient, _) = divided(a, b)?;
     Some(quotient)
@@ -33,7 +33,7 @@ pub fn floor_div(a: i64, b: i64) -> Option<i64>
 /// The remainder, which is 0 or has the divisor's sign. `None` where the divisor is 0.
 pub fn floor_mod(a: i64, b: i64) -> Option<i64>
     ensures none { result ≡ None ↔ b ≡ pos 0 }
-    ensures some { IfSome result (λ remainder. (quotient : ℤ) × IsFloorDivision a b quotient remainder) }
+    ensures some { IfSome result (λ remainder. remainder ≡ floor_remainder a b) }
 {
     let (_, remainder) = divided(a, b)?;
     Some(remainder)

@@ -1,7 +1,7 @@
-ghost use Rattle.std.specs.Prelude.{◌≡◌, ℤ, List, ◌++◌, map, All, Some, IfSome, FitsSigned, IsPermutation};
+ghost use Rattle.std.specs.Prelude.{◌≡◌, ◌≢◌, ◌↔◌, ℤ, pos, List, ◌++◌, map, All, Some, IfSome, FitsSigned, IsPermutation};
 ghost use Rattle.std.specs.List.{flat_map};
 ghost use Rattle.std.specs.Int.{w64};
-ghost use Rattle.sd_num.specs.Floor.{IsFloorDivision};
+ghost use Rattle.sd_num.specs.Floor.{IsFloorDivision, floor_quotient, floor_remainder};
 ghost use Rattle.sd_num.specs.Resolution.{IsCommuting, resolved, resolved_all, identity_of};
 
 use crate::Resolution;
@@ -11,6 +11,15 @@ pub fn a_floor_division_has_one_result()
     ensures { (a b quotient remainder other rest : ℤ)
         → IsFloorDivision a b quotient remainder → IsFloorDivision a b other rest
         → (quotient ≡ other) × (remainder ≡ rest) }
+{}
+
+/// A division that rounds down has these values and no others, so either way of saying it may stand
+/// for the other one.
+pub fn a_floor_division_has_its_values()
+    ensures { (a b quotient remainder : ℤ)
+        → b ≢ pos 0
+        → IsFloorDivision a b quotient remainder
+        ↔ ((quotient ≡ floor_quotient a b) × (remainder ≡ floor_remainder a b)) }
 {}
 
 /// Two values may be resolved in either order, but by the last one.

@@ -14,8 +14,9 @@ mod wrapping;
 
 pub use floor::{floor_div, floor_mod};
 pub use laws::{
-    a_floor_division_has_one_result, an_identity_changes_nothing, partial_results_merge,
-    resolving_associates, resolving_commutes, resolving_in_any_order, resolving_part_by_part,
+    a_floor_division_has_its_values, a_floor_division_has_one_result, an_identity_changes_nothing,
+    partial_results_merge, resolving_associates, resolving_commutes, resolving_in_any_order,
+    resolving_part_by_part,
 };
 pub use resolution::{Resolution, identity, resolve};
-pub use wrapping::{add, mul, sub};
+pub use wrapping::{add, mul, sub, wrap};

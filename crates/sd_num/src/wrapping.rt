@@ -22,6 +22,13 @@ pub fn mul(a: i64, b: i64) -> i64
     a.wrapping_mul(b)
 }
 
+/// The element that a wider number stands for: the number taken modulo 2^64 as a signed one.
+pub fn wrap(value: i128) -> i64
+    ensures { result ≡ wrapped value }
+{
+    (value.rem_euclid(1 << 64) as u64).cast_signed()
+}
+
 #[cfg(test)]
 mod tests {
     use super::*;
@@ -37,6 +44,21 @@ mod tests {
             assert_eq!(rt; add(a, b), sum, "{a} + {b}");
             assert_eq!(rt; sub(a, b), difference, "{a} - {b}");
             assert_eq!(rt; mul(a, b), product, "{a} * {b}");
+        }
+    }
+
+    #[test]
+    fn wider_numbers_are_taken_modulo_two_to_the_64(rt: HostRuntime) {
+        for (value, element) in [
+            (-5, -5),
+            (1_i128 << 63, i64::MIN),
+            (-(1_i128 << 63) - 1, i64::MAX),
+            ((1_i128 << 64) + 7, 7),
+            (3 - (1_i128 << 100), 3),
+            (i128::MIN, 0),
+            (i128::MAX, -1),
+        ] {
+            assert_eq!(rt; wrap(value), element, "{value}");
         }
     }
 }
