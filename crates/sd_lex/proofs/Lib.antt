@@ -7,4 +7,5 @@ pub mod LayoutLemmas
 pub mod LinesLemmas
 pub mod PositionLaws
 pub mod TextLaws
+pub mod InsideLaws
 pub mod SpanLaws

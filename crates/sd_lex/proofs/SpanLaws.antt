@@ -8,7 +8,7 @@ use Rattle.sd_lex.specs.Bytes.{is_blank, is_comment, is_newline}
 use Rattle.sd_lex.specs.Blocks.{Blocks, outer, innermost, blocks_at}
 use Rattle.sd_lex.specs.FoundAt.{found_at, IsWithin}
 use Rattle.sd_lex.specs.Reading.{Reading, after, followed_by}
-use Rattle.sd_lex.specs.Line.{PhysicalLine, begun, tokens_from, tokens_of_line, blanks_of, spaces_of, has_content, has_tab_before_token, physical_line}
+use Rattle.sd_lex.specs.Line.{PhysicalLine, begun, tokens_from, tokens_of_line, blanks_of, spaces_of, has_content, has_tab_in_indentation, physical_line}
 use Rattle.sd_lex.specs.Lines.{less_return, numbered, physical_lines}
 use Rattle.sd_lex.specs.Layout.{mark, brackets_after, blocks_of, ends, line_end, text_end, laid_out, layout, lexed}
 use Rattle.sd_lex.specs.Position.{line_at, IsInOrder}
@@ -22,6 +22,7 @@ use Rattle.sd_lex.specs.declared.token.TokenKind.TheVariants.{LineEnd, Indent, D
 use Rattle.sd_lex.proofs.FoundLemmas.{found_within, run_within}
 use Rattle.sd_lex.proofs.PositionLaws.{Stands, IsClean, Chain, IsRight, stands-line, stands-drop, stands-length, step, next_line, skip, clean-front, clean-rest, wider, chain-append, chain_order, chain_each}
 use Rattle.sd_lex.proofs.TextLaws.{HasText, run_more, run_none, found_text}
+use Rattle.sd_lex.proofs.InsideLaws.{all_inside}
 
 -- an error is no tokens
 no_tokens : (error : LexError) (tokens : List Token) → Err error ≡ Ok tokens → ⊥
@@ -157,7 +158,7 @@ line_marks brackets widths line =
     let P : Option Blocks → Type 0 = λ o. IfSome o (λ blocks. AreMarks blocks.marks) in
     let same : Blocks = record { marks = []; widths = widths } in
     let at : Option Blocks = blocks_at (spaces_of line.bytes) widths in
-    let tab : Bool = has_tab_before_token line.bytes in
+    let tab : Bool = has_tab_in_indentation line.bytes in
     cond_both (nat_eq brackets 0 && has_content line.bytes) (if tab then None else at) (Some same) P
     (λ _. cond_both tab None at P (λ _. tt) (λ _. blocks_marks (spaces_of line.bytes) widths))
     (λ _. tt)
@@ -303,6 +304,9 @@ tokens_have_texts text tokens h = chain_each (IsRight text) (λ token. IsTextOf 
 pub tokens_on_lines : (text : List ℕ) (tokens : List Token) → lexed text ≡ Ok tokens → All (λ token. token.line ≡ line_at text token.from) tokens
 tokens_on_lines text tokens h = chain_each (IsRight text) (λ token. token.line ≡ line_at text token.from) (λ token right. right.0) 0 tokens (length text) (lexed_chain text tokens h)
 
--- all three together
+-- all of it together
 pub tokens_of_text : (text : List ℕ) (tokens : List Token) → lexed text ≡ Ok tokens → AreTokensOf text tokens
-tokens_of_text text tokens h = record { in_order = tokens_in_order text tokens h; texts = tokens_have_texts text tokens h; lines = tokens_on_lines text tokens h }
+tokens_of_text text tokens h = 
+    let in_order : IsInOrder 0 tokens (length text) = tokens_in_order text tokens h in
+    let texts : All (λ token. IsTextOf token.kind (text_of text token)) tokens = tokens_have_texts text tokens h in
+    record { in_order = in_order; inside = all_inside text 0 tokens in_order texts; texts = texts; lines = tokens_on_lines text tokens h }

@@ -3,7 +3,7 @@ use Rattle.std.specs.Prelude.{Ok, Err, ℕ, zero, suc, ◌+◌, ◌-◌, nat_eq,
 use Rattle.std.specs.List.{fold}
 use Rattle.sd_lex.specs.Sign.{opens, closes}
 use Rattle.sd_lex.specs.Reading.{Reading, after, followed_by}
-use Rattle.sd_lex.specs.Line.{PhysicalLine, tokens_of_line, blanks_of, spaces_of, has_content, has_tab_before_token}
+use Rattle.sd_lex.specs.Line.{PhysicalLine, tokens_of_line, blanks_of, spaces_of, has_content, has_tab_in_indentation}
 use Rattle.sd_lex.specs.Lines.{physical_lines}
 use Rattle.sd_lex.specs.Blocks.{Blocks, blocks_at}
 use Rattle.sd_lex.specs.declared.error.LexError.TheVariants.{BadIndent}
@@ -23,9 +23,9 @@ bracketed brackets byte = if opens byte then brackets + 1 else if closes byte th
 abbrev pub brackets_after : (text : List ℕ) → (brackets : ℕ) → List Token → ℕ
 brackets_after text brackets tokens = fold (λ now token. bracketed now (slice_index text token.from)) brackets tokens
 
--- the blocks of a line by its spaces; None where it has a tab before its first token, or its width is that of no open block
+-- the blocks of a line by its spaces; None where a tab stands in its indentation, or its width is that of no open block
 abbrev pub blocks_by_indentation : (widths : List ℕ) → List ℕ → Option Blocks
-blocks_by_indentation widths bytes = if has_tab_before_token bytes then None else blocks_at (spaces_of bytes) widths
+blocks_by_indentation widths bytes = if has_tab_in_indentation bytes then None else blocks_at (spaces_of bytes) widths
 
 -- the blocks of a line: they change where a logical line begins, and a line of blanks and a comment begins none
 abbrev pub blocks_of : (brackets : ℕ) → (widths : List ℕ) → PhysicalLine → Option Blocks

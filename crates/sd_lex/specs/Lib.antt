@@ -14,3 +14,4 @@ pub mod ExpressionNames
 pub mod StatementKind
 pub mod Position
 pub mod TokenText
+pub mod ErrorNumber

@@ -1,7 +1,7 @@
 -- The tokens of one physical line.
-use Rattle.std.specs.Prelude.{Ok, Err, ℕ, zero, suc, ◌+◌, ◌-◌, List, [], ◌∷◌, take, drop, Bool, true, false, not, ◌&&◌, ◌||◌, if◌then◌else◌}
+use Rattle.std.specs.Prelude.{Ok, Err, ℕ, zero, suc, ◌+◌, ◌-◌, List, [], ◌∷◌, take, drop, Bool, not, if◌then◌else◌}
 use Rattle.std.specs.List.{list_any}
-use Rattle.sd_lex.specs.Bytes.{is_tab, is_blank, is_comment, is_digit, is_space}
+use Rattle.sd_lex.specs.Bytes.{is_tab, is_blank, is_comment, is_space}
 use Rattle.sd_lex.specs.FoundAt.{run, begins, found_at}
 use Rattle.sd_lex.specs.Reading.{Reading, after}
 use Rattle.sd_lex.specs.declared.error.LexError.TheVariants.{BadByte as Bad_byte, NumberTooWide as Number_too_wide}
@@ -42,19 +42,10 @@ blanks_of bytes = run is_blank bytes
 abbrev pub spaces_of : List ℕ → ℕ
 spaces_of bytes = run is_space bytes
 
-abbrev pub is_token : Found → Bool
-is_token BadByte = false
-is_token NumberTooWide = false
-is_token (Token kind bytes) = true
-
--- a token begins, a number that is an error included
-abbrev pub begins_with_token : List ℕ → Bool
-begins_with_token bytes = begins is_digit bytes || is_token (found_at bytes)
-
 -- something else than a comment stands behind the blanks of a line
 abbrev pub has_content : List ℕ → Bool
 has_content bytes = begins (λ byte. not (is_comment byte)) (drop (blanks_of bytes) bytes)
 
--- a tab stands among the blanks before the first token of a line
-abbrev pub has_tab_before_token : List ℕ → Bool
-has_tab_before_token bytes = begins_with_token (drop (blanks_of bytes) bytes) && list_any is_tab (take (blanks_of bytes) bytes)
+-- a tab stands among the blanks that a line begins with
+abbrev pub has_tab_in_indentation : List ℕ → Bool
+has_tab_in_indentation bytes = list_any is_tab (take (blanks_of bytes) bytes)

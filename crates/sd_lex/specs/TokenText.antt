@@ -1,5 +1,5 @@
 -- What bytes a token of each kind has.
-use Rattle.std.specs.Prelude.{◌≡◌, ◌⊎◌, ℕ, ◌^◌, ◌<◌, pos, List, [], ◌∷◌, ◌++◌, nat_eq, Bool, ◌&&◌, not, IsTrue, length, slice_range}
+use Rattle.std.specs.Prelude.{◌≡◌, ◌⊎◌, ℕ, ◌^◌, ◌<◌, ◌≤◌, pos, List, [], ◌∷◌, ◌++◌, nat_eq, Bool, ◌&&◌, not, IsTrue, length, slice_range, IsAscii}
 use Rattle.std.specs.List.{list_all, All, Contains}
 use Rattle.sd_lex.specs.Bytes.{is_digit, is_letter, is_name_byte, is_quote}
 use Rattle.sd_lex.specs.Digits.{decimal_value}
@@ -40,8 +40,13 @@ IsTextOf Dedent bytes = bytes ≡ []
 abbrev pub text_of : List ℕ → Token → List ℕ
 text_of text token = slice_range text token.from token.to
 
--- the tokens stand in order within a text, each has the bytes that its kind says, and its line is that of its first byte
+-- a token stands inside a text, and its bytes are ASCII
+abbrev pub IsInside : List ℕ → Token → Type 0
+IsInside text token = (token.from ≤ token.to) × (token.to ≤ length text) × IsAscii (text_of text token)
+
+-- the tokens stand in order within a text, each inside it with the bytes that its kind says, and its line is that of its first byte
 pub record AreTokensOf (text : List ℕ) (tokens : List Token) : Type 0 where
   pub in_order : IsInOrder 0 tokens (length text)
+  pub inside : All (IsInside text) tokens
   pub texts : All (λ token. IsTextOf token.kind (text_of text token)) tokens
   pub lines : All (λ token. token.line ≡ line_at text token.from) tokens

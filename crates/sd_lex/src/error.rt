@@ -1,3 +1,6 @@
+ghost use Rattle.std.specs.Prelude.{◌≡◌};
+ghost use Rattle.sd_lex.specs.ErrorNumber as errors;
+
 use std::alloc::{AllocError, AllocFailed};
 use thiserror::Error;
 
@@ -8,8 +11,8 @@ pub enum LexError {
     /// `_` directly follows a number.
     #[error("source error 1 at line {0}")]
     BadByte(u32),
-    /// A tab stands before the first token of a line that begins a logical line, or such a line
-    /// closes to a width that no open block has.
+    /// A tab stands among the blanks before something else than a comment on a line that begins
+    /// a logical line, or such a line closes to a width that no open block has.
     #[error("source error 2 at line {0}")]
     BadIndent(u32),
     /// A number is above 2^63 - 1.
@@ -18,6 +21,32 @@ pub enum LexError {
     /// There was too little memory; no clause says when.
     #[error("out of memory")]
     Memory,
+}
+
+impl LexError {
+    /// The number of the error, 1 to 3, under which it is told; want of memory has none.
+    pub fn number(&self) -> Option<u8>
+        ensures { result ≡ errors.number_of self.now }
+    {
+        match self {
+            LexError::BadByte(_) => Some(1),
+            LexError::BadIndent(_) => Some(2),
+            LexError::NumberTooWide(_) => Some(3),
+            LexError::Memory => None,
+        }
+    }
+
+    /// The physical line of the error, counted from 1; want of memory has none.
+    pub fn line(&self) -> Option<u32>
+        ensures { result ≡ errors.line_of self.now }
+    {
+        match self {
+            LexError::BadByte(line) => Some(*line),
+            LexError::BadIndent(line) => Some(*line),
+            LexError::NumberTooWide(line) => Some(*line),
+            LexError::Memory => None,
+        }
+    }
 }
 
 impl From<AllocError> for LexError {

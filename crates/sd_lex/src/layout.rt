@@ -8,9 +8,8 @@ ghost use Rattle.sd_lex.specs.LexerState.{next_blocks, rest_of, HasChanged, HasR
 ghost use Rattle.sd_lex.specs.Layout as definition;
 
 use crate::blocks::{Place, change_blocks, push_mark};
-use crate::bytes::{is_blank, is_comment, is_digit};
+use crate::bytes::{is_blank, is_comment};
 use crate::error::LexError;
-use crate::found::{Found, find};
 use crate::line::push_line;
 use crate::sign::{closes, opens};
 use crate::token::{Token, TokenKind};
@@ -51,17 +50,6 @@ fn has_content(bytes: &[u8]) -> bool
     }
 }
 
-/// Whether a token begins, a number that is an error included.
-fn begins_with_token(bytes: &[u8]) -> bool
-    requires { length bytes.now < 2 ^ 32 }
-    ensures { result ≡ lines.begins_with_token bytes.now }
-{
-    match bytes.first() {
-        Some(byte) if is_digit(*byte) => true,
-        _ => matches!(find(bytes), Found::Token(_, _)),
-    }
-}
-
 /// Whether one of these bytes is a tab.
 fn has_tab(bytes: &[u8]) -> bool
     ensures { result ≡ list_any is_tab bytes.now }
@@ -69,13 +57,11 @@ fn has_tab(bytes: &[u8]) -> bool
     bytes.contains(&b'\t')
 }
 
-/// Whether a tab stands among the blanks before the first token of a line.
-fn has_tab_before_token(bytes: &[u8]) -> bool
-    requires { length bytes.now < 2 ^ 32 }
-    ensures { result ≡ lines.has_tab_before_token bytes.now }
+/// Whether a tab stands among the blanks that a line begins with.
+fn has_tab_in_indentation(bytes: &[u8]) -> bool
+    ensures { result ≡ lines.has_tab_in_indentation bytes.now }
 {
-    let margin = blanks(bytes);
-    begins_with_token(&bytes[margin..]) && has_tab(&bytes[..margin])
+    has_tab(&bytes[..blanks(bytes)])
 }
 
 /// How many brackets are open after a byte.
@@ -138,7 +124,7 @@ impl Lexer {
         if self.brackets > 0 || !has_content(bytes) {
             return Ok(());
         }
-        if has_tab_before_token(bytes) {
+        if has_tab_in_indentation(bytes) {
             return Err(LexError::BadIndent(number));
         }
         let place = Place {

@@ -14,6 +14,7 @@ mod laws;
 mod layout;
 mod lexing;
 mod line;
+mod position;
 mod sign;
 mod syntax;
 mod token;
@@ -21,6 +22,7 @@ mod token;
 pub use error::LexError;
 pub use laws::tokens_are_slices_of_their_text;
 pub use lexing::tokens;
+pub use position::line_count;
 pub use syntax::{
     Expr, Function, Lambda, Moved, OneSign, Program, Slot, Statement, TwoSign, has_connector,
 };

@@ -1,3 +1,6 @@
+ghost use Rattle.std.specs.Prelude.{◌≡◌, IsAscii};
+ghost use Rattle.sd_lex.specs.TokenText.{text_of, IsInside};
+
 /// What a token is.
 #[derive(Clone, Copy, Debug, PartialEq, Eq)]
 pub enum TokenKind {
@@ -28,4 +31,15 @@ pub struct Token {
     pub from: u32,
     pub to: u32,
     pub line: u32,
+}
+
+impl Token {
+    /// The bytes of the token in the text that it was cut from.
+    pub fn bytes<'a>(&self, text: &'a [u8]) -> &'a [u8]
+        requires { IsInside text.now self.now }
+        ensures value { result.now ≡ text_of text.now self.now }
+        ensures ascii { IsAscii result.now }
+    {
+        &text[self.from as usize..self.to as usize]
+    }
 }

@@ -136,7 +136,7 @@ fn the_first_error_in_the_text_decides(rt: HostRuntime) -> Result<(), Fail> {
         ("a\n \tb ?", "source error 2 at line 2"),
         ("a\n\t# x\n\t\nb", " a ; b ;"),
         ("a:\n    b\n  c", "source error 2 at line 3"),
-        ("\t?", "source error 1 at line 1"),
+        ("\t?", "source error 2 at line 1"),
         ("\t00", "source error 2 at line 1"),
         (
             "a:\n    b\n  9223372036854775808",
