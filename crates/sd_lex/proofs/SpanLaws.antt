@@ -306,7 +306,7 @@ tokens_on_lines text tokens h = chain_each (IsRight text) (λ token. token.line 
 
 -- all of it together
 pub tokens_of_text : (text : List ℕ) (tokens : List Token) → lexed text ≡ Ok tokens → AreTokensOf text tokens
-tokens_of_text text tokens h = 
+tokens_of_text text tokens h =
     let in_order : IsInOrder 0 tokens (length text) = tokens_in_order text tokens h in
     let texts : All (λ token. IsTextOf token.kind (text_of text token)) tokens = tokens_have_texts text tokens h in
     record { in_order = in_order; inside = all_inside text 0 tokens in_order texts; texts = texts; lines = tokens_on_lines text tokens h }

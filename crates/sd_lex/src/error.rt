@@ -70,3 +70,6 @@ impl<T: Drop> From<AllocFailed<T>> for LexError {
         LexError::Memory
     }
 }
+
+#[cfg(test)]
+mod tests;
