@@ -4,7 +4,7 @@ use Rattle.sd_work.specs.Exit.{Values}
 use Rattle.sd_work.specs.Residual.{Parts, Points, Term, leaf, list, owning, nested, ended, pool, Terms, none, also, part_at, Actives, idle, busy, begun, none_active}
 use Rattle.sd_work.specs.WellFormed.{IsOrdered}
 use Rattle.sd_work.specs.Memory.{Memory}
-use Rattle.sd_work.specs.Touch.{Touch, takes, AreCompatible, Touches, SomeActiveTouches}
+use Rattle.sd_work.specs.Touch.{Touch, takes, AreCompatible, Touches, PoolTouches}
 
 -- whatever the two touch does not conflict
 abbrev pub TouchCompatibly : {P : Type 0} → (first second : Term P) → Type 0
@@ -18,10 +18,6 @@ TakesNothingOutside term = (level container : ℕ) → Touches term (takes level
 pub record ArePartsSafe {P : Type 0} (kind : Parts) (before : ℕ → ℕ → Bool) (parts : Terms P) : Type 0 where
   pub compatible : (i j : ℕ) → i < j → before i j ≡ false → TouchCompatibly (part_at parts i) (part_at parts j)
   pub points : kind ≡ Points → (i j : ℕ) → i < j → before i j ≡ false → TakesNothingOutside (part_at parts j)
-
--- what the work of a pool touches, for any value
-abbrev pub PoolTouches : {P : Type 0} → (ℤ → Term P) → Actives P → Touch → Type 0
-PoolTouches body active touch = SomeActiveTouches active touch ⊎ ((value : ℤ) × Touches (body value) touch)
 
 -- the works of a pool for any two values do not conflict, those of one value twice and one work with itself included
 abbrev pub IsPoolSafe : {P : Type 0} → (ℤ → Term P) → Actives P → Type 0

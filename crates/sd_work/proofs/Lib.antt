@@ -9,4 +9,5 @@ pub mod Settling
 pub mod Finished
 pub mod left_to_right
 pub mod ending
+pub mod going
 pub mod examples

@@ -8,3 +8,4 @@ pub mod BigExamples
 pub mod WellFormedExamples
 pub mod NewExamples
 pub mod OrderedPoolsExamples
+pub mod GoingExamples

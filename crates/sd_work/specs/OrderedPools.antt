@@ -14,8 +14,8 @@ AllButLastFinished idle = ⊤
 AllButLastFinished (busy value part idle) = ⊤
 AllButLastFinished (busy value part (busy other next active)) = (finished part ≡ true) × AllButLastFinished (busy other next active)
 
--- With so many memories on the stack: each pool is over a stream of a memory that is there, with at most its last active term
--- unfinished, and of two items that are not one before the other, the earlier does not feed the later. Of points nothing
+-- With so many memories on the stack: each pool that is not finished for good is over a stream of one of them, with at most its
+-- last active term unfinished, and of two items that are not one before the other, the earlier does not feed the later. Of points nothing
 -- is asked: a pool in one of them over a stream outside of the map waits for earlier points as it is.
 abbrev mutual
   pub HasOrderedPools : {P : Type 0} → (depth : ℕ) → Term P → Type 0
@@ -27,7 +27,8 @@ abbrev mutual
   HasOrderedPools depth (nested body exits own state values part) =
       HasOrderedPools (suc depth) part × ((state : ℕ) (values : Values) → HasOrderedPools (suc depth) (body state values))
   HasOrderedPools depth (ended own) = ⊤
-  HasOrderedPools depth (pool level container body active closed) =
+  HasOrderedPools depth (pool level container body active true) = ⊤
+  HasOrderedPools depth (pool level container body active false) =
       (level < depth) × AllButLastFinished active × HaveOrderedActivePools depth active × ((value : ℤ) → HasOrderedPools depth (body value))
 
   pub HaveOrderedPools : {P : Type 0} → (depth : ℕ) → Terms P → Type 0

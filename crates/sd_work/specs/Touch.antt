@@ -94,6 +94,10 @@ abbrev mutual
   SomeActiveTouches idle touch = ⊥
   SomeActiveTouches (busy value part active) touch = Touches part touch ⊎ SomeActiveTouches active touch
 
+-- what the work of a pool touches, now and for any value: all that the pool touches but its own take, which its clause above has in front of the same words
+abbrev pub PoolTouches : {P : Type 0} → (body : ℤ → Term P) → Actives P → Touch → Type 0
+PoolTouches body active touch = SomeActiveTouches active touch ⊎ ((value : ℤ) × Touches (body value) touch)
+
 -- a change is not seen by what touches this: it writes no element that is read, and leaves a stream alone that is taken from
 abbrev pub SparesTouch : Touch → Change → Type 0
 SparesTouch (reads from) change = SparesElement from change

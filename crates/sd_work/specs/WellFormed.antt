@@ -1,7 +1,10 @@
--- Which terms are in order, which have no pool, and in which each cycle of transitions spends a turn.
-use Rattle.std.specs.Prelude.{◌≡◌, ◌⊎◌, ◌<◌, ℕ, ℤ, List, [], ◌∷◌, true, ⊤}
+-- Which terms are in order, which have no pool or pools over memories that are there, in which each cycle of transitions
+-- spends a turn, and which machines go on until they are finished.
+use Rattle.std.specs.Prelude.{◌≡◌, ◌⊎◌, ◌<◌, ℕ, suc, ℤ, List, [], ◌∷◌, true, false, ⊤}
 use Rattle.sd_work.specs.Exit.{Values, Exit}
 use Rattle.sd_work.specs.Residual.{Term, leaf, list, owning, nested, ended, pool, Terms, none, also, Actives, idle, busy, IsOrder}
+use Rattle.sd_work.specs.Settle.{settled}
+use Rattle.sd_work.specs.Step.{Machine}
 
 -- each list has an order, also in all that may be unfolded later, for every state and all values
 abbrev mutual
@@ -34,6 +37,33 @@ abbrev mutual
   pub HaveNoPool : {P : Type 0} → Terms P → Type 0
   HaveNoPool none = ⊤
   HaveNoPool (also part parts) = HasNoPool part × HaveNoPool parts
+
+-- with so many memories on the stack, each pool that is not finished for good is over a stream of one of them, also in all that may be unfolded later
+abbrev mutual
+  pub HasPoolMemories : {P : Type 0} → (depth : ℕ) → Term P → Type 0
+  HasPoolMemories depth (leaf place work) = ⊤
+  HasPoolMemories depth (list kind before parts) = HavePoolMemories depth parts
+  HasPoolMemories depth (owning own part) = HasPoolMemories (suc depth) part
+  HasPoolMemories depth (nested body exits own state values part) =
+      HasPoolMemories (suc depth) part × ((state : ℕ) (values : Values) → HasPoolMemories (suc depth) (body state values))
+  HasPoolMemories depth (ended own) = ⊤
+  HasPoolMemories depth (pool level container body active true) = ⊤
+  HasPoolMemories depth (pool level container body active false) =
+      (level < depth) × HaveActivePoolMemories depth active × ((value : ℤ) → HasPoolMemories depth (body value))
+
+  pub HavePoolMemories : {P : Type 0} → (depth : ℕ) → Terms P → Type 0
+  HavePoolMemories depth none = ⊤
+  HavePoolMemories depth (also part parts) = HasPoolMemories depth part × HavePoolMemories depth parts
+
+  pub HaveActivePoolMemories : {P : Type 0} → (depth : ℕ) → Actives P → Type 0
+  HaveActivePoolMemories depth idle = ⊤
+  HaveActivePoolMemories depth (busy value part active) = HasPoolMemories depth part × HaveActivePoolMemories depth active
+
+-- a machine is settled, its lists have orders, and the memories of its pools are there
+pub record IsWellFormed {P : Type 0} (machine : Machine P) : Type 0 where
+  pub settles : settled machine.term ≡ machine.term
+  pub ordered : IsOrdered machine.term
+  pub memories : HasPoolMemories 0 machine.term
 
 -- each exit of a state wants a turn, or leads to a state of a higher rank that is below a bound
 abbrev pub Rises : {P : Type 0} → (rank : ℕ → ℕ) → (bound : ℕ) → (state : ℕ) → List (Exit P) → Type 0

@@ -7,10 +7,10 @@ ghost use Rattle.sd_work.specs.Residual.{Term, finished};
 ghost use Rattle.sd_work.specs.Moves.{Path, moves};
 ghost use Rattle.sd_work.specs.Fire.{fire};
 ghost use Rattle.sd_work.specs.Settle.{settled};
-ghost use Rattle.sd_work.specs.Step.{Outcome};
+ghost use Rattle.sd_work.specs.Step.{Machine, Outcome, Done, opening, next_moves, step};
 ghost use Rattle.sd_work.specs.Run.{Left, Run, Sequential};
 ghost use Rattle.sd_work.specs.BigRun.{big_run};
-ghost use Rattle.sd_work.specs.WellFormed.{IsOrdered, HasNoPool, PaysCycles, IsRun};
+ghost use Rattle.sd_work.specs.WellFormed.{IsOrdered, HasNoPool, HasPoolMemories, IsWellFormed, PaysCycles, IsRun};
 ghost use Rattle.sd_work.specs.New.{UnfoldsNew};
 ghost use Rattle.sd_work.specs.OrderedPools.{HasOrderedPools};
 ghost use Rattle.sd_work.specs.Harmless.{AreHarmless, SparesElement, SparesStream};
@@ -58,6 +58,23 @@ pub fn a_change_splits_at_an_owner()
 /// Where nothing is left to do there is no move.
 pub fn a_finished_term_has_no_move<P>()
     ensures { (term : Term P) (memories : Memories) → finished term ≡ true → moves term memories ≡ [] }
+{}
+
+/// A well-formed machine has no next move exactly where it is finished, so no run stands still before
+/// its end. A machine is well-formed when its run begins, where the lists have orders and the memories
+/// of the pools are there, and every step keeps that. Where the pools are in order their memories
+/// are there.
+pub fn a_machine_moves_until_it_is_finished<P>()
+    ensures moves { (machine : Machine P) → IsWellFormed machine
+        → next_moves machine ≡ [] → finished machine.term ≡ true }
+    ensures finished { (machine : Machine P)
+        → finished machine.term ≡ true → next_moves machine ≡ [] }
+    ensures opening { (term : Term P) (turns : ℕ) → IsOrdered term → HasPoolMemories 0 term
+        → IsWellFormed (opening term turns) }
+    ensures step { (machine next : Machine P) (path : Path) → IsWellFormed machine
+        → step path machine ≡ Done next → IsWellFormed next }
+    ensures ordered_pools { (term : Term P) (depth : ℕ)
+        → HasOrderedPools depth term → HasPoolMemories depth term }
 {}
 
 /// Settling goes once through a term: to settle it again changes nothing.

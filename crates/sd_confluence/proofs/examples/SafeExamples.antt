@@ -8,10 +8,10 @@ use Rattle.sd_work.specs.Exit.{Values}
 use Rattle.sd_work.specs.Residual.{Items, Points, Term, leaf, list, owning, pool, begun, none, also, part_at, Actives, idle, busy, none_active, IsOrder}
 use Rattle.sd_work.specs.Step.{Done}
 use Rattle.sd_work.specs.Run.{Left, Run}
-use Rattle.sd_work.specs.Touch.{Touch, writes, pushes, takes, AreCompatible, inner, SomePendingTouches, Touches, SomeActiveTouches}
+use Rattle.sd_work.specs.Touch.{Touch, writes, pushes, takes, AreCompatible, inner, SomePendingTouches, Touches, SomeActiveTouches, PoolTouches}
 use Rattle.sd_work.proofs.examples.ExampleParts.{cell, task, sets, two, unordered, in_turn, points, graph, run_of, trace_of, done}
 use Rattle.sd_work.proofs.examples.PoolExamples.{memory, counts_down}
-use Rattle.sd_confluence.specs.Safe.{TouchCompatibly, TakesNothingOutside, ArePartsSafe, PoolTouches, IsSafe, AreActiveSafe, MayInterleave, pool_over}
+use Rattle.sd_confluence.specs.Safe.{TouchCompatibly, TakesNothingOutside, ArePartsSafe, IsSafe, AreActiveSafe, MayInterleave, pool_over}
 use Rattle.sd_confluence.specs.Alike.{LeaveAlike}
 use Rattle.sd_confluence.proofs.runs.Interleavings.{every-run}
 use Rattle.sd_confluence.proofs.examples.TouchExamples.{at, sums_into_one_element_do_not_conflict, replacements_of_two_elements_do_not_conflict, task_does, cells, replaces, level_of, not_own, conditions, consume}

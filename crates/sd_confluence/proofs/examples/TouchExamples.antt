@@ -1,12 +1,12 @@
 -- What work touches, and which touches conflict.
-use Rattle.std.proofs.Common.{◌≡◌, ℕ, zero, suc, ◌⊎◌, ℤ, pos, negsuc, ◌-ℤ◌, List, [], ◌∷◌, Option, Some, None, Ok, Err, Bool, true, false, refl, sym, subst, ap, inl, inr, arith}
+use Rattle.std.proofs.Common.{◌≡◌, ◌↔◌, ℕ, zero, suc, ◌⊎◌, ℤ, pos, negsuc, ◌-ℤ◌, List, [], ◌∷◌, Option, Some, None, Ok, Err, Bool, true, false, refl, sym, subst, ap, inl, inr, arith}
 use Rattle.sd_num.specs.declared.resolution.Resolution.TheVariants.{Sum, Product, Last}
 use Rattle.sd_work.specs.declared.fault.FaultKind.TheVariants.{Division}
 use Rattle.sd_work.specs.Memory.{Memory, array, Reference}
 use Rattle.sd_work.specs.Leaf.{Pending, write_value, push_to, reading, instance_of, copy_of}
 use Rattle.sd_work.specs.Exit.{Values, Exit}
 use Rattle.sd_work.specs.Residual.{Items, Term, leaf, list, owning, nested, ended, pool, begun, none, Actives, idle, busy}
-use Rattle.sd_work.specs.Touch.{Touch, reads, writes, pushes, takes, AreCompatible, inner, SomeRead, SomePendingTouches, SomeExitTouches, Touches}
+use Rattle.sd_work.specs.Touch.{Touch, reads, writes, pushes, takes, AreCompatible, inner, SomeRead, SomePendingTouches, SomeExitTouches, Touches, PoolTouches}
 use Rattle.sd_work.proofs.examples.ExampleParts.{cell, value_of, task, sets, two, unordered, points}
 use Rattle.sd_work.proofs.examples.PoolExamples.{counts_down}
 use Rattle.sd_work.proofs.examples.RunExamples.{round, leads, loop}
@@ -217,6 +217,11 @@ a_pool_touches_what_its_body_does_for_any_value = inr (inr (pos 1, inr ([], writ
 
 a_pool_touches_what_its_active_terms_do : Touches (consume (λ value. list Items unordered none) (busy (pos 7) (sets 1 (cell 0 0 0) (pos 5)) idle) false) (writes (at 0) None)
 a_pool_touches_what_its_active_terms_do = inr (inl (inl (inr ([], write_value (pos 5) (cell 0 0 0) None ∷ [], refl, inl refl))))
+
+-- its own take, and what its work touches
+a_pool_touches_its_stream_and_what_its_work_does : {P : Type 0} (level container : ℕ) (body : ℤ → Term P) (active : Actives P) (closed : Bool) (touch : Touch)
+    → Touches (pool level container body active closed) touch ↔ ((touch ≡ takes level container) ⊎ PoolTouches body active touch)
+a_pool_touches_its_stream_and_what_its_work_does level container body active closed touch = (λ h. h, λ h. h)
 
 a_run_that_has_ended_touches_nothing : (a : Touch) → Touches {P = ℕ} (ended cells) a → ⊥
 a_run_that_has_ended_touches_nothing a h = h

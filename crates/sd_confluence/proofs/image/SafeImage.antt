@@ -1,9 +1,9 @@
 -- The image of safe work is safe.
 use Rattle.std.proofs.Common.{◌≡◌, ℕ, zero, suc, ℤ, Bool, true, false, cond, refl, subst, inl, inr, ◌⊎◌}
 use Rattle.sd_work.specs.Residual.{Term, leaf, list, owning, nested, ended, pool, Terms, none, also, part_at, Actives, idle, busy}
-use Rattle.sd_work.specs.Touch.{Touch, inner, Touches, SomePartTouches, SomeActiveTouches}
+use Rattle.sd_work.specs.Touch.{Touch, inner, Touches, SomePartTouches, SomeActiveTouches, PoolTouches}
 use Rattle.std.specs.Ordering.{int_eq}
-use Rattle.sd_confluence.specs.Safe.{PoolTouches, IsSafe, AreSafe, AreActiveSafe}
+use Rattle.sd_confluence.specs.Safe.{IsSafe, AreSafe, AreActiveSafe}
 use Rattle.sd_confluence.proofs.bags.Works.{and_work}
 use Rattle.sd_confluence.proofs.bags.WorkTouches.{WorkTouches, SomeWork, work_at, Safe, AllSafe, safe_put}
 use Rattle.sd_confluence.proofs.image.Images.{work_of, works_of, active_of}

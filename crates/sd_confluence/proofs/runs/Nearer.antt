@@ -21,9 +21,10 @@ use Rattle.sd_confluence.proofs.settling.ClosedPools.{ClosedAreIdle, closed-sett
 use Rattle.sd_confluence.proofs.settling.ClosedKept.{closed-kept, closed-safe}
 use Rattle.sd_confluence.proofs.settling.Closings.{close, Closings, closing_route, closing-can, closing-acts}
 use Rattle.sd_confluence.proofs.settling.SettleRow.{settles}
-use Rattle.sd_confluence.proofs.settling.SettleKept.{ordered-settled, waits-settled, takes-nothing-settled}
+use Rattle.sd_work.proofs.going.OrdersKept.{ordered-kept, ordered-settled}
+use Rattle.sd_confluence.proofs.settling.SettleKept.{waits-settled, takes-nothing-settled}
 use Rattle.sd_confluence.proofs.settling.Progress.{Settled, settled-by}
-use Rattle.sd_confluence.proofs.settling.Kept.{ordered-kept, waits-kept, takes-nothing-kept}
+use Rattle.sd_confluence.proofs.settling.Kept.{waits-kept, takes-nothing-kept}
 
 abbrev pub engine : {P : Type 0} → Term P → ℕ → Engine P
 engine t n = record { work = work_of t; turns = n }

@@ -4,7 +4,6 @@ use Rattle.sd_work.specs.Memory.{Memories}
 use Rattle.sd_work.specs.Residual.{Parts, Term, leaf, list, owning, nested, ended, pool, Terms, none, also, part_at, Actives, idle, busy, is_ready}
 use Rattle.sd_work.specs.Touch.{Touch, takes, inner, Touches, SomePartTouches, SomeActiveTouches}
 use Rattle.sd_work.specs.Settle.{is_first_left, settle, settle_parts, settle_active}
-use Rattle.sd_work.specs.WellFormed.{IsOrdered, AreOrdered, AreActiveOrdered}
 use Rattle.sd_confluence.specs.Safe.{TakesNothingOutside}
 use Rattle.sd_confluence.proofs.settling.Waits.{Waits, AllWait, ActiveWait}
 
@@ -40,26 +39,6 @@ pub part-touches : {P : Type 0} (go : Bool) (cleared : List Bool) (s : Memories)
 part-touches go cleared s kind before flags number none j a h = h
 part-touches go cleared s kind before flags number (also t ts) zero a h = settle-touches (go && is_ready before flags number) (map (λ flag. is_first_left kind flags && flag) cleared) s t a h
 part-touches go cleared s kind before flags number (also t ts) (suc j) a h = part-touches go cleared s kind before _ (suc number) ts j a h
-
-mutual
-  -- a settled term has its orders
-  pub ordered-settled : {P : Type 0} (go : Bool) (cleared : List Bool) (s : Memories) (t : Term P) → IsOrdered t → IsOrdered (settle go cleared s t)
-  ordered-settled go cleared s (leaf place work) o = tt
-  ordered-settled go cleared s (list kind before parts) o = (o.0, ordered-settled_parts go cleared s kind before [] 0 parts o.1)
-  ordered-settled go cleared s (owning own part) o = ordered-settled go (true ∷ cleared) (own ∷ s) part o
-  ordered-settled go cleared s (nested body exits own state values part) o = (ordered-settled go (true ∷ cleared) (own ∷ s) part o.0, o.1)
-  ordered-settled go cleared s (ended own) o = tt
-  ordered-settled go cleared s (pool level container body active closed) o = (ordered-settled_active go cleared s active o.0, o.1)
-
-  ordered-settled_parts : {P : Type 0} (go : Bool) (cleared : List Bool) (s : Memories) (kind : Parts) (before : ℕ → ℕ → Bool) (flags : List Bool) (number : ℕ) (ts : Terms P) →
-      AreOrdered ts → AreOrdered (settle_parts go cleared s kind before flags number ts)
-  ordered-settled_parts go cleared s kind before flags number none o = tt
-  ordered-settled_parts go cleared s kind before flags number (also t ts) o =
-      (ordered-settled (go && is_ready before flags number) (map (λ flag. is_first_left kind flags && flag) cleared) s t o.0, ordered-settled_parts go cleared s kind before _ (suc number) ts o.1)
-
-  ordered-settled_active : {P : Type 0} (go : Bool) (cleared : List Bool) (s : Memories) (ts : Actives P) → AreActiveOrdered ts → AreActiveOrdered (settle_active go cleared s ts)
-  ordered-settled_active go cleared s idle o = tt
-  ordered-settled_active go cleared s (busy v t ts) o = (ordered-settled go cleared s t o.0, ordered-settled_active go cleared s ts o.1)
 
 mutual
   -- a settled term waits

@@ -8,12 +8,11 @@ use Rattle.sd_work.specs.Moves.{Path}
 use Rattle.sd_work.specs.Fire.{owned, and_last, take_move, fire, fire_active}
 use Rattle.sd_work.specs.Settle.{settle_active, settled}
 use Rattle.sd_work.specs.Step.{Machine, Outcome, Done, moved, step}
-use Rattle.sd_work.specs.Touch.{Touch, takes, Touches, SomeActiveTouches}
+use Rattle.sd_work.specs.Touch.{Touch, takes, Touches, SomeActiveTouches, PoolTouches}
 use Rattle.sd_work.proofs.Leaving.{Leaves}
 use Rattle.sd_work.specs.Run.{chosen}
 use Rattle.std.specs.Ordering.{int_eq}
 use Rattle.sd_confluence.specs.Alike.{how_often}
-use Rattle.sd_confluence.specs.Safe.{PoolTouches}
 use Rattle.sd_confluence.specs.Event.{Event, pushed_if, taken_if, event_of, event_of_move, values_taken}
 use Rattle.sd_confluence.proofs.bags.Works.{Works, no_works, and_work}
 use Rattle.sd_confluence.proofs.image.Images.{work_of, active_of}

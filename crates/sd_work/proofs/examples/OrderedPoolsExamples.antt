@@ -23,7 +23,7 @@ takes_from_it = inl refl
 
 -- ---- the item that feeds is before the pool
 
-abbrev in_order : Term ℕ
+abbrev pub in_order : Term ℕ
 in_order = graph (then feeds writes) (memory (pos 0) [])
 
 never_unordered : (i j : ℕ) → i < j → in_turn i j ≡ false → ⊥
@@ -102,7 +102,7 @@ points_are_ordered = ((passed_on_in_order (pos 1), (passed_on_in_order (pos 2), 
 
 -- ---- a pool over a stream of a memory that is not there is never finished, but from left to right it is passed
 
-abbrev nowhere : Term ℕ
+abbrev pub nowhere : Term ℕ
 nowhere = graph (then (pool 5 1 (λ value. sets 1 (cell 0 0 0) value) idle false) (sets 2 (cell 0 0 0) (pos 5))) (memory (pos 0) [])
 
 no_stream_is_no_order : HasOrderedPools 0 nowhere → ⊥

@@ -27,7 +27,7 @@ more fs (also t ts) = more (fs ++ true ∷ []) ts
 
 -- ---- flags that all stand
 
-all_more : (fs : List Bool) → all_true fs ≡ true → all_true (fs ++ true ∷ []) ≡ true
+pub all_more : (fs : List Bool) → all_true fs ≡ true → all_true (fs ++ true ∷ []) ≡ true
 all_more [] h = refl
 all_more (f ∷ fs) h = let e = both f (all_true fs) h in both_true f _ e.0 (all_more fs e.1)
 
@@ -35,16 +35,16 @@ more_true : {P : Type 0} (fs : List Bool) (pre : Terms P) → all_true fs ≡ tr
 more_true fs none h = h
 more_true fs (also t pre) h = more_true (fs ++ true ∷ []) pre (all_more fs h)
 
-ready_all : (before : ℕ → ℕ → Bool) (j : ℕ) (fs : List Bool) (n : ℕ) → all_true fs ≡ true → ready_from before j fs n ≡ true
+pub ready_all : (before : ℕ → ℕ → Bool) (j : ℕ) (fs : List Bool) (n : ℕ) → all_true fs ≡ true → ready_from before j fs n ≡ true
 ready_all before j [] n h = refl
 ready_all before j (true ∷ fs) n h = ready_all before (suc j) fs n h
 ready_all before j (false ∷ fs) n h = cc
 
-first_all : (kind : Parts) (fs : List Bool) → all_true fs ≡ true → is_first_left kind fs ≡ true
+pub first_all : (kind : Parts) (fs : List Bool) → all_true fs ≡ true → is_first_left kind fs ≡ true
 first_all Items fs h = refl
 first_all Points fs h = h
 
-map_true : (fs : List Bool) → map (λ flag. true && flag) fs ≡ fs
+pub map_true : (fs : List Bool) → map (λ flag. true && flag) fs ≡ fs
 map_true [] = refl
 map_true (f ∷ fs) = ap (λ gs. f ∷ gs) (map_true fs)
 

@@ -66,7 +66,7 @@ active_fire : {P : Type 0} (a : Actives P) (v : ℤ) (t : Term P) (p : Path) (s 
 active_fire idle v t p s = refl
 active_fire (busy w q a) v t p s = ap (map_move (busy w q)) (active_fire a v t p s) ∙ map_twice (busy w q) (λ x. ◌⊞◌ a (busy v x idle)) (fire t p s)
 
-clear_at : (l : ℕ) (s : Memories) → l < length s → slice_index_or (clear s) l false ≡ true
+pub clear_at : (l : ℕ) (s : Memories) → l < length s → slice_index_or (clear s) l false ≡ true
 clear_at l [] h = let no : ⊥ = omega arith in elim no [ ]
 clear_at zero (m ∷ s) h = refl
 clear_at (suc l) (m ∷ s) h = clear_at l s (omega arith)
