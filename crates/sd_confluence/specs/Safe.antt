@@ -1,5 +1,5 @@
 -- Safe work: what may go on side by side never conflicts.
-use Rattle.std.specs.Prelude.{◌≡◌, ◌⊎◌, ◌<◌, ℕ, ℤ, [], true, false, Bool, ⊤}
+use Rattle.std.specs.Prelude.{◌≡◌, ◌<◌, ℕ, ℤ, [], true, false, Bool, ⊤}
 use Rattle.sd_work.specs.Exit.{Values}
 use Rattle.sd_work.specs.Residual.{Parts, Points, Term, leaf, list, owning, nested, ended, pool, Terms, none, also, part_at, Actives, idle, busy, begun, none_active}
 use Rattle.sd_work.specs.WellFormed.{IsOrdered}
