@@ -1,8 +1,8 @@
 //! Element values: 64-bit two's complement numbers.
 //!
 //! Sum, difference, product and quotient are the exact ones, taken modulo 2^64 as signed
-//! numbers (`specs/Wrapped.antt`); division rounds down and refuses a divisor of 0 alone
-//! (`specs/Floor.antt`). A resolution makes one value of an old and a new one
+//! numbers (`specs/Wrapped.antt`), and so is a wider number; division rounds down and refuses a
+//! divisor of 0 alone (`specs/Floor.antt`). A resolution makes one value of an old and a new one
 //! (`specs/Resolution.antt`); by `laws`, many values give the same in every order, but by the
 //! last one, and through partial results. Nothing here takes memory or faults.
 #![tactic(auto)]
