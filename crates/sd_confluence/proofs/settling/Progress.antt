@@ -1,6 +1,7 @@
 -- A settled term has a move wherever its image has one, and settling leaves a settled term.
 use Rattle.std.proofs.Common.{◌≡◌, ℕ, zero, suc, ◌+◌, ◌<◌, List, [], ◌∷◌, ◌++◌, map, length, Some, ℤ, Bool, true, false, cond, not, ◌&&◌, ◌||◌, refl, sym, ◌∙◌, ap, subst, arith, inl, inr, slice_get, slice_index_or}
 use Rattle.std.specs.Bool.{⊤}
+use Rattle.std.proofs.lemmas.List.{append_assoc}
 use Rattle.sd_work.specs.Memory.{Memories, waiting}
 use Rattle.sd_work.specs.Residual.{Parts, Points, Term, leaf, list, owning, nested, ended, pool, Terms, none, also, part_at, Actives, idle, busy, finished, none_active, flags_of, is_ready, ready_from}
 use Rattle.sd_work.specs.Moves.{Path}
@@ -122,10 +123,6 @@ ready_front before j (b ∷ bs) cs k e =
     let h = both (b || not (before j k)) (ready_from before (suc j) (bs ++ cs) k) e in
     let r = ready_front before (suc j) bs cs k h.1 in λ i. h.0 i && r i
 
-regroup : (bs : List Bool) (b : Bool) (cs : List Bool) → bs ++ b ∷ cs ≡ (bs ++ b ∷ []) ++ cs
-regroup [] b cs = refl
-regroup (c ∷ bs) b cs = ap (λ ds. c ∷ ds) (regroup bs b cs)
-
 zero_plus : (j : ℕ) → j ≡ 0 + j
 zero_plus j = omega arith
 
@@ -175,7 +172,7 @@ mutual
             let r' : is_ready before bs k ≡ true = ready_front before 0 bs (finished x ∷ flags_of (settle_parts true cleared s kind before (bs ++ finished x ∷ []) (suc k) ts)) k (subst (λ cs. is_ready before cs k ≡ true) e r) in
             subst (λ b. Settled (settle b (map (λ flag. is_first_left kind bs && flag) cleared) s t) s) (sym r') (here r')),
         settled_from cleared s kind before all (bs ++ finished x ∷ []) (suc k) ts (longer bs (finished x) ∙ ap suc n)
-            (e ∙ regroup bs (finished x) (flags_of (settle_parts true cleared s kind before (bs ++ finished x ∷ []) (suc k) ts))) w.1
+            (e ∙ sym (append_assoc bs (finished x ∷ []) (flags_of (settle_parts true cleared s kind before (bs ++ finished x ∷ []) (suc k) ts)))) w.1
             (λ p i j a b. o p i (suc j) (omega (arith, a)) (ap (before i) (plus_suc k j) ∙ b)) (λ l d h. c l d (inr h)),
       )
 

@@ -1,6 +1,7 @@
 -- Settled work without a move is finished, where its lists have orders and the memories of its pools are there. The first
 -- part of a list that is not finished is settled as if it stood alone, so it has a move.
 use Rattle.std.proofs.Common.{◌≡◌, ◌≤◌, ℕ, suc, ◌+◌, ℤ, List, [], ◌∷◌, ◌++◌, map, length, Bool, true, false, cond, not, ◌&&◌, ◌||◌, refl, sym, ◌∙◌, ap, arith, slice_index_or}
+use Rattle.std.proofs.lemmas.List.{append_assoc}
 use Rattle.sd_work.specs.Memory.{Memories, waiting}
 use Rattle.sd_work.specs.Leaf.{is_done}
 use Rattle.sd_work.specs.Residual.{Parts, Term, leaf, list, owning, nested, ended, pool, Terms, none, also, Actives, idle, busy, finished, all_finished, none_active, flags_of, is_ready, ready_from, IsOrder}
@@ -59,10 +60,6 @@ ready_first before o j k [] flags f up = ready_behind before o j k flags (omega 
 ready_first before o j k (true ∷ fs) flags f up = ready_first before o (suc j) k fs flags f (omega (arith, up))
 ready_first before o j k (false ∷ fs) flags f up = cc
 
-regroup : (bs : List Bool) (b : Bool) (cs : List Bool) → bs ++ b ∷ cs ≡ (bs ++ b ∷ []) ++ cs
-regroup [] b cs = refl
-regroup (c ∷ bs) b cs = ap (λ ds. c ∷ ds) (regroup bs b cs)
-
 mutual
   pub no_move-finished : {P : Type 0} (t : Term P) (s : Memories) → IsOrdered t → HasPoolMemories (length s) t → moves (front s t) s ≡ [] → finished (front s t) ≡ true
   no_move-finished (leaf place work) s o h e = none_here (is_done work) e
@@ -99,7 +96,7 @@ mutual
       let over : finished x ≡ true = ap finished alone ∙ no_move-finished t s o.0 h.0 (ap (λ y. moves y s) (sym alone) ∙ here) in
       both_true (finished x) (all_finished rest) over
       (no_move_parts kind before order all (fs ++ finished x ∷ []) (suc n) ts s (ap (λ b. all_true (fs ++ b ∷ [])) over ∙ all_more fs f)
-      (longer fs (finished x) ∙ ap suc len) (q ∙ regroup fs (finished x) (flags_of rest)) o.1 h.1 split.1)
+      (longer fs (finished x) ∙ ap suc len) (q ∙ sym (append_assoc fs (finished x ∷ []) (flags_of rest))) o.1 h.1 split.1)
 
   no_move_active : {P : Type 0} (ts : Actives P) (k : ℕ) (s : Memories) → AreActiveOrdered ts → HaveActivePoolMemories (length s) ts →
       moves_of_active k (settle_active true (clear s) s ts) s ≡ [] → none_active (settle_active true (clear s) s ts) ≡ true
