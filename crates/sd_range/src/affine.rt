@@ -2,8 +2,8 @@ ghost use Rattle.std.specs.Prelude.{◌≡◌, ◌≤◌, ◌↔◌, pos, [], �
 ghost use Rattle.std.specs.Int.{int_wrap, w128};
 
 use crate::env::Env;
-use crate::memory::NoMemory;
 use crate::terms::Terms;
+use sd_list::NoMemory;
 use std::alloc::Global;
 
 /// A constant plus coefficients times variables.

@@ -6,8 +6,8 @@ ghost use Rattle.sd_range.specs.Arithmetic.{put_before, combined, combination, a
 ghost use Rattle.sd_range.specs.Merge.{IsNext};
 
 use crate::affine::{Affine, with_term};
-use crate::memory::NoMemory;
 use crate::terms::Terms;
+use sd_list::NoMemory;
 use std::alloc::Global;
 
 /// The first term of a combination, and the terms that are left of both sides.

@@ -7,8 +7,8 @@ ghost use Rattle.sd_range.specs.Axis.{axis_of, axis_values, first_of, later_valu
 
 use crate::affine::{Affine, with_term};
 use crate::env::Env;
-use crate::memory::NoMemory;
 use crate::range::Range;
+use sd_list::NoMemory;
 use std::alloc::Global;
 
 /// The numbers of one range: `first`, `first` plus `step`, and so on up to `last`.

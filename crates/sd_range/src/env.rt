@@ -1,7 +1,6 @@
 ghost use Rattle.std.specs.Prelude.{◌≡◌, ◌↔◌, ◌<◌, length, slice_set, IfOk, IsTrue};
 
-use crate::memory::NoMemory;
-use crate::sequence::Sequence;
+use sd_list::{NoMemory, Sequence};
 use std::alloc::Global;
 
 /// The values of the variables, by their numbers.

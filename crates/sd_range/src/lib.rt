@@ -12,10 +12,8 @@ mod arithmetic;
 mod axis;
 mod env;
 mod laws;
-mod memory;
 mod points;
 mod range;
-mod sequence;
 mod stage;
 mod subset;
 mod terms;
@@ -30,9 +28,7 @@ pub use laws::{
     equal_values_make_equal_expressions, pieces_partition_the_points,
     points_are_in_lexicographic_order, tuples_choose_one_of_each, values_are_steps_up_to_each_end,
 };
-pub use memory::NoMemory;
 pub use points::Points;
 pub use range::Range;
-pub use sequence::Sequence;
 pub use subset::{Dim, Subset};
 pub use terms::Terms;

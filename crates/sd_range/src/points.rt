@@ -5,9 +5,9 @@ ghost use Rattle.sd_range.specs.Points.{tuples, first_values, opening, moved, na
 
 use crate::axis::{Axis, advance, axes_of_ranges, count_of, firsts_of, part_of, renew};
 use crate::env::Env;
-use crate::memory::NoMemory;
 use crate::range::{Range, copied};
 use crate::stage::{Stage, opening_stage};
+use sd_list::NoMemory;
 use std::alloc::Global;
 use std::marker::Model;
 

@@ -1,8 +1,7 @@
 ghost use Rattle.std.specs.Prelude.{◌≡◌, ◌↔◌, IfOk, IsTrue};
 
 use crate::affine::Affine;
-use crate::memory::NoMemory;
-use crate::sequence::Sequence;
+use sd_list::{NoMemory, Sequence};
 use std::alloc::Global;
 
 /// The values from `begin` on, `step` apart, up to the least of the ends.

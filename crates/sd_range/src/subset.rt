@@ -1,9 +1,8 @@
 ghost use Rattle.std.specs.Prelude.{◌≡◌, ◌↔◌, IfOk, IsTrue};
 
 use crate::affine::Affine;
-use crate::memory::NoMemory;
 use crate::range::Range;
-use crate::sequence::Sequence;
+use sd_list::{NoMemory, Sequence};
 use std::alloc::Global;
 
 /// One dimension of a subset: one index, or those of a range.

@@ -6,7 +6,7 @@ ghost use Rattle.sd_tool.specs.Given as given;
 ghost use Rattle.sd_tool.specs.Arrays.{given_of};
 
 use crate::source::Source;
-use sd_range::NoMemory;
+use sd_list::NoMemory;
 use serde_json::Value;
 use std::alloc::Global;
 

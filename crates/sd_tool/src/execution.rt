@@ -6,8 +6,9 @@ ghost use Rattle.sd_tool.specs.Arrays.{given_of};
 
 use crate::arrays::Arrays;
 use crate::source::Source;
+use sd_list::{NoMemory, Sequence};
 use sd_num::add;
-use sd_range::{Affine, Env, NoMemory, Points, Range, Sequence, Terms};
+use sd_range::{Affine, Env, Points, Range, Terms};
 use std::alloc::Global;
 
 /// The range of the map: from 0 to one less than the size, which is variable 0.

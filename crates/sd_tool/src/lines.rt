@@ -7,7 +7,7 @@ ghost use Rattle.sd_tool.specs.Arrays.{given_of};
 
 use crate::arrays::Arrays;
 use crate::source::Source;
-use sd_range::NoMemory;
+use sd_list::NoMemory;
 use std::alloc::Global;
 
 /// Appends the extents, joined by commas.

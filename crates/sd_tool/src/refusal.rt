@@ -4,7 +4,7 @@ ghost use Rattle.std.specs.Option.{option_map_or};
 ghost use Rattle.sd_tool.specs.Answers.{status_of, text_of};
 ghost use Rattle.sd_tool.specs.Refusal.{answer_of};
 
-use sd_range::NoMemory;
+use sd_list::NoMemory;
 use std::alloc::Global;
 
 /// Why a call does not run.

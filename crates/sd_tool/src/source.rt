@@ -8,7 +8,7 @@ ghost use Rattle.sd_tool.specs.Source.{one_map_of};
 
 use crate::names::{are_different, is_free_name};
 use crate::words::nth_word;
-use sd_range::NoMemory;
+use sd_list::NoMemory;
 use std::alloc::Global;
 
 /// The numbers that may be added are below this.

@@ -2,7 +2,7 @@ ghost use Rattle.std.specs.Prelude.{◌∷◌, [], ◌≡◌, pos, negsuc, IfOk,
 ghost use Rattle.std.specs.Int.{w128};
 
 use super::*;
-use crate::sequence::Sequence;
+use sd_list::Sequence;
 
 /// 1 + 2*N - 3*M, where N and M are the first two variables.
 fn sample(alloc: Global) -> Result<Affine, NoMemory>

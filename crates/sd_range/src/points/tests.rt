@@ -6,7 +6,7 @@ ghost use Rattle.sd_range.specs.Range.{IsRange, IsEvaluableRange};
 
 use super::*;
 use crate::affine::Affine;
-use crate::sequence::Sequence;
+use sd_list::Sequence;
 
 /// The variable plus a constant.
 fn shifted(alloc: Global, variable: u32, constant: i128) -> Affine

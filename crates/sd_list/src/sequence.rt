@@ -1,10 +1,13 @@
-ghost use Rattle.std.specs.Prelude.{◌≡◌, ◌↔◌, ◌<◌, [], length, slice_set, IsTrue};
+ghost use Rattle.std.specs.Prelude.{◌≡◌, ◌↔◌, ◌<◌, ◌++◌, ◌∷◌, [], length, slice_set, IsTrue, OnOk, OnErr};
+ghost use Rattle.std.specs.Borrow.{sem};
 
+use crate::memory::NoMemory;
+use std::alloc::Global;
 use std::marker::Model;
 
 /// A list that contracts compare by its items alone.
 ///
-/// It is made from a `Vec` and given back as one; neither takes memory.
+/// It may be made from a `Vec` and given back as one; neither takes memory.
 #[derive(Drop)]
 pub struct Sequence<T> {
     items: Vec<T>,
@@ -19,6 +22,17 @@ impl<T> Model for Sequence<T> {
 }
 
 impl<T> Sequence<T> {
+    ghost use Rattle.sd_list.specs.Lending.{LendsItems};
+
+    /// No items. Takes no memory: the allocator is for items to come.
+    pub fn new(alloc: Global) -> Sequence<T>
+        ensures { result ≡ [] }
+    {
+        Sequence {
+            items: Vec::new(alloc),
+        }
+    }
+
     pub fn len(&self) -> usize
         ensures { result ≡ length self.now }
     {
@@ -35,6 +49,25 @@ impl<T> Sequence<T> {
         ensures { result.now ≡ self.now }
     {
         &self.items
+    }
+
+    /// The items, to be changed in their places.
+    pub fn as_mut_slice(&mut self) -> &mut [T]
+        ensures* writes_back { sem 𝓛 (LendsItems T.row self.entry result) }
+        ensures items { result.now ≡ self.old }
+    {
+        self.items.as_mut_slice()
+    }
+
+    /// Adds a value at the end. Where memory is wanting it is let go.
+    pub fn push(&mut self, value: T) -> Result<(), NoMemory>
+    where
+        T: Drop,
+        ensures ok { OnOk result (self.new ≡ self.old ++ value ∷ []) }
+        ensures err { OnErr result (self.new ≡ self.old) }
+    {
+        self.items.push(value)?;
+        Ok(())
     }
 
     /// Puts a value in the place of the item at this index.
@@ -65,3 +98,6 @@ impl<T> From<Vec<T>> for Sequence<T> {
         Sequence { items }
     }
 }
+
+#[cfg(test)]
+mod tests;
