@@ -18,7 +18,7 @@ use Rattle.sd_range.proofs.Same.{same_parts}
 
 -- a term before others adds its value
 terms_value-put_before : (variable : ℕ) (coefficient : ℤ) (terms : List (ℕ × ℤ)) (values : List ℤ) →
-    terms_value (put_before variable coefficient terms) values ≡ terms_value terms values +ℤ (coefficient *ℤ variable_value values variable)
+    terms_value values (put_before variable coefficient terms) ≡ terms_value values terms +ℤ (coefficient *ℤ variable_value values variable)
 terms_value-put_before variable coefficient terms values =
     by_zero coefficient
     (λ is. rw (put_before-zero variable coefficient terms is, is) (omega (arith, ints)))
@@ -26,49 +26,49 @@ terms_value-put_before variable coefficient terms values =
 
 -- a term more adds its value
 pub terms_value-plus_term : (terms : List (ℕ × ℤ)) (variable : ℕ) (coefficient : ℤ) (values : List ℤ) →
-    terms_value (plus_term terms variable coefficient) values ≡ terms_value terms values +ℤ (coefficient *ℤ variable_value values variable)
+    terms_value values (plus_term terms variable coefficient) ≡ terms_value values terms +ℤ (coefficient *ℤ variable_value values variable)
 terms_value-plus_term [] variable coefficient values = terms_value-put_before variable coefficient [] values
 terms_value-plus_term (term ∷ terms) variable coefficient values =
     by_order variable term.0
-    (λ is. ap (λ all. terms_value all values) (plus_term-before term terms variable coefficient is) ∙ terms_value-put_before variable coefficient (term ∷ terms) values)
-    (λ is. ap (λ all. terms_value all values) (plus_term-same term terms variable coefficient is)
+    (λ is. ap (λ all. terms_value values all) (plus_term-before term terms variable coefficient is) ∙ terms_value-put_before variable coefficient (term ∷ terms) values)
+    (λ is. ap (λ all. terms_value values all) (plus_term-same term terms variable coefficient is)
     ∙ terms_value-put_before variable (term.1 +ℤ coefficient) terms values
     ∙ rw (← is) (omega (arith, ints, *ℤ_distrib term.1 coefficient (variable_value values variable))))
-    (λ is. ap (λ all. terms_value all values) (plus_term-after term terms variable coefficient is)
+    (λ is. ap (λ all. terms_value values all) (plus_term-after term terms variable coefficient is)
     ∙ omega (arith, ints, terms_value-plus_term terms variable coefficient values))
 
 -- the value of a combination is the combination of the values
 pub terms_value-combined : (terms : List (ℕ × ℤ)) (factor : ℤ) (others : List (ℕ × ℤ)) (values : List ℤ) →
-    terms_value (combined terms factor others) values ≡ terms_value terms values +ℤ (factor *ℤ terms_value others values)
+    terms_value values (combined terms factor others) ≡ terms_value values terms +ℤ (factor *ℤ terms_value values others)
 terms_value-combined terms factor [] values = omega (arith, ints, *ℤ-zero factor)
 terms_value-combined terms factor (other ∷ others) values =
     let product = other.1 *ℤ variable_value values other.0 in
-    let later = terms_value others values in
+    let later = terms_value values others in
     terms_value-plus_term (combined terms factor others) other.0 (factor *ℤ other.1) values
     ∙ omega (arith, ints, terms_value-combined terms factor others values, *ℤ_assoc factor other.1 (variable_value values other.0), *ℤ_distrib_left factor product later)
 
 -- the value of a combination of expressions
 pub affine_value-combination : (a : Affine) (factor : ℤ) (b : Affine) (values : List ℤ) →
-    affine_value (combination a factor b) values ≡ affine_value a values +ℤ (factor *ℤ affine_value b values)
+    affine_value values (combination a factor b) ≡ affine_value values a +ℤ (factor *ℤ affine_value values b)
 affine_value-combination a factor b values =
-    omega (arith, ints, terms_value-combined a.terms factor b.terms values, *ℤ_distrib_left factor b.constant (terms_value b.terms values))
+    omega (arith, ints, terms_value-combined a.terms factor b.terms values, *ℤ_distrib_left factor b.constant (terms_value values b.terms))
 
 -- the value of a sum
-pub affine_value-sum : (a b : Affine) (values : List ℤ) → affine_value (affine_sum a b) values ≡ affine_value a values +ℤ affine_value b values
+pub affine_value-sum : (a b : Affine) (values : List ℤ) → affine_value values (affine_sum a b) ≡ affine_value values a +ℤ affine_value values b
 affine_value-sum a b values = affine_value-combination a (pos 1) b values ∙ omega (arith, ints)
 
 -- the value of a difference
-pub affine_value-difference : (a b : Affine) (values : List ℤ) → affine_value (affine_difference a b) values ≡ affine_value a values -ℤ affine_value b values
+pub affine_value-difference : (a b : Affine) (values : List ℤ) → affine_value values (affine_difference a b) ≡ affine_value values a -ℤ affine_value values b
 affine_value-difference a b values = affine_value-combination a (neg_ℤ (pos 1)) b values ∙ omega (arith, ints)
 
 -- the value of a product
-pub affine_value-product : (factor : ℤ) (a : Affine) (values : List ℤ) → affine_value (affine_product factor a) values ≡ factor *ℤ affine_value a values
+pub affine_value-product : (factor : ℤ) (a : Affine) (values : List ℤ) → affine_value values (affine_product factor a) ≡ factor *ℤ affine_value values a
 affine_value-product factor a values = affine_value-combination affine_zero factor a values ∙ omega (arith, ints)
 
 -- with a value set the terms have the value of those of other variables, and the coefficient times that value
 terms_value-set : (terms : List (ℕ × ℤ)) (variable : ℕ) (values : List ℤ) (value : ℤ) → IsNormal terms → variable < length values →
-    terms_value terms (slice_set values variable value)
-    ≡ terms_value (filter (λ term. not (nat_eq term.0 variable)) terms) values +ℤ (coefficient_of terms variable *ℤ value)
+    terms_value (slice_set values variable value) terms
+    ≡ terms_value values (filter (λ term. not (nat_eq term.0 variable)) terms) +ℤ (coefficient_of terms variable *ℤ value)
 terms_value-set [] variable values value normal known = omega (arith, ints, zero-*ℤ value)
 terms_value-set (term ∷ terms) variable values value normal known =
     by_same term.0 variable
@@ -82,10 +82,10 @@ terms_value-set (term ∷ terms) variable values value normal known =
 
 -- the value where an expression stands for a variable
 pub affine_value-substituted : (variable : ℕ) (by a : Affine) (values : List ℤ) → IsNormal a.terms → variable < length values →
-    affine_value (substituted variable by a) values ≡ affine_value a (slice_set values variable (affine_value by values))
+    affine_value values (substituted variable by a) ≡ affine_value (slice_set values variable (affine_value values by)) a
 affine_value-substituted variable by a values normal known =
     affine_value-combination (without variable a) (coefficient_of a.terms variable) by values
-    ∙ omega (arith, ints, terms_value-set a.terms variable values (affine_value by values) normal known)
+    ∙ omega (arith, ints, terms_value-set a.terms variable values (affine_value values by) normal known)
 
 -- the values under which one variable is 1 and the others are 0
 abbrev unit : ℕ → List ℤ
@@ -105,7 +105,7 @@ unit-other variable other none =
     (λ after. get_or_past (unit variable) other (pos 0) (rw (length_push (replicate variable (pos 0)) (pos 1), length-replicate variable (pos 0)) (omega arith)))
 
 -- under those values the terms have the value of the coefficient
-terms_value-unit : (terms : List (ℕ × ℤ)) (variable : ℕ) → IsNormal terms → terms_value terms (unit variable) ≡ coefficient_of terms variable
+terms_value-unit : (terms : List (ℕ × ℤ)) (variable : ℕ) → IsNormal terms → terms_value (unit variable) terms ≡ coefficient_of terms variable
 terms_value-unit [] variable normal = refl
 terms_value-unit (term ∷ terms) variable normal =
     by_same term.0 variable
@@ -116,16 +116,16 @@ terms_value-unit (term ∷ terms) variable normal =
     (λ is. rw (unit-other variable term.0 is, coefficient_of-rest term terms variable is) (omega (arith, ints, terms_value-unit terms variable normal.2)))
 
 -- without values the terms have the value 0
-terms_value-none : (terms : List (ℕ × ℤ)) → terms_value terms [] ≡ pos 0
+terms_value-none : (terms : List (ℕ × ℤ)) → terms_value [] terms ≡ pos 0
 terms_value-none [] = refl
 terms_value-none (term ∷ terms) = rw (terms_value-none terms) (omega (arith, ints, *ℤ-zero term.1))
 
 -- where all values are one the constants are
-same_constants : (a b : Affine) → ((values : List ℤ) → affine_value a values ≡ affine_value b values) → a.constant ≡ b.constant
+same_constants : (a b : Affine) → ((values : List ℤ) → affine_value values a ≡ affine_value values b) → a.constant ≡ b.constant
 same_constants a b same = omega (arith, ints, same [], terms_value-none a.terms, terms_value-none b.terms)
 
 -- where all values are one the expressions are, in normal form
-pub same_values : (a b : Affine) → IsNormal a.terms → IsNormal b.terms → ((values : List ℤ) → affine_value a values ≡ affine_value b values) → a ≡ b
+pub same_values : (a b : Affine) → IsNormal a.terms → IsNormal b.terms → ((values : List ℤ) → affine_value values a ≡ affine_value values b) → a ≡ b
 same_values a b normal normal' same =
     let constant : a.constant ≡ b.constant = same_constants a b same in
     same_parts a b constant
@@ -152,18 +152,18 @@ variable_value-resized (suc count) (value ∷ values) zero below = refl
 variable_value-resized (suc count) (value ∷ values) (suc variable) below = variable_value-resized count values variable (omega arith)
 
 -- and so do terms of such variables
-terms_value-resized : (count : ℕ) (terms : List (ℕ × ℤ)) (values : List ℤ) → AllByRecursion (λ term. term.0 < count) terms → terms_value terms (resized count values) ≡ terms_value terms values
+terms_value-resized : (count : ℕ) (terms : List (ℕ × ℤ)) (values : List ℤ) → AllByRecursion (λ term. term.0 < count) terms → terms_value (resized count values) terms ≡ terms_value values terms
 terms_value-resized count [] values known = refl
 terms_value-resized count (term ∷ terms) values known =
-    ap (λ value. (term.1 *ℤ value) +ℤ terms_value terms (resized count values)) (variable_value-resized count values term.0 known.0)
+    ap (λ value. (term.1 *ℤ value) +ℤ terms_value (resized count values) terms) (variable_value-resized count values term.0 known.0)
     ∙ ap (λ rest. (term.1 *ℤ variable_value values term.0) +ℤ rest) (terms_value-resized count terms values known.1)
 
-affine_value-resized : (count : ℕ) (a : Affine) (values : List ℤ) → All (λ term. term.0 < count) a.terms → affine_value a (resized count values) ≡ affine_value a values
+affine_value-resized : (count : ℕ) (a : Affine) (values : List ℤ) → All (λ term. term.0 < count) a.terms → affine_value (resized count values) a ≡ affine_value values a
 affine_value-resized count a values known = ap (λ rest. a.constant +ℤ rest) (terms_value-resized count a.terms values (recursion_from_All (λ term. term.0 < count) a.terms known))
 
 -- it is enough that the values are one where each variable of both has one
 pub same_known_values : (a b : Affine) (count : ℕ) → IsNormal a.terms → IsNormal b.terms → All (λ term. term.0 < count) a.terms → All (λ term. term.0 < count) b.terms →
-    ((values : List ℤ) → length values ≡ count → affine_value a values ≡ affine_value b values) → a ≡ b
+    ((values : List ℤ) → length values ≡ count → affine_value values a ≡ affine_value values b) → a ≡ b
 same_known_values a b count normal normal' known known' same =
     same_values a b normal normal'
     (λ values. sym (affine_value-resized count a values known) ∙ same (resized count values) (length-resized count values) ∙ affine_value-resized count b values known')

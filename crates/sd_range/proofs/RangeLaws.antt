@@ -63,40 +63,40 @@ stepped-has (suc k) begin last step number rises is within =
     (Contains-later begin (stepped (begin +ℤ step) last step) number (stepped-has k (begin +ℤ step) last step number rises (is ∙ steps-more k begin step) within))
 
 -- what is at most the least number is at most each
-at_most-fold : (number start : ℤ) (ends : List Affine) (values : List ℤ) → number ≤ℤ fold int_min start (map (λ other. affine_value other values) ends) →
-    (number ≤ℤ start) × AllByRecursion (λ end. number ≤ℤ affine_value end values) ends
+at_most-fold : (number start : ℤ) (ends : List Affine) (values : List ℤ) → number ≤ℤ fold int_min start (map (affine_value values) ends) →
+    (number ≤ℤ start) × AllByRecursion (λ end. number ≤ℤ affine_value values end) ends
 at_most-fold number start [] values least = (least, tt)
 at_most-fold number start (end ∷ ends) values least =
-    let others = at_most-fold number (int_min start (affine_value end values)) ends values least in
+    let others = at_most-fold number (int_min start (affine_value values end)) ends values least in
     (omega (arith, ints, clamps, others.0), (omega (arith, ints, clamps, others.0), others.1))
 
 -- what is at most each number is at most the least
-fold-at_most : (number start : ℤ) (ends : List Affine) (values : List ℤ) → number ≤ℤ start → AllByRecursion (λ end. number ≤ℤ affine_value end values) ends →
-    number ≤ℤ fold int_min start (map (λ other. affine_value other values) ends)
+fold-at_most : (number start : ℤ) (ends : List Affine) (values : List ℤ) → number ≤ℤ start → AllByRecursion (λ end. number ≤ℤ affine_value values end) ends →
+    number ≤ℤ fold int_min start (map (affine_value values) ends)
 fold-at_most number start [] values first others = first
 fold-at_most number start (end ∷ ends) values first others =
-    fold-at_most number (int_min start (affine_value end values)) ends values (omega (arith, ints, clamps, others.0)) others.1
+    fold-at_most number (int_min start (affine_value values end)) ends values (omega (arith, ints, clamps, others.0)) others.1
 
 -- a number is at most the least value of ends just where it is at most each of their values
 pub at_most_least : (number : ℤ) (ends : List Affine) (values : List ℤ) → 0 < length ends →
-    (number ≤ℤ least_value ends values) ↔ All (λ end. number ≤ℤ affine_value end values) ends
+    (number ≤ℤ least_value values ends) ↔ All (λ end. number ≤ℤ affine_value values end) ends
 at_most_least number [] values ended = absurd (omega arith)
 at_most_least number (end ∷ ends) values ended = (
-  λ least. All-from_recursion (λ other. number ≤ℤ affine_value other values) (end ∷ ends) (at_most-fold number (affine_value end values) ends values least),
+  λ least. All-from_recursion (λ other. number ≤ℤ affine_value values other) (end ∷ ends) (at_most-fold number (affine_value values end) ends values least),
   λ each.
-      let parts = recursion_from_All (λ other. number ≤ℤ affine_value other values) (end ∷ ends) each in
-      fold-at_most number (affine_value end values) ends values parts.0 parts.1,
+      let parts = recursion_from_All (λ other. number ≤ℤ affine_value values other) (end ∷ ends) each in
+      fold-at_most number (affine_value values end) ends values parts.0 parts.1,
 )
 
 -- the values of a range are its begin and each whole number of steps more, up to each end
 pub range-members : (r : Range) (values : List ℤ) (number : ℤ) → IsRange r →
-    (Contains (range_values values r) number) ↔ ((steps : ℕ) × (number ≡ affine_value r.begin values +ℤ (pos steps *ℤ r.step)) × All (λ end. number ≤ℤ affine_value end values) r.ends)
+    (Contains (range_values values r) number) ↔ ((steps : ℕ) × (number ≡ affine_value values r.begin +ℤ (pos steps *ℤ r.step)) × All (λ end. number ≤ℤ affine_value values end) r.ends)
 range-members r values number ok =
     let least = at_most_least number r.ends values ok.ended in (
       λ (k, below, at).
-          let found = number_at k (affine_value r.begin values) (least_value r.ends values) r.step number ok.rises below at in
+          let found = number_at k (affine_value values r.begin) (least_value values r.ends) r.step number ok.rises below at in
           (k, found.0, least.0 found.1),
-      λ (k, is, each). stepped-has k (affine_value r.begin values) (least_value r.ends values) r.step number ok.rises is (least.1 each),
+      λ (k, is, each). stepped-has k (affine_value values r.begin) (least_value values r.ends) r.step number ok.rises is (least.1 each),
     )
 
 -- numbers from one above a bound on are above it
@@ -116,7 +116,7 @@ counted-rises (suc count) begin step rises =
 
 -- the values of a range rise
 pub range-rises : (r : Range) (values : List ℤ) → IsRange r → AllPairs (λ a b. a <ℤ b) (range_values values r)
-range-rises r values ok = counted-rises (count_between (affine_value r.begin values) (least_value r.ends values) r.step) (affine_value r.begin values) r.step ok.rises
+range-rises r values ok = counted-rises (count_between (affine_value values r.begin) (least_value values r.ends) r.step) (affine_value values r.begin) r.step ok.rises
 
 -- the values of each range rise
 each-rises : (ranges : List Range) (values : List ℤ) → AllByRecursion IsRange ranges → AllByRecursion (AllPairs (λ a b. a <ℤ b)) (map (range_values values) ranges)

@@ -9,7 +9,7 @@ use Rattle.sd_range.specs.declared.axis.Axis.{Axis}
 
 -- the axis of a range, where the variables have these values
 abbrev pub axis_of : List ℤ → Range → Axis
-axis_of values r = record { first = affine_value r.begin values; last = least_value r.ends values; step = r.step }
+axis_of values r = record { first = affine_value values r.begin; last = least_value values r.ends; step = r.step }
 
 abbrev pub first_of : Axis → ℤ
 first_of axis = axis.first

@@ -14,13 +14,13 @@ pub record IsRange (r : Range) : Type 0 where
 
 -- the values of a range's expressions can be told
 pub record IsEvaluableRange (values : List ℤ) (r : Range) : Type 0 where
-  pub begin : IsEvaluable r.begin values
-  pub ends : All (λ end. IsEvaluable end values) r.ends
+  pub begin : IsEvaluable values r.begin
+  pub ends : All (IsEvaluable values) r.ends
 
 -- the least of the values of the ends
-abbrev pub least_value : List Affine → List ℤ → ℤ
-least_value [] values = pos 0
-least_value (end ∷ ends) values = fold int_min (affine_value end values) (map (λ other. affine_value other values) ends)
+abbrev pub least_value : List ℤ → List Affine → ℤ
+least_value values [] = pos 0
+least_value values (end ∷ ends) = fold int_min (affine_value values end) (map (affine_value values) ends)
 
 -- how many numbers there are from begin to last, a step apart
 abbrev pub count_between : ℤ → ℤ → ℤ → ℕ
@@ -37,4 +37,4 @@ stepped begin last step = counted_from begin step (count_between begin last step
 
 -- the values of a range: from its begin up to the least of its ends
 abbrev pub range_values : List ℤ → Range → List ℤ
-range_values values r = stepped (affine_value r.begin values) (least_value r.ends values) r.step
+range_values values r = stepped (affine_value values r.begin) (least_value values r.ends) r.step

@@ -9,7 +9,7 @@ use Rattle.sd_range.specs.declared.subset.Subset.{Subset}
 
 -- the indices of one dimension, where the variables have these values: one, or those of a range
 abbrev pub dim_values : List ℤ → Dim → List ℤ
-dim_values values (Index at) = affine_value at values ∷ []
+dim_values values (Index at) = affine_value values at ∷ []
 dim_values values (Span r) = range_values values r
 
 -- a dimension of one index, or whose range has one to four ends and a step of at least 1

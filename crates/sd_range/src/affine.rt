@@ -66,8 +66,8 @@ impl Affine {
 
     /// The value where the variables have these values. Takes no memory.
     pub fn value(&self, env: &Env) -> i128
-        requires { IsEvaluable self.now env.now.values }
-        ensures { result ≡ affine_value self.now env.now.values }
+        requires { IsEvaluable env.now.values self.now }
+        ensures { result ≡ affine_value env.now.values self.now }
     {
         let values = env.values.as_slice();
         let mut sum = self.constant;

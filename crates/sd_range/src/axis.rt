@@ -22,8 +22,8 @@ pub(crate) struct Axis {
 /// The least of the ends of a range.
 fn least_end(ends: &[Affine], env: &Env) -> i128
     requires ended { 0 < length ends.now }
-    requires evaluable { All (λ end. IsEvaluable end env.now.values) ends.now }
-    ensures { result ≡ least_value ends.now env.now.values }
+    requires evaluable { All (IsEvaluable env.now.values) ends.now }
+    ensures { result ≡ least_value env.now.values ends.now }
 {
     let Some((first, others)) = ends.split_first() else {
         unreachable!()

@@ -10,8 +10,8 @@ pub fn values_are_steps_up_to_each_end()
     ensures { (r : Range) (values : List ℤ) (number : ℤ)
         → IsRange r
         → (Contains (range_values values r) number)
-        ↔ ((steps : ℕ) × (number ≡ affine_value r.begin values +ℤ (pos steps *ℤ r.step))
-        × All (λ end. number ≤ℤ affine_value end values) r.ends) }
+        ↔ ((steps : ℕ) × (number ≡ affine_value values r.begin +ℤ (pos steps *ℤ r.step))
+        × All (λ end. number ≤ℤ affine_value values end) r.ends) }
 {}
 
 /// A tuple has one member of each list, and each such choice is a tuple.

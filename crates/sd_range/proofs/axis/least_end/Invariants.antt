@@ -7,6 +7,6 @@ use Rattle.sd_range.proofs.axis.least_end.Given as goal
 -- the least of the first end and those so far
 abbrev pub invariant-loop-end : goal.invariant-loop-end
 invariant-loop-end l = record {
-  evaluable : All (λ end. IsEvaluable end l.env.values) l.others;
-  least : l.least ≡ fold int_min l.initial.least (map (λ end. affine_value end l.env.values) (take l.end-index l.others));
+  evaluable : All (IsEvaluable l.env.values) l.others;
+  least : l.least ≡ fold int_min l.initial.least (map (affine_value l.env.values) (take l.end-index l.others));
 }

@@ -15,7 +15,7 @@ loop-variable-preserved c =
     let result_fits : FitsSigned w128 c.with_term-sum.result = search rules in
     let sum = simp to_z-of_z at c.with_term-sum.ensures in
     let within : i < length c.args.self.now.terms = rw c.as_slice-variable-items.ensures.terms at c.loop-variable-test.true in
-    let others = terms_value (drop (i + 1) c.args.self.now.terms) c.args.env.now.values in
+    let others = terms_value c.args.env.now.values (drop (i + 1) c.args.self.now.terms) in
     ap (λ r. int_wrap w128 (r +ℤ others)) (to_z-of_z w128 c.with_term-sum.result result_fits)
     ∙ ap (λ r. int_wrap w128 (r +ℤ others)) sum
     ∙ rw (c.as_slice-variable-items.ensures.terms, c.as_slice-values.ensures)
