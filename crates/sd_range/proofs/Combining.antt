@@ -1,5 +1,5 @@
 -- The first term of a combination, and the combination of what is left.
-use Rattle.std.proofs.Common.{◌≡◌, ℕ, ℤ, pos, ◌+ℤ◌, ◌*ℤ◌, List, [], ◌∷◌, ◌++◌, length, drop, refl, ap, sym, ◌∙◌, subst, rules, FitsSigned}
+use Rattle.std.proofs.Common.{◌≡◌, ℕ, ℤ, pos, ◌+ℤ◌, ◌*ℤ◌, List, [], ◌∷◌, ◌++◌, ◌≤◌, length, length-append, arith, drop, refl, ap, sym, ◌∙◌, subst, rules, FitsSigned}
 use Rattle.std.specs.Int.{int_wrap, w128}
 use Rattle.std.specs.List.{All}
 use Rattle.std.proofs.lemmas.Int.{int_wrap_fits}
@@ -86,3 +86,11 @@ pub normal-next : (terms left : List (ℕ × ℤ)) (factor : ℤ) (right whole :
 normal-next terms left factor right whole next split fits is normal =
     normal-front (terms ++ put_before next.variable next.coefficient []) (combined next.left.now factor next.right.now)
     (rw (combined-next terms left factor right whole next split fits is) normal)
+
+-- the terms so far and the next one are no more than all
+pub short-next : (terms left : List (ℕ × ℤ)) (factor : ℤ) (right whole : List (ℕ × ℤ)) (next : Next) → terms ++ combined left factor right ≡ whole → All (λ term. FitsSigned w128 term.1) whole →
+    IsNext left factor right next → length (terms ++ put_before next.variable next.coefficient []) ≤ length whole
+short-next terms left factor right whole next split fits is =
+    let first = terms ++ put_before next.variable next.coefficient [] in
+    let rest = combined next.left.now factor next.right.now in
+    omega (arith, ap length (combined-next terms left factor right whole next split fits is), length-append first rest)

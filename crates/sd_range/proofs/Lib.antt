@@ -4,6 +4,8 @@ pub mod Normal
 pub mod Combining
 pub mod Same
 pub mod Coefficients
+pub mod Weights
+pub mod Variables
 pub mod AffineLaws
 pub mod Stepped
 pub mod Parts

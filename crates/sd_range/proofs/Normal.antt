@@ -1,10 +1,11 @@
 -- The normal form of terms, and what keeps it.
-use Rattle.std.proofs.Common.{◌≡◌, ◌≢◌, inl, inr, ℕ, ◌<◌, ℤ, pos, ◌+ℤ◌, ◌*ℤ◌, List, [], ◌∷◌, ◌++◌, Bool, false, take, drop, refl, sym, subst, arith}
+use Rattle.std.proofs.Common.{◌≡◌, ◌≢◌, inl, inr, ℕ, ◌<◌, ℤ, pos, ◌+ℤ◌, ◌*ℤ◌, ◌≤◌, List, [], ◌∷◌, ◌++◌, Bool, false, length, take, drop, refl, ap, sym, ◌∙◌, subst, arith}
 use Rattle.std.specs.Ordering.{int_eq}
 use Rattle.std.specs.List.{filter}
 use Rattle.std.proofs.lemmas.Bool.{cases_order, cases_eq, cases_Bool, lt-ltb, le-ltb, eq-eqb, ne_eqb}
 use Rattle.std.proofs.lemmas.Bool.Decides.{Decides-int_eq, not_from_Decides}
-use Rattle.std.proofs.lemmas.List.{take-append-drop}
+use Rattle.std.proofs.lemmas.List.{length-append, take-append-drop}
+use Rattle.std.proofs.lemmas.List.Elements.{filter-append}
 use Rattle.sd_range.specs.Terms.{IsBelow, IsNormal}
 use Rattle.sd_range.specs.Arithmetic.{put_before, plus_term, combined}
 
@@ -136,3 +137,10 @@ normal-filter keeps (term ∷ terms) normal = elim (cases_Bool (keeps term)) [
 -- the first terms of normal ones are normal
 pub normal-take : (terms : List (ℕ × ℤ)) (count : ℕ) → IsNormal terms → IsNormal (take count terms)
 normal-take terms count normal = normal-front (take count terms) (drop count terms) (rw (take-append-drop count terms) normal)
+
+-- of the first terms no more are kept than of all
+pub short-filter : (keeps : ℕ × ℤ → Bool) (terms : List (ℕ × ℤ)) (count : ℕ) → length (filter keeps (take count terms)) ≤ length (filter keeps terms)
+short-filter keeps terms count =
+    let parts : filter keeps (take count terms) ++ filter keeps (drop count terms) ≡ filter keeps terms =
+    sym (filter-append keeps (take count terms) (drop count terms)) ∙ ap (filter keeps) (take-append-drop count terms) in
+    omega (arith, ap length parts, length-append (filter keeps (take count terms)) (filter keeps (drop count terms)))

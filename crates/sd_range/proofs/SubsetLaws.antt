@@ -1,14 +1,17 @@
 -- What the elements of a subset are, and the indices inside a container.
-use Rattle.std.proofs.Common.{◌≡◌, ◌↔◌, inl, inr, zero, suc, ℕ, ℤ, pos, ◌+ℤ◌, ◌<ℤ◌, ◌≤ℤ◌, List, [], ◌∷◌, length, map, IsTrue, Bool, true, false, ◌&&◌, int_le, int_lt, refl, ap, ◌∙◌, subst, arith}
+use Rattle.std.proofs.Common.{◌≡◌, ◌↔◌, inl, inr, zero, suc, ℕ, ℤ, pos, ◌+◌, ◌/◌, ◌+ℤ◌, ◌<ℤ◌, ◌≤ℤ◌, List, [], ◌∷◌, length, map, IsTrue, Bool, true, false, ◌&&◌, int_le, int_lt, ◌-ℤ◌, unsigned_abs, refl, ap, sym, ◌∙◌, subst, arith}
 use Rattle.std.specs.List.{All, AllByRecursion, AllPairs, AllZip, Contains}
 use Rattle.std.proofs.lemmas.Int.{ints, by_lt_z}
 use Rattle.std.proofs.lemmas.Simd.{map-map}
 use Rattle.sd_range.specs.Points.{tuples, product, Precedes}
-use Rattle.sd_range.specs.Range.{counted_from}
+use Rattle.sd_range.specs.Affine.{affine_value}
+use Rattle.sd_range.specs.Range.{counted_from, stepped, range_values}
 use Rattle.sd_range.specs.Subset.{IsDim, dim_values, inside, whole}
+use Rattle.sd_range.specs.declared.affine.Affine.{Affine}
 use Rattle.sd_range.specs.declared.subset.Dim.{Dim}
 use Rattle.sd_range.specs.declared.subset.Dim.TheVariants.{Index, Span}
 use Rattle.std.proofs.lemmas.List.Elements.{recursion_from_All}
+use Rattle.sd_range.proofs.Stepped.{count-filled}
 use Rattle.sd_range.proofs.RangeLaws.{range-rises, counted-rises}
 use Rattle.sd_range.proofs.Members.{Contains-nil, Contains-first, Contains-later, Contains-cases, AllZip-map, AllZip-from_map, AllZip-weaker}
 use Rattle.sd_range.proofs.TupleLaws.{one_of_each, each_choice, length-tuples, tuples-in_order}
@@ -129,3 +132,13 @@ extents-rise (extent ∷ extents) = (counted-rises extent (pos 0) (pos 1) (omega
 -- all indices come in row order
 pub whole-in_order : (extents : List ℕ) → AllPairs Precedes (whole extents)
 whole-in_order extents = tuples-in_order (map (counted_from (pos 0) (pos 1)) extents) (extents-rise extents)
+
+-- from a number to itself there is that number alone
+stepped-one : (number : ℤ) → stepped number number (pos 1) ≡ number ∷ []
+stepped-one number =
+    let no_gap : unsigned_abs (number -ℤ number) ≡ 0 = omega (arith, ints) in
+    ap (counted_from number (pos 1)) (count-filled number number (pos 1) (omega (arith, ints)) ∙ ap (λ gap. gap / 1 + 1) no_gap)
+
+-- an index has the value of the range from it to itself
+pub index-range : (at : Affine) (values : List ℤ) → dim_values values (Index at) ≡ range_values values (record { begin = at; ends = at ∷ []; step = pos 1 })
+index-range at values = sym (stepped-one (affine_value values at))

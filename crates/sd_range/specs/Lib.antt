@@ -1,6 +1,8 @@
 pub mod Terms
 pub mod Affine
 pub mod Arithmetic
+pub mod Weight
+pub mod Variables
 pub mod Merge
 pub mod Range
 pub mod Points

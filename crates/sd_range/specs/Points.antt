@@ -19,6 +19,10 @@ Precedes [] later = ⊥
 Precedes (number ∷ point) [] = ⊥
 Precedes (number ∷ point) (other ∷ later) = (number <ℤ other) ⊎ ((number ≡ other) × Precedes point later)
 
+-- the ranges of parameters, each of which has the variable that takes its values
+abbrev pub ranges_of : List (ℕ × Range) → List Range
+ranges_of parameters = map (λ parameter. parameter.1) parameters
+
 -- the values of each range, where the variables have these values
 abbrev pub values_of_ranges : List Range → List ℤ → List (List ℤ)
 values_of_ranges ranges values = map (range_values values) ranges

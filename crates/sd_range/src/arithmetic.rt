@@ -1,4 +1,4 @@
-ghost use Rattle.std.specs.Prelude.{◌≡◌, ◌<◌, ◌+◌, ◌++◌, [], ◌∷◌, length, IfOk, OnOk, MatchOption, FitsSigned};
+ghost use Rattle.std.specs.Prelude.{◌≡◌, ◌<◌, ◌+◌, ◌++◌, [], ◌∷◌, ◌≤◌, length, IfOk, IsOk, OnOk, MatchOption, FitsSigned};
 ghost use Rattle.std.specs.Int.{w128};
 ghost use Rattle.std.specs.List.{All};
 ghost use Rattle.sd_range.specs.Terms.{IsNormal};
@@ -59,7 +59,8 @@ fn next_of<'a>(left: &'a [(u32, i128)], factor: i128, right: &'a [(u32, i128)]) 
 /// Adds a term of a higher variable, unless its coefficient is zero.
 fn put(terms: &mut Terms, variable: u32, coefficient: i128) -> Result<(), NoMemory>
     requires { IsNormal (terms.old ++ put_before variable coefficient []) }
-    ensures { OnOk result (terms.new ≡ terms.old ++ put_before variable coefficient []) }
+    ensures ok { OnOk result (terms.new ≡ terms.old ++ put_before variable coefficient []) }
+    ensures few { length (terms.old ++ put_before variable coefficient []) ≤ 4 → IsOk result }
 {
     if coefficient != 0 {
         terms.push(variable, coefficient)?;
@@ -77,7 +78,8 @@ fn combined_terms(
     requires left { IsNormal left.now }
     requires right { IsNormal right.now }
     requires fits { All (λ term. FitsSigned w128 term.1) (combined left.now factor right.now) }
-    ensures { IfOk result (λ terms. terms ≡ combined left.now factor right.now) }
+    ensures ok { IfOk result (λ terms. terms ≡ combined left.now factor right.now) }
+    ensures few { length (combined left.now factor right.now) ≤ 4 → IsOk result }
 {
     let mut terms = Terms::new(alloc);
     let mut left_rest = left;
@@ -93,7 +95,8 @@ fn combined_terms(
 /// The expression, and the other so many times.
 fn combination_of(alloc: Global, a: &Affine, factor: i128, b: &Affine) -> Result<Affine, NoMemory>
     requires { IsRepresentable (combination a.now factor b.now) }
-    ensures { IfOk result (λ all. all ≡ combination a.now factor b.now) }
+    ensures ok { IfOk result (λ all. all ≡ combination a.now factor b.now) }
+    ensures few { length (combination a.now factor b.now).terms ≤ 4 → IsOk result }
 {
     Ok(Affine {
         constant: with_term(a.constant, factor, b.constant),
@@ -104,7 +107,8 @@ fn combination_of(alloc: Global, a: &Affine, factor: i128, b: &Affine) -> Result
 /// Adds a term of a higher variable, unless it is a term of this one.
 fn put_other(terms: &mut Terms, term: (u32, i128), variable: u32) -> Result<(), NoMemory>
     requires { IsNormal (terms.old ++ others_of variable (term ∷ [])) }
-    ensures { OnOk result (terms.new ≡ terms.old ++ others_of variable (term ∷ [])) }
+    ensures ok { OnOk result (terms.new ≡ terms.old ++ others_of variable (term ∷ [])) }
+    ensures few { length (terms.old ++ others_of variable (term ∷ [])) ≤ 4 → IsOk result }
 {
     if term.0 != variable {
         terms.push(term.0, term.1)?;
@@ -114,7 +118,8 @@ fn put_other(terms: &mut Terms, term: (u32, i128), variable: u32) -> Result<(), 
 
 /// The expression less its term of the variable.
 fn less_variable(alloc: Global, a: &Affine, variable: u32) -> Result<Affine, NoMemory>
-    ensures { IfOk result (λ rest. rest ≡ without variable a.now) }
+    ensures ok { IfOk result (λ rest. rest ≡ without variable a.now) }
+    ensures few { length (without variable a.now).terms ≤ 4 → IsOk result }
 {
     let mut terms = Terms::new(alloc);
     for term in a.terms.as_slice() {
@@ -126,12 +131,14 @@ fn less_variable(alloc: Global, a: &Affine, variable: u32) -> Result<Affine, NoM
     })
 }
 
-/// Sums, differences, products and substitution. Each takes time linear in the terms of both.
+/// Sums, differences, products and substitution. Each takes time linear in the terms of both, and
+/// memory only where it makes more than four terms.
 impl Affine {
     /// The sum of both.
     pub fn plus(&self, alloc: Global, other: &Affine) -> Result<Affine, NoMemory>
         requires { IsRepresentable (affine_sum self.now other.now) }
-        ensures { IfOk result (λ sum. sum ≡ affine_sum self.now other.now) }
+        ensures ok { IfOk result (λ sum. sum ≡ affine_sum self.now other.now) }
+        ensures few { length (affine_sum self.now other.now).terms ≤ 4 → IsOk result }
     {
         combination_of(alloc, self, 1, other)
     }
@@ -139,7 +146,8 @@ impl Affine {
     /// This one less the other.
     pub fn minus(&self, alloc: Global, other: &Affine) -> Result<Affine, NoMemory>
         requires { IsRepresentable (affine_difference self.now other.now) }
-        ensures { IfOk result (λ difference. difference ≡ affine_difference self.now other.now) }
+        ensures ok { IfOk result (λ difference. difference ≡ affine_difference self.now other.now) }
+        ensures few { length (affine_difference self.now other.now).terms ≤ 4 → IsOk result }
     {
         combination_of(alloc, self, -1, other)
     }
@@ -147,7 +155,8 @@ impl Affine {
     /// The product with a number.
     pub fn times(&self, alloc: Global, factor: i128) -> Result<Affine, NoMemory>
         requires { IsRepresentable (affine_product factor self.now) }
-        ensures { IfOk result (λ product. product ≡ affine_product factor self.now) }
+        ensures ok { IfOk result (λ product. product ≡ affine_product factor self.now) }
+        ensures few { length (affine_product factor self.now).terms ≤ 4 → IsOk result }
     {
         combination_of(alloc, &Affine::constant(alloc, 0), factor, self)
     }
@@ -155,7 +164,8 @@ impl Affine {
     /// The expression with another in the place of a variable.
     pub fn substituted(&self, alloc: Global, variable: u32, by: &Affine) -> Result<Affine, NoMemory>
         requires { IsRepresentable (substituted variable by.now self.now) }
-        ensures { IfOk result (λ a. a ≡ substituted variable by.now self.now) }
+        ensures ok { IfOk result (λ a. a ≡ substituted variable by.now self.now) }
+        ensures few { length (without variable self.now).terms ≤ 4 → length (substituted variable by.now self.now).terms ≤ 4 → IsOk result }
     {
         let others = less_variable(alloc, self, variable)?;
         combination_of(alloc, &others, self.terms.coefficient(variable), by)

@@ -1,11 +1,11 @@
 ghost use Rattle.std.specs.Prelude.{◌≡◌, ◌≤◌, ◌+◌, ◌-◌, ◌^◌, min, length, Some, None, IsSome, is_some, IfOk};
 ghost use Rattle.std.specs.List.{All};
 ghost use Rattle.sd_range.specs.Range.{IsRange, IsEvaluableRange};
-ghost use Rattle.sd_range.specs.Points.{tuples, first_values, opening, moved, narrowed};
+ghost use Rattle.sd_range.specs.Points.{tuples, ranges_of, first_values, opening, moved, narrowed};
 
 use crate::axis::{Axis, advance, axes_of_ranges, count_of, firsts_of, part_of, renew};
 use crate::env::Env;
-use crate::range::{Range, copied};
+use crate::range::{Range, copied, ranges_copied};
 use crate::stage::{Stage, opening_stage};
 use sd_list::NoMemory;
 use std::alloc::Global;
@@ -15,7 +15,8 @@ use std::marker::Model;
 /// fastest.
 ///
 /// It stands before the first point at first, and `next` leads from point to point. With no
-/// range at all there is one point, which has no number. No call but `new` takes memory.
+/// range at all there is one point, which has no number. No call but `new` and
+/// `of_parameters` takes memory.
 #[derive(Drop)]
 pub struct Points {
     ranges: Vec<Range>,
@@ -36,6 +37,23 @@ impl Model for Points {
     ghost invariant = { IsWalk };
 }
 
+/// Stands before the first point of the ranges, which it keeps.
+fn opened(alloc: Global, ranges: Vec<Range>, env: &Env) -> Result<Points, NoMemory>
+    requires ranges { All IsRange ranges.items }
+    requires evaluable { All (IsEvaluableRange env.now.values) ranges.items }
+    ensures { IfOk result (λ p. p ≡ opening ranges.items env.now.values) }
+{
+    let axes = axes_of_ranges(alloc, ranges.as_slice(), env)?;
+    let at = firsts_of(alloc, axes.as_slice())?;
+    let stage = opening_stage(axes.as_slice());
+    Ok(Points {
+        ranges,
+        axes,
+        at,
+        stage,
+    })
+}
+
 impl Points {
     /// Stands before the first point of the ranges, where the variables have these values.
     pub fn new(alloc: Global, ranges: &[Range], env: &Env) -> Result<Points, NoMemory>
@@ -43,16 +61,20 @@ impl Points {
         requires evaluable { All (IsEvaluableRange env.now.values) ranges.now }
         ensures { IfOk result (λ p. p ≡ opening ranges.now env.now.values) }
     {
-        let axes = axes_of_ranges(alloc, ranges, env)?;
-        let at = firsts_of(alloc, axes.as_slice())?;
-        let stage = opening_stage(axes.as_slice());
-        let ranges = copied(alloc, ranges)?;
-        Ok(Points {
-            ranges,
-            axes,
-            at,
-            stage,
-        })
+        opened(alloc, copied(alloc, ranges)?, env)
+    }
+
+    /// The same for the ranges of parameters, each with the variable that takes its values.
+    pub fn of_parameters(
+        alloc: Global,
+        parameters: &[(u32, Range)],
+        env: &Env,
+    ) -> Result<Points, NoMemory>
+        requires ranges { All IsRange (ranges_of parameters.now) }
+        requires evaluable { All (IsEvaluableRange env.now.values) (ranges_of parameters.now) }
+        ensures { IfOk result (λ p. p ≡ opening (ranges_of parameters.now) env.now.values) }
+    {
+        opened(alloc, ranges_copied(alloc, parameters)?, env)
     }
 
     /// Goes to the next point; `false` where none is left.

@@ -1,4 +1,5 @@
 ghost use Rattle.std.specs.Prelude.{◌≡◌, ◌↔◌, IfOk, IsTrue};
+ghost use Rattle.sd_range.specs.Points.{ranges_of};
 
 use crate::affine::Affine;
 use sd_list::{NoMemory, Sequence};
@@ -62,6 +63,20 @@ pub(crate) fn copied(alloc: Global, ranges: &[Range]) -> Result<Vec<Range>, NoMe
 {
     let mut copy = Vec::with_capacity(alloc, ranges.len())?;
     for range in ranges {
+        copy.push(range.copy_of(alloc)?)?;
+    }
+    Ok(copy)
+}
+
+/// The same ranges once more, without the variables of the parameters.
+pub(crate) fn ranges_copied(
+    alloc: Global,
+    parameters: &[(u32, Range)],
+) -> Result<Vec<Range>, NoMemory>
+    ensures { IfOk result (λ copy. copy.items ≡ ranges_of parameters.now) }
+{
+    let mut copy = Vec::with_capacity(alloc, parameters.len())?;
+    for (_, range) in parameters {
         copy.push(range.copy_of(alloc)?)?;
     }
     Ok(copy)

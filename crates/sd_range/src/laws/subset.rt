@@ -1,7 +1,10 @@
-ghost use Rattle.std.specs.Prelude.{◌≡◌, ◌↔◌, ℕ, ℤ, pos, ◌<ℤ◌, ◌≤ℤ◌, List, map, length, IsTrue};
+ghost use Rattle.std.specs.Prelude.{◌≡◌, ◌↔◌, ℕ, ℤ, pos, ◌<ℤ◌, ◌≤ℤ◌, List, [], ◌∷◌, map, length, IsTrue};
 ghost use Rattle.std.specs.List.{All, AllPairs, AllZip, Contains};
+ghost use Rattle.sd_range.specs.Range.{range_values};
 ghost use Rattle.sd_range.specs.Points.{product, Precedes};
 ghost use Rattle.sd_range.specs.Subset.{IsDim, dim_values, elements, inside, whole};
+ghost use Rattle.sd_range.specs.declared.affine.Affine.{Affine};
+ghost use Rattle.sd_range.specs.declared.subset.Dim.TheVariants.{Index};
 ghost use Rattle.sd_range.specs.declared.subset.Subset.{Subset};
 
 /// An element of a subset has in each dimension one of its indices, and each such choice is one.
@@ -23,4 +26,10 @@ pub fn an_index_is_inside_where_each_number_is_one_of_its_extent()
     ensures members { (extents : List ℕ) (index : List ℤ) → (IsTrue (inside extents index)) ↔ (Contains (whole extents) index) }
     ensures count { (extents : List ℕ) → length (whole extents) ≡ product extents }
     ensures order { (extents : List ℕ) → AllPairs Precedes (whole extents) }
+{}
+
+/// An index has the values of the range from it to itself: its own alone.
+pub fn an_index_has_the_values_of_a_range_of_one()
+    ensures { (at : Affine) (values : List ℤ)
+        → dim_values values (Index at) ≡ range_values values (record { begin = at; ends = at ∷ []; step = pos 1 }) }
 {}
