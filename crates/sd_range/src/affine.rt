@@ -77,6 +77,3 @@ impl Affine {
         sum
     }
 }
-
-#[cfg(test)]
-mod tests;

@@ -173,4 +173,4 @@ impl Affine {
 }
 
 #[cfg(test)]
-mod tests;
+pub(crate) mod tests;

@@ -1,4 +1,4 @@
-ghost use Rattle.std.specs.Prelude.{◌≡◌, IfOk};
+ghost use Rattle.std.specs.Prelude.{◌≡◌, pos, [], ◌∷◌, IfOk};
 ghost use Rattle.sd_range.specs.Terms.{IsNormal};
 
 use super::*;
@@ -19,6 +19,25 @@ fn built(alloc: Global, constant: i128, terms: &[(u32, i128)]) -> Result<Affine,
     })
 }
 
+/// 2^41 and nine variables, the even ones from 0 on.
+pub(crate) fn long(alloc: Global) -> Result<Affine, NoMemory>
+    ensures constant { IfOk result (λ a. a.constant ≡ pos 2199023255552) }
+    ensures terms { IfOk result (λ a. a.terms ≡ (0, pos 1) ∷ (2, pos 3) ∷ (4, pos 5) ∷ (6, pos 7) ∷ (8, pos 9) ∷ (10, pos 11) ∷ (12, pos 13) ∷ (14, pos 15) ∷ (16, pos 17) ∷ []) }
+{
+    let even = [
+        (0, 1),
+        (2, 3),
+        (4, 5),
+        (6, 7),
+        (8, 9),
+        (10, 11),
+        (12, 13),
+        (14, 15),
+        (16, 17),
+    ];
+    built(alloc, 2_199_023_255_552, &even)
+}
+
 /// Whether the answer is the expression of this constant and these terms.
 fn gives(answer: Result<Affine, NoMemory>, constant: i128, terms: &[(u32, i128)]) -> bool {
     match answer {
@@ -28,99 +47,64 @@ fn gives(answer: Result<Affine, NoMemory>, constant: i128, terms: &[(u32, i128)]
 }
 
 #[test]
-fn a_sum_has_the_terms_of_both(rt: HostRuntime) -> Result<(), Fail> {
+fn sums_and_differences_of_many_terms_are_made(rt: HostRuntime) -> Result<(), Fail> {
     let alloc = rt.alloc();
-    let a = built(alloc, 1, &[(0, 2), (1, -3), (4, 5)])?;
-    let b = built(alloc, -4, &[(0, -2), (2, 7), (4, -6)])?;
-    assert!(rt; gives(a.plus(alloc, &b), -3, &[(1, -3), (2, 7), (4, -1)]));
-    assert!(rt; gives(b.plus(alloc, &a), -3, &[(1, -3), (2, 7), (4, -1)]));
-    Ok(())
-}
-
-#[test]
-fn terms_past_the_fourth_are_kept(rt: HostRuntime) -> Result<(), Fail> {
-    let alloc = rt.alloc();
-    let even = built(alloc, 0, &[(0, 1), (2, 3), (4, 5), (6, 7), (8, 9)])?;
-    let odd = built(alloc, 10, &[(1, 2), (3, 4), (4, -5)])?;
-    let sum = [(0, 1), (1, 2), (2, 3), (3, 4), (6, 7), (8, 9)];
-    assert!(rt; gives(even.plus(alloc, &odd), 10, &sum));
-    assert!(rt;
-        gives(
-            even.copy_of(alloc),
-            0,
-            &[(0, 1), (2, 3), (4, 5), (6, 7), (8, 9)]
-        )
-    );
-    Ok(())
-}
-
-#[test]
-fn a_difference_takes_the_other_away(rt: HostRuntime) -> Result<(), Fail> {
-    let alloc = rt.alloc();
-    let a = built(alloc, 5, &[(0, 1), (3, 2)])?;
-    let b = built(alloc, 2, &[(0, 1), (1, -1)])?;
+    let a = long(alloc)?;
+    let b = built(alloc, -1, &[(1, 2), (3, 4), (4, -5)])?;
+    let sum = [
+        (0, 1),
+        (1, 2),
+        (2, 3),
+        (3, 4),
+        (6, 7),
+        (8, 9),
+        (10, 11),
+        (12, 13),
+        (14, 15),
+        (16, 17),
+    ];
+    assert!(rt; gives(a.plus(alloc, &b), 2_199_023_255_551, &sum));
+    assert!(rt; gives(b.plus(alloc, &a), 2_199_023_255_551, &sum));
     assert!(rt; gives(a.minus(alloc, &a), 0, &[]));
-    assert!(rt; gives(a.minus(alloc, &b), 3, &[(1, 1), (3, 2)]));
-    assert!(rt; gives(b.minus(alloc, &a), -3, &[(1, -1), (3, -2)]));
     Ok(())
 }
 
 #[test]
-fn a_product_multiplies_each_number(rt: HostRuntime) -> Result<(), Fail> {
+fn products_and_substitutions_of_many_terms_are_made(rt: HostRuntime) -> Result<(), Fail> {
     let alloc = rt.alloc();
-    let a = built(alloc, 3, &[(0, 2), (5, -7)])?;
-    assert!(rt; gives(a.times(alloc, 0), 0, &[]));
-    assert!(rt; gives(a.times(alloc, -1), -3, &[(0, -2), (5, 7)]));
-    // 2^100
+    let a = long(alloc)?;
+    assert!(rt; a.copy_of(alloc)?.same(&a));
+    let product = [
+        (0, -1),
+        (2, -3),
+        (4, -5),
+        (6, -7),
+        (8, -9),
+        (10, -11),
+        (12, -13),
+        (14, -15),
+        (16, -17),
+    ];
+    assert!(rt; gives(a.times(alloc, -1), -2_199_023_255_552, &product));
+    // 17*(v1 - 1) in the place of 17*v16
+    let by = built(alloc, -1, &[(1, 1)])?;
+    let substituted = [
+        (0, 1),
+        (1, 17),
+        (2, 3),
+        (4, 5),
+        (6, 7),
+        (8, 9),
+        (10, 11),
+        (12, 13),
+        (14, 15),
+    ];
     assert!(rt;
         gives(
-            a.times(alloc, 1_267_650_600_228_229_401_496_703_205_376),
-            3_802_951_800_684_688_204_490_109_616_128,
-            &[
-                (0, 2_535_301_200_456_458_802_993_406_410_752),
-                (5, -8_873_554_201_597_605_810_476_922_437_632),
-            ],
+            a.substituted(alloc, 16, &by),
+            2_199_023_255_535,
+            &substituted
         )
     );
     Ok(())
-}
-
-#[test]
-fn substitution_keeps_the_constant_and_the_other_terms(rt: HostRuntime) -> Result<(), Fail> {
-    let alloc = rt.alloc();
-    let a = built(alloc, 1, &[(0, 2), (1, -3)])?;
-    let by = built(alloc, 4, &[(0, -1), (1, 1)])?;
-    // 1 + 2*v0 - 3*(4 - v0 + v1): the variable itself and another
-    assert!(rt; gives(a.substituted(alloc, 1, &by), -11, &[(0, 5), (1, -3)]));
-    assert!(rt; gives(a.substituted(alloc, 7, &by), 1, &[(0, 2), (1, -3)]));
-    Ok(())
-}
-
-/// Whether 1 + 2*v0 - 3*v1 is this expression.
-fn is_example(alloc: Global, constant: i128, terms: &[(u32, i128)]) -> Result<bool, NoMemory>
-    requires { IsNormal terms.now }
-{
-    Ok(built(alloc, 1, &[(0, 2), (1, -3)])?.same(&built(alloc, constant, terms)?))
-}
-
-#[test]
-fn expressions_are_the_same_where_all_numbers_are(rt: HostRuntime) {
-    let alloc = rt.alloc();
-    assert!(rt; is_example(alloc, 1, &[(0, 2), (1, -3)]) == Ok(true));
-    assert!(rt; is_example(alloc, 2, &[(0, 2), (1, -3)]) == Ok(false));
-    assert!(rt; is_example(alloc, 1, &[(0, 2), (1, -4)]) == Ok(false));
-}
-
-/// The coefficient of this variable in 9 + 2*v1 - 3*v4.
-fn coefficient(alloc: Global, variable: u32) -> Result<i128, NoMemory> {
-    let example = built(alloc, 9, &[(1, 2), (4, -3)])?;
-    Ok(example.terms.coefficient(variable))
-}
-
-#[test]
-fn an_absent_variable_has_the_coefficient_zero(rt: HostRuntime) {
-    let alloc = rt.alloc();
-    for (variable, wanted) in [(0, 0), (1, 2), (2, 0), (4, -3), (5, 0)] {
-        assert!(rt; coefficient(alloc, variable) == Ok(wanted), "at {variable}");
-    }
 }
