@@ -98,6 +98,8 @@ mod tests {
         let mut files = Vec::new(alloc);
         let content = Vec::from_slice(alloc, b"first".as_slice())?;
         files.push((String::from_str(alloc, "a")?, content))?;
+        let content = Vec::from_slice(alloc, &[b'x'; 10_000])?;
+        files.push((String::from_str(alloc, "long")?, content))?;
         let mut shelf = MemShelf::new(files, Vec::from_slice(alloc, &[1])?);
         for (name, most, refusal) in [
             ("a", 5, None),
@@ -109,6 +111,7 @@ mod tests {
             assert_eq!(rt; shelf.read(alloc, name, most).err(), refusal, "{name}");
         }
         assert_eq!(rt; shelf.read(alloc, "a", 5)?.as_slice(), b"first".as_slice());
+        assert_eq!(rt; shelf.read(alloc, "long", 10_000)?.len(), 10_000);
         Ok(())
     }
 }

@@ -89,6 +89,8 @@ mod tests {
             assert_eq!(rt; failed, fails, "{piece}");
         }
         assert_eq!(rt; sink.bytes(), b"one\nthree\n".as_slice());
+        sink.write(&[b'x'; 10_000])?;
+        assert_eq!(rt; sink.bytes().len(), 10_010);
         Ok(())
     }
 }

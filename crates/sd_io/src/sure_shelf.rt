@@ -84,6 +84,8 @@ mod tests {
             );
             files.push(file)?;
         }
+        let content = Vec::from_slice(alloc, &[b'x'; 10_000])?;
+        files.push((String::from_str(alloc, "long")?, content))?;
         Ok(SureShelf::new(files))
     }
 
@@ -95,6 +97,7 @@ mod tests {
             b"first".as_slice()
         );
         assert_eq!(rt; shelf.read(rt.alloc(), "b", 0)?.len(), 0);
+        assert_eq!(rt; shelf.read(rt.alloc(), "long", 10_000)?.len(), 10_000);
         for (name, most, refusal) in [("a", 4, ShelfError::TooLong), ("c", 4, ShelfError::Failed)] {
             match shelf.read(rt.alloc(), name, most) {
                 Ok(_) => assert!(rt; false, "{name} is read"),

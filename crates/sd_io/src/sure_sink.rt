@@ -62,6 +62,8 @@ mod tests {
             sink.write(piece.as_bytes())?;
         }
         assert_eq!(rt; sink.bytes(), b"one\ntwo\n".as_slice());
+        sink.write(&[b'x'; 10_000])?;
+        assert_eq!(rt; sink.bytes().len(), 10_008);
         Ok(())
     }
 }

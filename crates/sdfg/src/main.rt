@@ -1,89 +1,104 @@
 //! The program `sdfg`: the words after its name, run over the system's files and the
 //! standard output.
 //!
-//! Its two adapters keep the clauses of `Shelf` and `Sink` over any files and any writer:
-//! they answer a fault, or a file that is too long, only where its count rose. A reader is
-//! gathered whole, and a piece is written whole, as far as readers and writers tell their
-//! bytes; the system's tell none. Nothing goes to the standard error.
+//! `main` is one call of `run`, whose contract says what is written and with which status the
+//! program ends, whatever words the system gives; so too where it gives none. The two
+//! adapters keep the clauses of `Shelf` and `Sink` over any files and any writer, as far as
+//! these tell their bytes; the system's tell none. Nothing goes to the standard error.
 #![tactic(auto)]
 
-ghost use Rattle.std.specs.Prelude.{◌≡◌, ◌⊎◌};
-ghost use Rattle.sd_io.specs.Count.{HasRisen};
-ghost use Rattle.sd_io.specs.Sink.{Appends};
+ghost use Rattle.std.specs.Prelude.{◌≡◌, ◌≢◌, ◌∷◌, [], ◌++◌, drop, map, codes, string_bytes, IfOk, IfErr, IsErr};
+ghost use Rattle.std.specs.Process.{exit_status};
+ghost use Rattle.std.specs.Vec.Iter.{into_iter_items};
+ghost use Rattle.std.specs.IoError.{error_kind};
+ghost use Rattle.sd_tool.specs.Answers.{shelf_use};
+ghost use Rattle.sd_tool.specs.Ends.{Ends, Writes, sink_use};
+ghost use Rattle.sdfg.specs.BadWords.{RefusesWords};
 
+mod counts;
 mod file_shelf;
 mod out_sink;
 
 use crate::file_shelf::FileShelf;
 use crate::out_sink::OutSink;
-use sd_io::{Open, Sink, SinkError};
+use sd_io::{Open, Shelf, Sink, SinkError};
+use std::alloc::{AllocError, Global};
+use std::env::{self, Args};
+use std::io::{self, ErrorKind};
 use std::process::ExitCode;
-use std::rt::Env;
-use std::{env, io};
-
-/// The status where there is no memory.
-const NO_MEMORY: u8 = 1;
-
-/// The status of words that are no command line.
-const BAD_WORDS: u8 = 2;
-
-/// The status where the output cannot be written.
-const NO_OUTPUT: u8 = 10;
-
-/// What is written of words that are no command line.
-const BAD_WORDS_LINE: &[u8] = b"bad words\n";
 
 fn main(rt: HostRuntime) -> ExitCode {
-    let mut sink = OutSink::new(rt.stdout());
-    let status = match words_after_name(&rt) {
-        Ok(words) => {
-            let mut shelf = FileShelf::new(&rt);
-            sd_tool::sdfg(
-                &rt,
-                rt.alloc(),
-                words.as_slice(),
-                &mut shelf,
-                &mut sink,
-                &Open,
-            )
-        }
-        Err(error) if error.kind() == io::ErrorKind::OutOfMemory => NO_MEMORY,
-        Err(_) => refuse(&mut sink),
-    };
-    ExitCode::from(status)
+    let mut shelf = FileShelf::new(&rt);
+    let mut out = OutSink::new(rt.stdout());
+    run(&rt, rt.alloc(), env::args(&rt), &mut shelf, &mut out)
 }
 
-/// The words after the program's name. A word that is not text fails them all.
-fn words_after_name<R: Env + AllocGlobal>(rt: &R) -> io::Result<Vec<String>> {
-    let words = env::args(rt)?;
-    Ok(words.skip(1).collect(rt.alloc())?)
-}
-
-/// Writes that the words are no command line, and gives the status that says so.
-fn refuse<S: Sink>(out: &mut S) -> u8
-    ensures status { (result ≡ BAD_WORDS) ⊎ (result ≡ NO_OUTPUT) ⊎ (result ≡ NO_MEMORY) }
-    ensures line { result ≡ BAD_WORDS → Appends (S.taken out.old) (S.taken out.new) BAD_WORDS_LINE.now }
-    ensures fault { result ≡ NO_OUTPUT → HasRisen (S.faults out.old) (S.faults out.new) }
+/// Does what the words after the first ask, which is the program's name, and gives the status
+/// to end with.
+///
+/// The system gives the words as a whole: where one of them is not text it gives none, and
+/// that is told as words that are no command.
+fn run<R, S: Shelf, K: Sink>(
+    rt: &R,
+    alloc: Global,
+    given: io::Result<Args>,
+    shelf: &mut S,
+    out: &mut K,
+) -> ExitCode
+    ensures words { IfOk given (λ given. Ends (map string_bytes (drop 1 (into_iter_items given)))
+        (shelf_use S.told S.faults S.overruns shelf.old shelf.new) (sink_use K.taken K.faults out.old out.new) (exit_status result)) }
+    ensures no_memory { IfErr given (λ error. error_kind error ≡ ErrorKind.OutOfMemory
+        → (exit_status result ≡ 1) × Writes (sink_use K.taken K.faults out.old out.new) []) }
+    ensures no_text { IfErr given (λ error. error_kind error ≢ ErrorKind.OutOfMemory
+        → RefusesWords (sink_use K.taken K.faults out.old out.new) (exit_status result)) }
+    ensures nothing_read { IsErr given → shelf.new ≡ shelf.old }
 {
-    match out.write(BAD_WORDS_LINE) {
-        Ok(()) => BAD_WORDS,
-        Err(SinkError::Failed) => NO_OUTPUT,
-        Err(SinkError::Memory) => NO_MEMORY,
+    match given {
+        Ok(given) => ExitCode::from(perform(rt, alloc, given, shelf, out)),
+        Err(error) => match error.kind() {
+            ErrorKind::OutOfMemory => ExitCode::from(1),
+            _ => ExitCode::from(refuse(out)),
+        },
     }
 }
 
-#[cfg(test)]
-mod tests {
-    use super::*;
-    use sd_io::SureSink;
+/// Does what the words after the first ask, and answers the status of that.
+fn perform<R, S: Shelf, K: Sink>(
+    rt: &R,
+    alloc: Global,
+    given: Args,
+    shelf: &mut S,
+    out: &mut K,
+) -> u8
+    ensures { Ends (map string_bytes (drop 1 (into_iter_items given)))
+        (shelf_use S.told S.faults S.overruns shelf.old shelf.new) (sink_use K.taken K.faults out.old out.new) result }
+{
+    match after_first(alloc, given) {
+        Ok(words) => sd_tool::sdfg(rt, alloc, words.as_slice(), shelf, out, &Open),
+        Err(_) => 1,
+    }
+}
 
-    #[test]
-    fn bad_words_are_told_by_line_and_status(rt: HostRuntime) {
-        let mut told = SureSink::new(rt.alloc());
-        assert_eq!(rt; refuse(&mut told), 2);
-        assert_eq!(rt; told.bytes(), b"bad words\n".as_slice());
+/// All words but the first.
+fn after_first(alloc: Global, given: Args) -> Result<Vec<String>, AllocError>
+    ensures { IfOk result (λ words. words.items ≡ drop 1 (into_iter_items given)) }
+{
+    let mut rest = given;
+    let mut words = Vec::new(alloc);
+    rest.next();
+    while let Some(word) = rest.next() {
+        words.push(word)?;
+    }
+    Ok(words)
+}
 
-        let mut room = [0u8; 9];
-        assert_eq!(rt; refuse(&mut OutSink::new(room.as_mut_slice())), 10);
+/// Writes that the words are no command, and answers the status of that.
+fn refuse<K: Sink>(out: &mut K) -> u8
+    ensures { RefusesWords (sink_use K.taken K.faults out.old out.new) result }
+{
+    match out.write(b"bad words\n") {
+        Ok(()) => 2,
+        Err(SinkError::Failed) => 10,
+        Err(SinkError::Memory) => 1,
     }
 }

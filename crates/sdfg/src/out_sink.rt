@@ -89,6 +89,8 @@ mod tests {
             sink.write(piece.as_bytes())?;
         }
         assert_eq!(rt; sink.out.as_slice(), b"one\ntwo\n".as_slice());
+        sink.write(&[b'x'; 10_000])?;
+        assert_eq!(rt; sink.out.len(), 10_008);
         assert_eq!(rt; sink.faults, 0);
 
         for (most, calls, taken, faults) in [

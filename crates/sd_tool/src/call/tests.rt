@@ -140,3 +140,57 @@ fn each_failing_call_ends_the_run(rt: HostRuntime) -> Result<(), Fail> {
     }
     Ok(())
 }
+
+const LONG: &str = "import dace
+Number_of_elements = dace.symbol('Number_of_elements')
+@dace.program
+def successors_of_all(numbers_given: dace.int64[Number_of_elements], results_found: dace.int64[Number_of_elements]):
+    for current_index in dace.map[0:Number_of_elements]:
+        results_found[current_index] = numbers_given[current_index] + 1
+";
+
+/// The arrays of the long source, of 5,000 zeros each, up to what is left of the text.
+fn long_arrays(alloc: Global, end: &str) -> Result<String, Fail> {
+    let mut text = String::from_str(alloc, "{\"Number_of_elements\":5000")?;
+    for name in ["numbers_given", "results_found"] {
+        write!(text, ",\"{name}\":[0")?;
+        for _ in 1..5000 {
+            text.push_str(",0")?;
+        }
+        text.push_str(if name == "numbers_given" { "]" } else { end })?;
+    }
+    Ok(text)
+}
+
+// Each line has 21 bytes before its elements, 2 for each of them and the newline: 10,022 bytes.
+#[test]
+fn a_long_line_is_written_in_pieces_of_4096_bytes(rt: HostRuntime) -> Result<(), Fail> {
+    let alloc = rt.alloc();
+    let words = words(alloc, "run a.py a.json")?;
+    let arrays = long_arrays(alloc, "]}")?;
+    for (failing, status, taken) in [
+        (0, 10, 0),
+        (1, 10, 4096),
+        (2, 10, 8192),
+        (3, 10, 10_022),
+        (4, 10, 14_118),
+        (5, 10, 18_214),
+        (6, 0, 20_044),
+    ] {
+        let mut shelf = SureShelf::new(files(alloc, LONG.as_bytes(), arrays.as_bytes())?);
+        let mut sink = MemSink::new(alloc, Vec::from_slice(alloc, &[failing])?);
+        let answer = sdfg(&(), alloc, &words, &mut shelf, &mut sink, &Open);
+        assert_eq!(rt; answer, status, "at {failing}");
+        assert_eq!(rt; sink.bytes().len(), taken, "at {failing}");
+    }
+    let unfinished = long_arrays(alloc, "]")?;
+    let (status, written) = called(
+        alloc,
+        "run a.py a.json",
+        LONG.as_bytes(),
+        unfinished.as_str(),
+    )?;
+    assert_eq!(rt; status, 4);
+    assert_eq!(rt; written.as_str(), "arrays error 14\n");
+    Ok(())
+}

@@ -1,6 +1,6 @@
 use Rattle.std.proofs.Common.{vec_len, ◌-◌, ◌≤◌}
 use Rattle.std.specs.Io.KnownBytes.{Consumes}
-use Rattle.sdfg.proofs.file_shelf.read_whole.Given as goal
+use Rattle.sdfg.proofs.counts.read_whole.Given as goal
 
 -- all that the reader gave so far is kept
 abbrev pub invariant-loop-count : goal.invariant-loop-count
