@@ -5,9 +5,9 @@ A case NAME in a folder of examples/ has these files, and a folder has one case 
   NAME.words     the words that the program is given, one a line; it runs in the case's folder, with no input
   NAME.expected  the exact standard output that is wanted
   NAME.status    the exit status that is wanted; without this file it is 0
-Standard error must be empty, and a case has 60 seconds. One case more is made here: arrays of 5,000 elements, by a copy
-of ./sdfg below a folder whose name is not text. Each case that differs has a line, and the last line is
-'N passed, M failed'. The status is 0 where there are cases and none failed.
+Standard error must be empty, and a case has 60 seconds. One case more is made here: arrays of 5,000 elements in a
+file with a long name, by a copy of ./sdfg below a folder whose name is not text. Each case that differs has a line,
+and the last line is 'N passed, M failed'. The status is 0 where there are cases and none failed.
 """
 import json
 import os
@@ -56,9 +56,10 @@ def long_difference():
             shutil.copy2(TOP / name, top)
         (top / "crates").symlink_to(TOP / "crates")
         shutil.copy2(TOP / "examples/inc/inc.py", top)
-        (top / "long.json").write_text(json.dumps({"N": ELEMENTS, "A": first, "B": [0] * ELEMENTS}))
+        arrays = "long" * 50 + ".json"
+        (top / arrays).write_text(json.dumps({"N": ELEMENTS, "A": first, "B": [0] * ELEMENTS}))
         lines = (f"{name}[{ELEMENTS}] = {' '.join(map(str, it))}\n" for name, it in (("A", first), ("B", second)))
-        return run_difference(top / "sdfg", ["run", "inc.py", "long.json"], top, "".join(lines).encode(), 0)
+        return run_difference(top / "sdfg", ["run", "inc.py", arrays], top, "".join(lines).encode(), 0)
 
 
 def run_difference(program, words, folder, wanted, status):
