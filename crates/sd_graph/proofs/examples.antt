@@ -1,0 +1,10 @@
+pub mod ExampleParts
+pub mod TaskletExamples
+pub mod UseExamples
+pub mod LoopExamples
+pub mod ReachExamples
+pub mod ScopeExamples
+pub mod GraphExamples
+pub mod OrderExamples
+pub mod PlaceExamples
+pub mod ElementExamples

@@ -1,0 +1,115 @@
+use super::*;
+use crate::container::ContainerKind;
+use crate::graph::ItemKind;
+use crate::link::{Link, Memlet};
+use crate::name::Name;
+use indexmap::IndexMap;
+use sd_range::{Sequence, Subset};
+use std::alloc::Global;
+
+/// A graph without anything.
+fn empty(alloc: Global) -> Sdfg {
+    Sdfg {
+        name: String::new(alloc),
+        containers: IndexMap::new(alloc),
+        arguments: 0,
+        variables: Vec::new(alloc),
+        symbols: 0,
+        states: Vec::new(alloc),
+    }
+}
+
+/// A state without anything.
+fn no_work(alloc: Global) -> State {
+    State {
+        items: Vec::new(alloc),
+        exits: Vec::new(alloc),
+    }
+}
+
+/// A stream.
+fn stream(alloc: Global) -> Container {
+    Container {
+        extents: Sequence::from(Vec::new(alloc)),
+        kind: ContainerKind::Stream,
+    }
+}
+
+/// A link to all of a container without dimensions.
+fn link(alloc: Global, container: u32) -> Link {
+    Link {
+        connector: Name::from(String::new(alloc)),
+        memlet: Memlet {
+            container,
+            subset: Subset {
+                dims: Sequence::from(Vec::new(alloc)),
+            },
+            volume: 1,
+            resolution: None,
+        },
+    }
+}
+
+/// A copy of one container to another.
+fn copy(alloc: Global, line: u32) -> Item {
+    Item {
+        line,
+        kind: ItemKind::Copy {
+            from: link(alloc, 0),
+            to: link(alloc, 1),
+        },
+    }
+}
+
+/// A transition to this state.
+fn exit(alloc: Global, to: u32) -> Exit {
+    Exit {
+        to,
+        back: false,
+        when: None,
+        set: Sequence::from(Vec::new(alloc)),
+    }
+}
+
+/// The answer of one more stream with this name, if the graph has none with it.
+fn push_stream(graph: &mut Sdfg, alloc: Global, name: &str) -> Result<Option<u32>, NoMemory> {
+    if graph.has_container(name) {
+        return Ok(None);
+    }
+    let number = graph.push_container(name.to_string(alloc)?, stream(alloc))?;
+    Ok(Some(number))
+}
+
+#[test]
+fn containers_are_numbered_and_found_by_name(rt: HostRuntime) {
+    let alloc = rt.alloc();
+    let mut graph = empty(alloc);
+    assert!(rt; push_stream(&mut graph, alloc, "A") == Ok(Some(0)));
+    assert!(rt; push_stream(&mut graph, alloc, "B") == Ok(Some(1)));
+    assert!(rt; push_stream(&mut graph, alloc, "A") == Ok(None));
+    assert!(rt; graph.has_container("B") && !graph.has_container("b"));
+}
+
+#[test]
+fn states_items_and_transitions_come_last(rt: HostRuntime) {
+    let alloc = rt.alloc();
+    let mut graph = empty(alloc);
+    let mut state = no_work(alloc);
+    assert!(rt; state.push_item(copy(alloc, 5)) == Ok(()));
+    assert!(rt; state.push_item(copy(alloc, 6)) == Ok(()));
+    assert!(rt; state.push_exit(exit(alloc, 1)) == Ok(()));
+    assert!(rt; graph.push_state(state) == Ok(0));
+    assert!(rt; graph.push_state(no_work(alloc)) == Ok(1));
+}
+
+#[test]
+fn a_copy_has_what_it_is_of(rt: HostRuntime) {
+    let alloc = rt.alloc();
+    let mut graph = empty(alloc);
+    assert!(rt; push_stream(&mut graph, alloc, "S") == Ok(Some(0)));
+    assert!(rt; graph.push_state(no_work(alloc)) == Ok(0));
+    let Ok(copy) = graph.copy_of(alloc) else {
+        unreachable!()
+    };
+    assert!(rt; copy.has_container("S") && copy.states.len() == 1);
+}

@@ -1,0 +1,42 @@
+ghost use Rattle.std.specs.Prelude.{◌≡◌, IfOk};
+
+use sd_range::{Affine, NoMemory, Sequence};
+use std::alloc::Global;
+
+/// An array, or a stream, which has no extents.
+#[derive(Drop)]
+pub struct Container {
+    pub extents: Sequence<Affine>,
+    pub kind: ContainerKind,
+}
+
+impl Container {
+    /// The same container once more.
+    pub fn copy_of(&self, alloc: Global) -> Result<Container, NoMemory>
+        ensures { IfOk result (λ copy. copy ≡ self.now) }
+    {
+        let mut extents = Vec::with_capacity(alloc, self.extents.len())?;
+        for extent in self.extents.as_slice() {
+            extents.push(extent.copy_of(alloc)?)?;
+        }
+        Ok(Container {
+            extents: Sequence::from(extents),
+            kind: self.kind,
+        })
+    }
+}
+
+/// Whose a container is, and whether it is a stream.
+#[derive(Clone, Copy, Debug, PartialEq, Eq)]
+pub enum ContainerKind {
+    /// An array that a caller of the graph gives.
+    Argument,
+    /// An array of the graph's own.
+    Transient,
+    /// An array of each point or element of a scope.
+    Private,
+    /// A stream of the graph's own.
+    Stream,
+    /// A stream of each point or element of a scope.
+    PrivateStream,
+}
