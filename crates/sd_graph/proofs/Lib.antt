@@ -6,8 +6,6 @@ pub mod LeafTouches
 pub mod ItemTouches
 pub mod WiringLaws
 pub mod Compatible
-pub mod FloorLemmas
-pub mod Variables
 pub mod EffectsInside
 pub mod RowNumbers
 pub mod UnfoldedOrder

@@ -5,7 +5,7 @@ ghost use Rattle.sd_graph.specs.TreeParts.{containers_of, has_name, states_of_gr
 use crate::container::Container;
 use crate::exit::Exit;
 use crate::graph::{Item, Sdfg, State};
-use sd_range::NoMemory;
+use sd_list::NoMemory;
 
 impl State {
     /// One more item, the last one.

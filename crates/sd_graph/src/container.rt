@@ -1,6 +1,7 @@
 ghost use Rattle.std.specs.Prelude.{◌≡◌, IfOk};
 
-use sd_range::{Affine, NoMemory, Sequence};
+use sd_list::{NoMemory, Sequence};
+use sd_range::Affine;
 use std::alloc::Global;
 
 /// An array, or a stream, which has no extents.

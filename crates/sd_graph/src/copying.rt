@@ -7,7 +7,8 @@ use crate::exit;
 use crate::graph::{Item, ItemKind, Sdfg, State};
 use crate::link;
 use indexmap::IndexMap;
-use sd_range::{NoMemory, Range};
+use sd_list::NoMemory;
+use sd_range::Range;
 use std::alloc::Global;
 
 impl ItemKind {

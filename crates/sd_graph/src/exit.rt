@@ -3,7 +3,8 @@ ghost use Rattle.sd_graph.specs.TreeFold.{guard_of, exit_of};
 
 use crate::link::{self, Link};
 use crate::tasklet::Tasklet;
-use sd_range::{Affine, NoMemory, Sequence};
+use sd_list::{NoMemory, Sequence};
+use sd_range::Affine;
 use std::alloc::Global;
 
 /// A condition: the elements that it reads, and code that assigns its value to its one output.

@@ -6,8 +6,9 @@ use crate::exit::Exit;
 use crate::link::Link;
 use crate::tasklet::Tasklet;
 use indexmap::IndexMap;
+use sd_list::NoMemory;
 use sd_num::Resolution;
-use sd_range::{NoMemory, Range};
+use sd_range::Range;
 use std::alloc::Global;
 
 /// A stateful dataflow multigraph.

@@ -1,8 +1,8 @@
 ghost use Rattle.std.specs.Prelude.{◌≡◌, IfOk};
 
-use crate::name::Name;
+use sd_list::{NoMemory, Text};
 use sd_num::Resolution;
-use sd_range::{NoMemory, Subset};
+use sd_range::Subset;
 use std::alloc::Global;
 
 /// What a connector moves: which elements of which container, and how a written value meets the
@@ -33,7 +33,7 @@ impl Memlet {
 /// A connector with what it moves.
 #[derive(Drop)]
 pub struct Link {
-    pub connector: Name,
+    pub connector: Text,
     pub memlet: Memlet,
 }
 

@@ -1,6 +1,6 @@
 ghost use Rattle.std.specs.Prelude.{◌≡◌, IfOk};
 
-use sd_range::{NoMemory, Sequence};
+use sd_list::{NoMemory, Sequence};
 use std::alloc::Global;
 
 /// Where something is in a graph: a state, a node of it, and in a nested graph on in turn.

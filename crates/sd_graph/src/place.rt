@@ -1,7 +1,6 @@
 ghost use Rattle.std.specs.Prelude.{◌≡◌, IfOk};
 
-use crate::name::Name;
-use sd_range::{NoMemory, Sequence};
+use sd_list::{NoMemory, Sequence, Text};
 use sd_work::FaultKind;
 use std::alloc::Global;
 
@@ -31,7 +30,7 @@ impl Place {
 #[derive(Drop)]
 pub struct Frame {
     pub line: u32,
-    pub values: Sequence<(Name, i128)>,
+    pub values: Sequence<(Text, i128)>,
 }
 
 impl Frame {

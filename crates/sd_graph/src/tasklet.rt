@@ -1,9 +1,8 @@
 ghost use Rattle.std.specs.Prelude.{◌≡◌, IfOk};
 ghost use Rattle.sd_graph.specs.TreeFold.{act_of, acts_of, tasklet_of, value_of, values_of};
 
-use crate::name::Name;
 use crate::operator::{OneSign, TwoSign};
-use sd_range::NoMemory;
+use sd_list::{NoMemory, Text};
 use std::alloc::Global;
 
 /// The code of a tasklet or of a condition, with its connectors.
@@ -38,7 +37,7 @@ impl Tasklet {
 /// A connector. `dims` is 0 where it is a scalar, and an `at` of it is then empty.
 #[derive(Drop)]
 pub struct Port {
-    pub connector: Name,
+    pub connector: Text,
     pub dims: u32,
 }
 

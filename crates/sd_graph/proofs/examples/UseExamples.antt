@@ -84,25 +84,24 @@ a_consume_scope_takes_and_hides_its_element = refl
 
 -- ---- nested graphs
 
--- five arguments: one is read by a condition and by an item of a later state, one is resolved twice, one is read and written, one
--- is written twice, and one is not used
+-- five arguments: one is read by a condition, one is resolved twice, one is read and written, one is read in a later
+-- state alone, and one is not used
 abbrev inner : GraphTree
 inner =
     graph (codes "inner")
       ((codes "R", container_of (constant (pos 4) ∷ []) Argument) ∷
         (codes "Q", container_of (constant (pos 4) ∷ []) Argument) ∷
         (codes "X", container_of (constant (pos 4) ∷ []) Argument) ∷
-        (codes "W", container_of (constant (pos 4) ∷ []) Argument) ∷
+        (codes "L", container_of (constant (pos 4) ∷ []) Argument) ∷
         (codes "N", container_of (constant (pos 4) ∷ []) Argument) ∷ []) 5 [] 0
       (and_state (and_item 1 (from_into (on 2) (link_by (Some Sum) 1)) no_item)
         (transition 1 false (Some (condition_of 2 (on 0 ∷ []) (code_of [] [] [] 0 no_act))) [] ∷ [])
-        (and_state (and_item 3 (from_into (on 0) (link_by (Some Sum) 1)) (and_item 4 (from_into (on 0) (link_by (Some Max) 2))
-          (and_item 5 (from_into (on 0) (on 3)) (and_item 6 (from_into (on 0) (on 3)) no_item)))) [] no_state))
+        (and_state (and_item 3 (from_into (on 3) (link_by (Some Sum) 1)) (and_item 4 (from_into (on 3) (link_by (Some Max) 2)) no_item)) [] no_state))
 
 -- each parameter gives its link's container one mode
 a_nested_graph_does_what_it_does_to_its_parameters :
     kind_uses (nested_graph inner (on 15 ∷ on 14 ∷ on 13 ∷ on 12 ∷ on 11 ∷ [])) containers
-    ≡ use_on Read 15 ∷ use_on (Resolve Sum) 14 ∷ use_on Write 13 ∷ use_on Write 12 ∷ []
+    ≡ use_on Read 15 ∷ use_on (Resolve Sum) 14 ∷ use_on Write 13 ∷ use_on Read 12 ∷ []
 a_nested_graph_does_what_it_does_to_its_parameters = refl
 
 -- two resolutions on one container are a write
@@ -125,3 +124,10 @@ items_are_in_order_where_they_conflict :
     (before containers three 0 2 ≡ true) × (before containers three 0 1 ≡ false) × (before containers three 1 2 ≡ false) ×
     (before containers three 2 0 ≡ false) × (before containers three 0 0 ≡ false) × (before containers three 0 3 ≡ false)
 items_are_in_order_where_they_conflict = (refl, refl, refl, refl, refl, refl)
+
+-- the first and the third conflict by the second alone
+abbrev chain : ItemTrees
+chain = and_item 1 (copy (on 0) (on 1)) (and_item 2 (copy (on 1) (on 3)) (and_item 3 (copy (on 3) (on 4)) no_item))
+
+an_order_leads_over_an_item_between : before containers chain 0 2 ≡ true
+an_order_leads_over_an_item_between = refl

@@ -2,9 +2,9 @@ use super::*;
 use crate::container::ContainerKind;
 use crate::graph::ItemKind;
 use crate::link::{Link, Memlet};
-use crate::name::Name;
 use indexmap::IndexMap;
-use sd_range::{Sequence, Subset};
+use sd_list::{Sequence, Text};
+use sd_range::Subset;
 use std::alloc::Global;
 
 /// A graph without anything.
@@ -38,7 +38,7 @@ fn stream(alloc: Global) -> Container {
 /// A link to all of a container without dimensions.
 fn link(alloc: Global, container: u32) -> Link {
     Link {
-        connector: Name::from(String::new(alloc)),
+        connector: Text::from(String::new(alloc)),
         memlet: Memlet {
             container,
             subset: Subset {
