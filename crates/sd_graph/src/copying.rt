@@ -3,9 +3,8 @@ ghost use Rattle.std.specs.Prelude.{◌≡◌, map, string_bytes, IfOk};
 ghost use Rattle.sd_graph.specs.TreeFold.{container_of, graph_of, item_of, items_of, kind_of, state_of, states_of};
 
 use crate::container::Container;
-use crate::exit;
 use crate::graph::{Item, ItemKind, Sdfg, State};
-use crate::link;
+use crate::{exit, link};
 use indexmap::IndexMap;
 use sd_list::NoMemory;
 use sd_range::Range;

@@ -1,6 +1,5 @@
 -- In which states the variables of loops are in force.
 use Rattle.std.proofs.Common.{◌≡◌, ℕ, pos, List, [], ◌∷◌, None, true, false, refl, map}
-use Rattle.sd_range.specs.declared.affine.Affine.{Affine}
 use Rattle.sd_graph.specs.PlainTree.{ExitTree, no_item, StateTrees, no_state, and_state}
 use Rattle.sd_graph.specs.LoopScope.{is_on_loop, loops_in_force}
 use Rattle.sd_graph.proofs.examples.ExampleParts.{constant, transition}

@@ -14,25 +14,25 @@ use Rattle.sd_graph.proofs.examples.ExampleParts.{constant, from_to, link_of, po
 abbrev pushes_graph : GraphTree
 pushes_graph =
     graph (codes "pushes")
-      ((codes "A", container_of (constant (pos 2) ∷ []) Argument) ∷
-        (codes "R", container_of (constant (pos 1) ∷ []) Argument) ∷
-        (codes "S", container_of [] Stream) ∷ []) 2 (codes "i" ∷ []) 0
-      (and_state no_item (transition 1 false None [] ∷ [])
-        (and_state
-          (and_item 5
-            (map_scope ((0, from_to (pos 0) (pos 0)) ∷ []) []
-              (and_item 6
-                (task
-                  (code_of (port_of (codes "a") 0 ∷ []) (port_of (codes "s") 0 ∷ []) [] 0
-                    (and_act (assign 1 no_value (input 0 no_value)) no_act))
-                  (link_of (codes "a") 0 (Index (constant (pos 0)) ∷ []) None ∷ [])
-                  (link_of (codes "s") 2 [] None ∷ []))
-                (and_item 10
-                  (task
-                    (code_of (port_of (codes "b") 0 ∷ []) (port_of (codes "s") 0 ∷ []) [] 0
-                      (and_act (assign 1 no_value (input 0 no_value)) no_act))
-                    (link_of (codes "b") 0 (Index (constant (pos 1)) ∷ []) None ∷ [])
-                    (link_of (codes "s") 2 [] None ∷ [])) no_item))) no_item) [] no_state))
+    ((codes "A", container_of (constant (pos 2) ∷ []) Argument) ∷
+    (codes "R", container_of (constant (pos 1) ∷ []) Argument) ∷
+    (codes "S", container_of [] Stream) ∷ []) 2 (codes "i" ∷ []) 0
+    (and_state no_item (transition 1 false None [] ∷ [])
+    (and_state
+    (and_item 5
+    (map_scope ((0, from_to (pos 0) (pos 0)) ∷ []) []
+    (and_item 6
+    (task
+    (code_of (port_of (codes "a") 0 ∷ []) (port_of (codes "s") 0 ∷ []) [] 0
+    (and_act (assign 1 no_value (input 0 no_value)) no_act))
+    (link_of (codes "a") 0 (Index (constant (pos 0)) ∷ []) None ∷ [])
+    (link_of (codes "s") 2 [] None ∷ []))
+    (and_item 10
+    (task
+    (code_of (port_of (codes "b") 0 ∷ []) (port_of (codes "s") 0 ∷ []) [] 0
+    (and_act (assign 1 no_value (input 0 no_value)) no_act))
+    (link_of (codes "b") 0 (Index (constant (pos 1)) ∷ []) None ∷ [])
+    (link_of (codes "s") 2 [] None ∷ [])) no_item))) no_item) [] no_state))
 
 -- two items that push into one stream are two moves
 two_pushes_are_in_no_order :
@@ -52,30 +52,30 @@ two_pushes_are_in_no_order_as_traced = refl
 abbrev sums_graph : GraphTree
 sums_graph =
     graph (codes "sums")
-      ((codes "A", container_of (constant (pos 2) ∷ []) Argument) ∷
-        (codes "R", container_of (constant (pos 1) ∷ []) Argument) ∷ []) 2 (codes "i" ∷ []) 0
-      (and_state no_item (transition 1 false None [] ∷ [])
-        (and_state
-          (and_item 4
-            (map_scope ((0, from_to (pos 0) (pos 0)) ∷ []) []
-              (and_item 5
-                (task
-                  (code_of (port_of (codes "_in0") 0 ∷ []) (port_of (codes "_out") 0 ∷ []) [] 0
-                    (and_act (assign 1 no_value (input 0 no_value)) no_act))
-                  (link_of (codes "_in0") 0 (Index (constant (pos 0)) ∷ []) None ∷ [])
-                  (link_of (codes "_out") 1 (Index (constant (pos 0)) ∷ []) (Some Sum) ∷ []))
-                (and_item 6
-                  (task
-                    (code_of (port_of (codes "_in0") 0 ∷ []) (port_of (codes "_out") 0 ∷ []) [] 0
-                      (and_act (assign 1 no_value (input 0 no_value)) no_act))
-                    (link_of (codes "_in0") 0 (Index (constant (pos 1)) ∷ []) None ∷ [])
-                    (link_of (codes "_out") 1 (Index (constant (pos 0)) ∷ []) (Some Sum) ∷ []))
-                  (and_item 7
-                    (task
-                      (code_of [] (port_of (codes "_out") 0 ∷ []) [] 0
-                        (and_act (assign 0 no_value (literal (pos 7))) no_act)) []
-                      (link_of (codes "_out") 1 (Index (constant (pos 0)) ∷ []) None ∷ []))
-                    no_item)))) no_item) [] no_state))
+    ((codes "A", container_of (constant (pos 2) ∷ []) Argument) ∷
+    (codes "R", container_of (constant (pos 1) ∷ []) Argument) ∷ []) 2 (codes "i" ∷ []) 0
+    (and_state no_item (transition 1 false None [] ∷ [])
+    (and_state
+    (and_item 4
+    (map_scope ((0, from_to (pos 0) (pos 0)) ∷ []) []
+    (and_item 5
+    (task
+    (code_of (port_of (codes "_in0") 0 ∷ []) (port_of (codes "_out") 0 ∷ []) [] 0
+    (and_act (assign 1 no_value (input 0 no_value)) no_act))
+    (link_of (codes "_in0") 0 (Index (constant (pos 0)) ∷ []) None ∷ [])
+    (link_of (codes "_out") 1 (Index (constant (pos 0)) ∷ []) (Some Sum) ∷ []))
+    (and_item 6
+    (task
+    (code_of (port_of (codes "_in0") 0 ∷ []) (port_of (codes "_out") 0 ∷ []) [] 0
+    (and_act (assign 1 no_value (input 0 no_value)) no_act))
+    (link_of (codes "_in0") 0 (Index (constant (pos 1)) ∷ []) None ∷ [])
+    (link_of (codes "_out") 1 (Index (constant (pos 0)) ∷ []) (Some Sum) ∷ []))
+    (and_item 7
+    (task
+    (code_of [] (port_of (codes "_out") 0 ∷ []) [] 0
+    (and_act (assign 0 no_value (literal (pos 7))) no_act)) []
+    (link_of (codes "_out") 1 (Index (constant (pos 0)) ∷ []) None ∷ []))
+    no_item)))) no_item) [] no_state))
 
 -- two items that resolve by one resolution are two moves, and what replaces waits for both
 sums_are_in_no_order :
@@ -95,34 +95,34 @@ sums_are_in_no_order_as_traced = refl
 abbrev middle_graph : GraphTree
 middle_graph =
     graph (codes "middle")
-      ((codes "A", container_of (constant (pos 2) ∷ []) Argument) ∷
-        (codes "B", container_of (constant (pos 2) ∷ []) Argument) ∷
-        (codes "C", container_of (constant (pos 2) ∷ []) Argument) ∷ []) 3 (codes "i" ∷ codes "j" ∷ []) 0
-      (and_state no_item (transition 1 false None [] ∷ [])
-        (and_state
-          (and_item 4
-            (map_scope ((0, from_to (pos 0) (pos 0)) ∷ []) []
-              (and_item 5
-                (task
-                  (code_of [] (port_of (codes "_out") 0 ∷ []) [] 0
-                    (and_act (assign 0 no_value (literal (pos 5))) no_act)) []
-                  (link_of (codes "_out") 0 (Index (constant (pos 0)) ∷ []) None ∷ []))
-                (and_item 6
-                  (map_scope ((1, from_to (pos 0) (negsuc 0)) ∷ []) []
-                    (and_item 7
-                      (task
-                        (code_of (port_of (codes "_in0") 0 ∷ []) (port_of (codes "_out") 0 ∷ []) [] 0
-                          (and_act (assign 1 no_value (input 0 no_value)) no_act))
-                        (link_of (codes "_in0") 0 (Index (constant (pos 0)) ∷ []) None ∷ [])
-                        (link_of (codes "_out") 1 (Index (constant (pos 1)) ∷ []) None ∷ []))
-                      no_item))
-                  (and_item 8
-                    (task
-                      (code_of (port_of (codes "_in0") 0 ∷ []) (port_of (codes "_out") 0 ∷ []) [] 0
-                        (and_act (assign 1 no_value (two signs.Add (input 0 no_value) (literal (pos 2)))) no_act))
-                      (link_of (codes "_in0") 1 (Index (constant (pos 1)) ∷ []) None ∷ [])
-                      (link_of (codes "_out") 2 (Index (constant (pos 1)) ∷ []) None ∷ []))
-                    no_item)))) no_item) [] no_state))
+    ((codes "A", container_of (constant (pos 2) ∷ []) Argument) ∷
+    (codes "B", container_of (constant (pos 2) ∷ []) Argument) ∷
+    (codes "C", container_of (constant (pos 2) ∷ []) Argument) ∷ []) 3 (codes "i" ∷ codes "j" ∷ []) 0
+    (and_state no_item (transition 1 false None [] ∷ [])
+    (and_state
+    (and_item 4
+    (map_scope ((0, from_to (pos 0) (pos 0)) ∷ []) []
+    (and_item 5
+    (task
+    (code_of [] (port_of (codes "_out") 0 ∷ []) [] 0
+    (and_act (assign 0 no_value (literal (pos 5))) no_act)) []
+    (link_of (codes "_out") 0 (Index (constant (pos 0)) ∷ []) None ∷ []))
+    (and_item 6
+    (map_scope ((1, from_to (pos 0) (negsuc 0)) ∷ []) []
+    (and_item 7
+    (task
+    (code_of (port_of (codes "_in0") 0 ∷ []) (port_of (codes "_out") 0 ∷ []) [] 0
+    (and_act (assign 1 no_value (input 0 no_value)) no_act))
+    (link_of (codes "_in0") 0 (Index (constant (pos 0)) ∷ []) None ∷ [])
+    (link_of (codes "_out") 1 (Index (constant (pos 1)) ∷ []) None ∷ []))
+    no_item))
+    (and_item 8
+    (task
+    (code_of (port_of (codes "_in0") 0 ∷ []) (port_of (codes "_out") 0 ∷ []) [] 0
+    (and_act (assign 1 no_value (two signs.Add (input 0 no_value) (literal (pos 2)))) no_act))
+    (link_of (codes "_in0") 1 (Index (constant (pos 1)) ∷ []) None ∷ [])
+    (link_of (codes "_out") 2 (Index (constant (pos 1)) ∷ []) None ∷ []))
+    no_item)))) no_item) [] no_state))
 
 -- an item waits for one before an item between them, also where that has nothing to do
 an_item_waits_over_one_between :
@@ -142,51 +142,51 @@ an_item_waits_over_one_between_as_traced = refl
 abbrev nest_graph : GraphTree
 nest_graph =
     graph (codes "nest")
-      ((codes "A", container_of (constant (pos 2) ∷ []) Argument) ∷
-        (codes "B", container_of (constant (pos 2) ∷ []) Argument) ∷
-        (codes "C", container_of (constant (pos 2) ∷ []) Argument) ∷ []) 3 (codes "i" ∷ []) 0
-      (and_state no_item (transition 1 false None [] ∷ [])
-        (and_state
-          (and_item 8
-            (map_scope ((0, from_to (pos 0) (pos 0)) ∷ []) []
-              (and_item 9
-                (task
-                  (code_of [] (port_of (codes "_out") 0 ∷ []) [] 0
-                    (and_act (assign 0 no_value (literal (pos 5))) no_act)) []
-                  (link_of (codes "_out") 0 (Index (constant (pos 0)) ∷ []) None ∷ []))
-                (and_item 10
-                  (nested_graph
-                    (graph (codes "reads")
-                      ((codes "X", container_of (constant (pos 2) ∷ []) Argument) ∷
-                        (codes "Y", container_of (constant (pos 2) ∷ []) Argument) ∷ []) 2 [] 0
-                      (and_state no_item
-                        (transition 1 false
-                            (Some
-                              (condition_of 4
-                                (link_of (codes "_in0") 0 (Index (constant (pos 0)) ∷ []) None ∷ [])
-                                (code_of (port_of (codes "_in0") 0 ∷ []) (port_of (codes "_out") 0 ∷ []) [] 0
-                                  (and_act
-                                    (assign 1 no_value (two signs.Greater (input 0 no_value) (literal (pos 0))))
-                                    no_act)))) [] ∷
-                          transition 3 false None [] ∷ [])
-                        (and_state no_item (transition 2 false None [] ∷ [])
-                          (and_state
-                            (and_item 5
-                              (task
-                                (code_of [] (port_of (codes "_out") 0 ∷ []) [] 0
-                                  (and_act (assign 0 no_value (literal (pos 1))) no_act))
-                                []
-                                (link_of (codes "_out") 1 (Index (constant (pos 0)) ∷ []) None ∷ []))
-                              no_item) (transition 3 false None [] ∷ [])
-                            (and_state no_item [] no_state)))))
-                    (link_of (codes "X") 0 (Span (from_to (pos 0) (pos 1)) ∷ []) None ∷
-                      link_of (codes "Y") 1 (Span (from_to (pos 0) (pos 1)) ∷ []) None ∷ []))
-                  (and_item 11
-                    (task
-                      (code_of [] (port_of (codes "_out") 0 ∷ []) [] 0
-                        (and_act (assign 0 no_value (literal (pos 3))) no_act)) []
-                      (link_of (codes "_out") 2 (Index (constant (pos 0)) ∷ []) None ∷ []))
-                    no_item)))) no_item) [] no_state))
+    ((codes "A", container_of (constant (pos 2) ∷ []) Argument) ∷
+    (codes "B", container_of (constant (pos 2) ∷ []) Argument) ∷
+    (codes "C", container_of (constant (pos 2) ∷ []) Argument) ∷ []) 3 (codes "i" ∷ []) 0
+    (and_state no_item (transition 1 false None [] ∷ [])
+    (and_state
+    (and_item 8
+    (map_scope ((0, from_to (pos 0) (pos 0)) ∷ []) []
+    (and_item 9
+    (task
+    (code_of [] (port_of (codes "_out") 0 ∷ []) [] 0
+    (and_act (assign 0 no_value (literal (pos 5))) no_act)) []
+    (link_of (codes "_out") 0 (Index (constant (pos 0)) ∷ []) None ∷ []))
+    (and_item 10
+    (nested_graph
+    (graph (codes "reads")
+    ((codes "X", container_of (constant (pos 2) ∷ []) Argument) ∷
+    (codes "Y", container_of (constant (pos 2) ∷ []) Argument) ∷ []) 2 [] 0
+    (and_state no_item
+    (transition 1 false
+    (Some
+    (condition_of 4
+    (link_of (codes "_in0") 0 (Index (constant (pos 0)) ∷ []) None ∷ [])
+    (code_of (port_of (codes "_in0") 0 ∷ []) (port_of (codes "_out") 0 ∷ []) [] 0
+    (and_act
+    (assign 1 no_value (two signs.Greater (input 0 no_value) (literal (pos 0))))
+    no_act)))) [] ∷
+    transition 3 false None [] ∷ [])
+    (and_state no_item (transition 2 false None [] ∷ [])
+    (and_state
+    (and_item 5
+    (task
+    (code_of [] (port_of (codes "_out") 0 ∷ []) [] 0
+    (and_act (assign 0 no_value (literal (pos 1))) no_act))
+    []
+    (link_of (codes "_out") 1 (Index (constant (pos 0)) ∷ []) None ∷ []))
+    no_item) (transition 3 false None [] ∷ [])
+    (and_state no_item [] no_state)))))
+    (link_of (codes "X") 0 (Span (from_to (pos 0) (pos 1)) ∷ []) None ∷
+    link_of (codes "Y") 1 (Span (from_to (pos 0) (pos 1)) ∷ []) None ∷ []))
+    (and_item 11
+    (task
+    (code_of [] (port_of (codes "_out") 0 ∷ []) [] 0
+    (and_act (assign 0 no_value (literal (pos 3))) no_act)) []
+    (link_of (codes "_out") 2 (Index (constant (pos 0)) ∷ []) None ∷ []))
+    no_item)))) no_item) [] no_state))
 
 -- a nested graph waits for what its condition reads, and others do not
 a_condition_reads_its_parameter :

@@ -3,12 +3,12 @@ use Rattle.std.proofs.Common.{◌≡◌, ℕ, ℤ, pos, negsuc, List, [], ◌∷
 use Rattle.sd_range.specs.declared.subset.Dim.{Dim}
 use Rattle.sd_range.specs.declared.subset.Dim.TheVariants.{Index, Span}
 use Rattle.sd_work.specs.Memory.{array, stream}
-use Rattle.sd_graph.specs.PlainTree.{no_state}
+use Rattle.sd_work.specs.Residual.{ended, list, Points, owning, also, none}
 use Rattle.sd_graph.specs.RowOrder.{row_number}
 use Rattle.sd_graph.specs.ContainerParts.{Containers, container_at}
 use Rattle.sd_graph.specs.TaskletMeaning.{Effect}
 use Rattle.sd_graph.specs.Context.{Context, span_counts, index_at, found, own_reach, view, private_memory}
-use Rattle.sd_graph.specs.Unfold.{cut, does_hold, exit_of, element_memory, in_graph, run_memory, target_place}
+use Rattle.sd_graph.specs.Unfold.{cut, does_hold, exit_of, element_memory, in_any_order, in_graph, map_over, run_memory, target_place}
 use Rattle.sd_graph.specs.declared.container.ContainerKind.TheVariants.{Argument, Transient, Private, Stream, PrivateStream}
 use Rattle.sd_graph.proofs.examples.ExampleParts.{constant, range_of, from_to, of_variable, container_of, transition}
 
@@ -66,7 +66,7 @@ a_point_has_its_private_containers :
     private_memory containers (3 ∷ 4 ∷ []) ≡ array [] ∷ array [] ∷ array [] ∷ array (pos 0 ∷ []) ∷ stream [] ∷ array [] ∷ []
 a_point_has_its_private_containers = refl
 
--- ---- conditions and transitions
+-- ---- points, conditions and transitions
 
 abbrev at_values : (first second : ℤ) → Context
 at_values first second = in_graph containers [] [] (own_reach containers) [] (first ∷ second ∷ [])
@@ -75,6 +75,12 @@ an_element_has_the_value_taken :
     element_memory (at_values (pos 0) (pos 0)) 5 (3 ∷ []) (negsuc 6)
     ≡ array [] ∷ array [] ∷ array [] ∷ array (pos 0 ∷ []) ∷ array [] ∷ array (negsuc 6 ∷ []) ∷ []
 an_element_has_the_value_taken = refl
+
+-- a point has its memory, and the points are no items
+a_map_is_a_list_of_points :
+    map_over (at_values (pos 0) (pos 0)) [] (3 ∷ []) (λ inside. ended []) ((pos 1 ∷ []) ∷ [])
+    ≡ list Points in_any_order (also (owning (private_memory containers (3 ∷ [])) (ended [])) none)
+a_map_is_a_list_of_points = refl
 
 abbrev effect : ℤ → Effect
 effect value = record { connector = 0; at = []; value = value }

@@ -15,19 +15,19 @@ use Rattle.sd_graph.proofs.examples.ExampleParts.{constant, from_to, of_variable
 abbrev inc_graph : GraphTree
 inc_graph =
     graph (codes "inc")
-      ((codes "A", container_of (constant (pos 3) ∷ []) Argument) ∷
-        (codes "B", container_of (constant (pos 3) ∷ []) Argument) ∷ []) 2 (codes "N" ∷ codes "i" ∷ []) 0
-      (and_state no_item (transition 1 false None [] ∷ [])
-        (and_state
-          (and_item 6
-            (map_scope ((1, from_to (pos 0) (pos 2)) ∷ []) []
-              (and_item 7
-                (task
-                  (code_of (port_of (codes "_in0") 0 ∷ []) (port_of (codes "_out") 0 ∷ []) [] 0
-                    (and_act (assign 1 no_value (two signs.Add (input 0 no_value) (literal (pos 1)))) no_act))
-                  (link_of (codes "_in0") 0 (Index (of_variable 1) ∷ []) None ∷ [])
-                  (link_of (codes "_out") 1 (Index (of_variable 1) ∷ []) None ∷ [])) no_item)) no_item) []
-          no_state))
+    ((codes "A", container_of (constant (pos 3) ∷ []) Argument) ∷
+    (codes "B", container_of (constant (pos 3) ∷ []) Argument) ∷ []) 2 (codes "N" ∷ codes "i" ∷ []) 0
+    (and_state no_item (transition 1 false None [] ∷ [])
+    (and_state
+    (and_item 6
+    (map_scope ((1, from_to (pos 0) (pos 2)) ∷ []) []
+    (and_item 7
+    (task
+    (code_of (port_of (codes "_in0") 0 ∷ []) (port_of (codes "_out") 0 ∷ []) [] 0
+    (and_act (assign 1 no_value (two signs.Add (input 0 no_value) (literal (pos 1)))) no_act))
+    (link_of (codes "_in0") 0 (Index (of_variable 1) ∷ []) None ∷ [])
+    (link_of (codes "_out") 1 (Index (of_variable 1) ∷ []) None ∷ [])) no_item)) no_item) []
+    no_state))
 
 -- each element of B is that of A and 1 more
 one_is_added_to_each :
@@ -41,19 +41,19 @@ one_is_added_to_each = (refl, refl)
 abbrev hist_graph : GraphTree
 hist_graph =
     graph (codes "hist")
-      ((codes "A", container_of (constant (pos 5) ∷ []) Argument) ∷
-        (codes "H", container_of (constant (pos 4) ∷ []) Argument) ∷ []) 2 (codes "N" ∷ codes "i" ∷ []) 0
-      (and_state no_item (transition 1 false None [] ∷ [])
-        (and_state
-          (and_item 5
-            (map_scope ((1, from_to (pos 0) (pos 4)) ∷ []) []
-              (and_item 6
-                (task
-                  (code_of (port_of (codes "a") 0 ∷ []) (port_of (codes "h") 1 ∷ []) [] 0
-                    (and_act (assign 1 (and_value (input 0 no_value) no_value) (literal (pos 1))) no_act))
-                  (link_of (codes "a") 0 (Index (of_variable 1) ∷ []) None ∷ [])
-                  (link_of (codes "h") 1 (Span (from_to (pos 0) (pos 3)) ∷ []) (Some Sum) ∷ []))
-                no_item)) no_item) [] no_state))
+    ((codes "A", container_of (constant (pos 5) ∷ []) Argument) ∷
+    (codes "H", container_of (constant (pos 4) ∷ []) Argument) ∷ []) 2 (codes "N" ∷ codes "i" ∷ []) 0
+    (and_state no_item (transition 1 false None [] ∷ [])
+    (and_state
+    (and_item 5
+    (map_scope ((1, from_to (pos 0) (pos 4)) ∷ []) []
+    (and_item 6
+    (task
+    (code_of (port_of (codes "a") 0 ∷ []) (port_of (codes "h") 1 ∷ []) [] 0
+    (and_act (assign 1 (and_value (input 0 no_value) no_value) (literal (pos 1))) no_act))
+    (link_of (codes "a") 0 (Index (of_variable 1) ∷ []) None ∷ [])
+    (link_of (codes "h") 1 (Span (from_to (pos 0) (pos 3)) ∷ []) (Some Sum) ∷ []))
+    no_item)) no_item) [] no_state))
 
 -- a value says which element is counted
 values_are_counted :
@@ -74,39 +74,39 @@ a_value_outside_is_a_fault = (refl, refl)
 abbrev fib_graph : GraphTree
 fib_graph =
     graph (codes "fib")
-      ((codes "iv", container_of (constant (pos 1) ∷ []) Argument) ∷
-        (codes "res", container_of (constant (pos 1) ∷ []) Argument) ∷
-        (codes "S", container_of [] Stream) ∷
-        (codes "elem", container_of (constant (pos 1) ∷ []) Private) ∷ []) 2 [] 0
-      (and_state no_item (transition 1 false None [] ∷ [])
-        (and_state
-          (and_item 5
-            (task
-              (code_of (port_of (codes "inp") 0 ∷ []) (port_of (codes "out") 0 ∷ []) [] 0
-                (and_act (assign 1 no_value (input 0 no_value)) no_act))
-              (link_of (codes "inp") 0 (Index (constant (pos 0)) ∷ []) None ∷ [])
-              (link_of (codes "out") 2 [] None ∷ [])) no_item) (transition 2 false None [] ∷ [])
-          (and_state
-            (and_item 9
-              (consume_scope 2 3 []
-                (and_item 9
-                  (task
-                    (code_of (port_of (codes "elem") 0 ∷ []) (port_of (codes "sout") 0 ∷ port_of (codes "val") 0 ∷ [])
-                      [] 0
-                      (and_act
-                        (branch (two signs.Equal (input 0 no_value) (literal (pos 1)))
-                          (and_act (assign 2 no_value (literal (pos 1))) no_act)
-                          (and_act
-                            (branch (two signs.Greater (input 0 no_value) (literal (pos 1)))
-                              (and_act
-                                (assign 1 no_value (two signs.Sub (input 0 no_value) (literal (pos 1))))
-                                (and_act
-                                  (assign 1 no_value (two signs.Sub (input 0 no_value) (literal (pos 2)))) no_act))
-                              no_act) no_act)) no_act))
-                    (link_of (codes "elem") 3 (Index (constant (pos 0)) ∷ []) None ∷ [])
-                    (link_of (codes "sout") 2 [] None ∷
-                      link_of (codes "val") 1 (Index (constant (pos 0)) ∷ []) (Some Sum) ∷ []))
-                  no_item)) no_item) [] no_state)))
+    ((codes "iv", container_of (constant (pos 1) ∷ []) Argument) ∷
+    (codes "res", container_of (constant (pos 1) ∷ []) Argument) ∷
+    (codes "S", container_of [] Stream) ∷
+    (codes "elem", container_of (constant (pos 1) ∷ []) Private) ∷ []) 2 [] 0
+    (and_state no_item (transition 1 false None [] ∷ [])
+    (and_state
+    (and_item 5
+    (task
+    (code_of (port_of (codes "inp") 0 ∷ []) (port_of (codes "out") 0 ∷ []) [] 0
+    (and_act (assign 1 no_value (input 0 no_value)) no_act))
+    (link_of (codes "inp") 0 (Index (constant (pos 0)) ∷ []) None ∷ [])
+    (link_of (codes "out") 2 [] None ∷ [])) no_item) (transition 2 false None [] ∷ [])
+    (and_state
+    (and_item 9
+    (consume_scope 2 3 []
+    (and_item 9
+    (task
+    (code_of (port_of (codes "elem") 0 ∷ []) (port_of (codes "sout") 0 ∷ port_of (codes "val") 0 ∷ [])
+    [] 0
+    (and_act
+    (branch (two signs.Equal (input 0 no_value) (literal (pos 1)))
+    (and_act (assign 2 no_value (literal (pos 1))) no_act)
+    (and_act
+    (branch (two signs.Greater (input 0 no_value) (literal (pos 1)))
+    (and_act
+    (assign 1 no_value (two signs.Sub (input 0 no_value) (literal (pos 1))))
+    (and_act
+    (assign 1 no_value (two signs.Sub (input 0 no_value) (literal (pos 2)))) no_act))
+    no_act) no_act)) no_act))
+    (link_of (codes "elem") 3 (Index (constant (pos 0)) ∷ []) None ∷ [])
+    (link_of (codes "sout") 2 [] None ∷
+    link_of (codes "val") 1 (Index (constant (pos 0)) ∷ []) (Some Sum) ∷ []))
+    no_item)) no_item) [] no_state)))
 
 -- a pool fills its own stream
 a_pool_fills_its_stream :
@@ -125,39 +125,39 @@ each_element_spends_a_turn = (refl, refl)
 abbrev priv_graph : GraphTree
 priv_graph =
     graph (codes "priv")
-      ((codes "A", container_of (constant (pos 2) ∷ []) Argument) ∷
-        (codes "B", container_of (constant (pos 2) ∷ []) Argument) ∷
-        (codes "T", container_of (constant (pos 2) ∷ []) Private) ∷
-        (codes "S", container_of [] PrivateStream) ∷
-        (codes "e", container_of (constant (pos 1) ∷ []) Private) ∷ []) 2 (codes "i" ∷ []) 0
-      (and_state no_item (transition 1 false None [] ∷ [])
-        (and_state
-          (and_item 4
-            (map_scope ((0, from_to (pos 0) (pos 1)) ∷ []) (2 ∷ 3 ∷ [])
-              (and_item 7
-                (task
-                  (code_of (port_of (codes "_in0") 0 ∷ port_of (codes "_in1") 0 ∷ []) (port_of (codes "_out") 0 ∷ [])
-                    [] 0
-                    (and_act (assign 2 no_value (two signs.Mul (input 0 no_value) (input 1 no_value))) no_act))
-                  (link_of (codes "_in0") 0 (Index (of_variable 0) ∷ []) None ∷
-                    link_of (codes "_in1") 0 (Index (of_variable 0) ∷ []) None ∷ [])
-                  (link_of (codes "_out") 2 (Index (constant (pos 1)) ∷ []) None ∷ []))
-                (and_item 8
-                  (task
-                    (code_of (port_of (codes "t") 0 ∷ []) (port_of (codes "s") 0 ∷ []) [] 0
-                      (and_act (assign 1 no_value (input 0 no_value))
-                        (and_act (assign 1 no_value (two signs.Add (input 0 no_value) (literal (pos 1)))) no_act)))
-                    (link_of (codes "t") 2 (Index (constant (pos 1)) ∷ []) None ∷ [])
-                    (link_of (codes "s") 3 [] None ∷ []))
-                  (and_item 13
-                    (consume_scope 3 4 []
-                      (and_item 13
-                        (task
-                          (code_of (port_of (codes "e") 0 ∷ []) (port_of (codes "b") 0 ∷ []) [] 0
-                            (and_act (assign 1 no_value (input 0 no_value)) no_act))
-                          (link_of (codes "e") 4 (Index (constant (pos 0)) ∷ []) None ∷ [])
-                          (link_of (codes "b") 1 (Index (of_variable 0) ∷ []) (Some Sum) ∷ []))
-                        no_item)) no_item)))) no_item) [] no_state))
+    ((codes "A", container_of (constant (pos 2) ∷ []) Argument) ∷
+    (codes "B", container_of (constant (pos 2) ∷ []) Argument) ∷
+    (codes "T", container_of (constant (pos 2) ∷ []) Private) ∷
+    (codes "S", container_of [] PrivateStream) ∷
+    (codes "e", container_of (constant (pos 1) ∷ []) Private) ∷ []) 2 (codes "i" ∷ []) 0
+    (and_state no_item (transition 1 false None [] ∷ [])
+    (and_state
+    (and_item 4
+    (map_scope ((0, from_to (pos 0) (pos 1)) ∷ []) (2 ∷ 3 ∷ [])
+    (and_item 7
+    (task
+    (code_of (port_of (codes "_in0") 0 ∷ port_of (codes "_in1") 0 ∷ []) (port_of (codes "_out") 0 ∷ [])
+    [] 0
+    (and_act (assign 2 no_value (two signs.Mul (input 0 no_value) (input 1 no_value))) no_act))
+    (link_of (codes "_in0") 0 (Index (of_variable 0) ∷ []) None ∷
+    link_of (codes "_in1") 0 (Index (of_variable 0) ∷ []) None ∷ [])
+    (link_of (codes "_out") 2 (Index (constant (pos 1)) ∷ []) None ∷ []))
+    (and_item 8
+    (task
+    (code_of (port_of (codes "t") 0 ∷ []) (port_of (codes "s") 0 ∷ []) [] 0
+    (and_act (assign 1 no_value (input 0 no_value))
+    (and_act (assign 1 no_value (two signs.Add (input 0 no_value) (literal (pos 1)))) no_act)))
+    (link_of (codes "t") 2 (Index (constant (pos 1)) ∷ []) None ∷ [])
+    (link_of (codes "s") 3 [] None ∷ []))
+    (and_item 13
+    (consume_scope 3 4 []
+    (and_item 13
+    (task
+    (code_of (port_of (codes "e") 0 ∷ []) (port_of (codes "b") 0 ∷ []) [] 0
+    (and_act (assign 1 no_value (input 0 no_value)) no_act))
+    (link_of (codes "e") 4 (Index (constant (pos 0)) ∷ []) None ∷ [])
+    (link_of (codes "b") 1 (Index (of_variable 0) ∷ []) (Some Sum) ∷ []))
+    no_item)) no_item)))) no_item) [] no_state))
 
 -- private containers of points
 points_have_containers_of_their_own :

@@ -89,14 +89,14 @@ a_consume_scope_takes_and_hides_its_element = refl
 abbrev inner : GraphTree
 inner =
     graph (codes "inner")
-      ((codes "R", container_of (constant (pos 4) ∷ []) Argument) ∷
-        (codes "Q", container_of (constant (pos 4) ∷ []) Argument) ∷
-        (codes "X", container_of (constant (pos 4) ∷ []) Argument) ∷
-        (codes "L", container_of (constant (pos 4) ∷ []) Argument) ∷
-        (codes "N", container_of (constant (pos 4) ∷ []) Argument) ∷ []) 5 [] 0
-      (and_state (and_item 1 (from_into (on 2) (link_by (Some Sum) 1)) no_item)
-        (transition 1 false (Some (condition_of 2 (on 0 ∷ []) (code_of [] [] [] 0 no_act))) [] ∷ [])
-        (and_state (and_item 3 (from_into (on 3) (link_by (Some Sum) 1)) (and_item 4 (from_into (on 3) (link_by (Some Max) 2)) no_item)) [] no_state))
+    ((codes "R", container_of (constant (pos 4) ∷ []) Argument) ∷
+    (codes "Q", container_of (constant (pos 4) ∷ []) Argument) ∷
+    (codes "X", container_of (constant (pos 4) ∷ []) Argument) ∷
+    (codes "L", container_of (constant (pos 4) ∷ []) Argument) ∷
+    (codes "N", container_of (constant (pos 4) ∷ []) Argument) ∷ []) 5 [] 0
+    (and_state (and_item 1 (from_into (on 2) (link_by (Some Sum) 1)) no_item)
+    (transition 1 false (Some (condition_of 2 (on 0 ∷ []) (code_of [] [] [] 0 no_act))) [] ∷ [])
+    (and_state (and_item 3 (from_into (on 3) (link_by (Some Sum) 1)) (and_item 4 (from_into (on 3) (link_by (Some Max) 2)) no_item)) [] no_state))
 
 -- each parameter gives its link's container one mode
 a_nested_graph_does_what_it_does_to_its_parameters :
@@ -108,7 +108,7 @@ a_nested_graph_does_what_it_does_to_its_parameters = refl
 abbrev two_resolutions : GraphTree
 two_resolutions =
     graph (codes "inner") ((codes "X", container_of (constant (pos 4) ∷ []) Argument) ∷ []) 1 [] 0
-      (and_state (and_item 1 (reduction Max None None (on 1) (on 0)) (and_item 2 (reduction Sum None None (on 1) (on 0)) no_item)) [] no_state)
+    (and_state (and_item 1 (reduction Max None None (on 1) (on 0)) (and_item 2 (reduction Sum None None (on 1) (on 0)) no_item)) [] no_state)
 
 two_resolutions_of_a_parameter_are_a_write : kind_uses (nested_graph two_resolutions (on 0 ∷ [])) containers ≡ use_on Write 0 ∷ []
 two_resolutions_of_a_parameter_are_a_write = refl

@@ -1,4 +1,4 @@
-use Rattle.std.proofs.Common.{◌≡◌, ap, ◌∙◌, sym}
+use Rattle.std.proofs.Common.{ap, ◌∙◌, sym}
 use Rattle.sd_graph.specs.TreeParts.{has_name, containers_of}
 use Rattle.sd_graph.proofs.NameLemmas.{name_found}
 use Rattle.sd_graph.proofs.TreeLemmas.{graph_opened}
