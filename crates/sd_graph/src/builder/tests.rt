@@ -102,14 +102,16 @@ fn states_items_and_transitions_come_last(rt: HostRuntime) {
     assert!(rt; graph.push_state(no_work(alloc)) == Ok(1));
 }
 
+/// Whether the copy of a graph with a stream of this name and one state has them alone.
+fn copies(alloc: Global, name: &str) -> Result<bool, NoMemory> {
+    let mut graph = empty(alloc);
+    let _stream = push_stream(&mut graph, alloc, name)?;
+    let _state = graph.push_state(no_work(alloc))?;
+    let copy = graph.copy_of(alloc)?;
+    Ok(copy.has_container(name) && copy.containers.len() == 1 && copy.states.len() == 1)
+}
+
 #[test]
 fn a_copy_has_what_it_is_of(rt: HostRuntime) {
-    let alloc = rt.alloc();
-    let mut graph = empty(alloc);
-    assert!(rt; push_stream(&mut graph, alloc, "S") == Ok(Some(0)));
-    assert!(rt; graph.push_state(no_work(alloc)) == Ok(0));
-    let Ok(copy) = graph.copy_of(alloc) else {
-        unreachable!()
-    };
-    assert!(rt; copy.has_container("S") && copy.states.len() == 1);
+    assert!(rt; copies(rt.alloc(), "S") == Ok(true));
 }
