@@ -13,4 +13,10 @@ pub mod UnfoldedNew
 pub mod UnfoldedCycles
 pub mod UnfoldedPools
 pub mod UnfoldedTouches
+pub mod Reached
+pub mod LeafThere
+pub mod UnfoldedThere
+pub mod TouchesThere
+pub mod StillThere
+pub mod Openings
 pub mod examples

@@ -8,3 +8,5 @@ pub mod GraphExamples
 pub mod OrderExamples
 pub mod PlaceExamples
 pub mod ElementExamples
+pub mod ThereExamples
+pub mod InForceExamples
