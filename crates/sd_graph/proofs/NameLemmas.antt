@@ -7,7 +7,7 @@ use Rattle.std.specs.Map.{keys_of, lookup}
 use Rattle.std.specs.declared.alloc.Global.{Global}
 use Rattle.std.proofs.lemmas.Map.Keys.{IsDistinct-head, IsDistinct-tail}
 use Rattle.indexmap.specs.IndexMap.{insert_entry}
-use Rattle.sd_graph.specs.TreeFold.{container_of}
+use Rattle.sd_graph.specs.TreeFold.{named_container}
 use Rattle.sd_graph.specs.TreeParts.{has_name}
 use Rattle.sd_graph.specs.declared.container.Container.{Container}
 
@@ -23,13 +23,13 @@ none_of_two true second new = cc
 
 -- one more container with a new name
 pub entries_grown : (entries : List (String Global × Container)) (name : String Global) (container : Container) →
-    has_name (map container_of entries) (string_bytes name) ≡ false →
-    map container_of (insert_entry string_eq entries name container) ≡ map container_of entries ++ (string_bytes name, container) ∷ []
+    has_name (map named_container entries) (string_bytes name) ≡ false →
+    map named_container (insert_entry string_eq entries name container) ≡ map named_container entries ++ (string_bytes name, container) ∷ []
 entries_grown [] name container new = refl
 entries_grown (entry ∷ entries) name container new =
-    let news = none_of_two (string_eq name entry.0) (has_name (map container_of entries) (string_bytes name)) new in
-    ap (map container_of) (put_last (string_eq name entry.0) entry entries (insert_entry string_eq entries name container) container news.0)
-    ∙ ap (λ rest. container_of entry ∷ rest) (entries_grown entries name container news.1)
+    let news = none_of_two (string_eq name entry.0) (has_name (map named_container entries) (string_bytes name)) new in
+    ap (map named_container) (put_last (string_eq name entry.0) entry entries (insert_entry string_eq entries name container) container news.0)
+    ∙ ap (λ rest. named_container entry ∷ rest) (entries_grown entries name container news.1)
 
 found_first : (same : Bool) (value : Container) (rest : Option Container) → is_some (cond same (Some value) rest) ≡ (same || is_some rest)
 found_first false value rest = refl
@@ -37,7 +37,7 @@ found_first true value rest = refl
 
 -- a map has a value at a name where one of its containers has the name
 pub name_found : (entries : List (String Global × Container)) (name : List ℕ) →
-    is_some (lookup (λ key. bytes_eq name (string_bytes key)) entries) ≡ has_name (map container_of entries) name
+    is_some (lookup (λ key. bytes_eq name (string_bytes key)) entries) ≡ has_name (map named_container entries) name
 name_found [] name = refl
 name_found (entry ∷ entries) name =
     found_first (bytes_eq name (string_bytes entry.0)) entry.1 (lookup (λ key. bytes_eq name (string_bytes key)) entries)
@@ -55,12 +55,12 @@ neither false second one other = other
 neither true second one other = cc
 
 name_is_none : (entries : List (String Global × Container)) (name : String Global) →
-    AllByRecursion (λ key. string_eq name key ≡ false) (keys_of entries) → has_name (map container_of entries) (string_bytes name) ≡ false
+    AllByRecursion (λ key. string_eq name key ≡ false) (keys_of entries) → has_name (map named_container entries) (string_bytes name) ≡ false
 name_is_none [] name all = refl
 name_is_none (entry ∷ entries) name all =
-    neither (string_eq name entry.0) (has_name (map container_of entries) (string_bytes name)) all.0 (name_is_none entries name all.1)
+    neither (string_eq name entry.0) (has_name (map named_container entries) (string_bytes name)) all.0 (name_is_none entries name all.1)
 
-names_differ : (entries : List (String Global × Container)) → IsDistinct string_eq (keys_of entries) → NamesDiffer (map container_of entries)
+names_differ : (entries : List (String Global × Container)) → IsDistinct string_eq (keys_of entries) → NamesDiffer (map named_container entries)
 names_differ [] distinct = tt
 names_differ (entry ∷ entries) distinct =
     (name_is_none entries entry.0 (IsDistinct-head string_eq entry.0 (keys_of entries) distinct), names_differ entries (IsDistinct-tail string_eq entry.0 (keys_of entries) distinct))
@@ -82,7 +82,7 @@ not_before (first ∷ before) entry rest differ =
 
 -- of containers that are those of a map, each has a name that is new to those before it
 pub name_is_new : (before : List (List ℕ × Container)) (entry : List ℕ × Container) (rest : List (List ℕ × Container)) (entries : List (String Global × Container)) →
-    before ++ entry ∷ rest ≡ map container_of entries → IsDistinct string_eq (keys_of entries) → has_name before entry.0 ≡ false
+    before ++ entry ∷ rest ≡ map named_container entries → IsDistinct string_eq (keys_of entries) → has_name before entry.0 ≡ false
 name_is_new before entry rest entries all distinct = not_before before entry rest (subst NamesDiffer (sym all) (names_differ entries distinct))
 
 one_further : {A : Type 0} (before : List A) (member : A) (rest : List A) → (before ++ member ∷ []) ++ rest ≡ before ++ member ∷ rest
@@ -93,14 +93,14 @@ one_further (first ∷ before) member rest = ap (λ others. first ∷ others) (o
 pub one_more_copied : (before grown left rest entries : List (String Global × Container)) (name name_copy : String Global) (container copy : Container) →
     grown ≡ insert_entry string_eq before name_copy copy → left ≡ (name, container) ∷ rest →
     string_bytes name_copy ≡ string_bytes name → copy ≡ container → IsDistinct string_eq (keys_of entries) →
-    map container_of before ++ map container_of left ≡ map container_of entries →
-    map container_of grown ++ map container_of rest ≡ map container_of entries
+    map named_container before ++ map named_container left ≡ map named_container entries →
+    map named_container grown ++ map named_container rest ≡ map named_container entries
 one_more_copied before grown left rest entries name name_copy container copy inserted taken same equal distinct all =
-    let all_of : map container_of before ++ (string_bytes name, container) ∷ map container_of rest ≡ map container_of entries = subst (λ left. map container_of before ++ map container_of left ≡ map container_of entries) taken all in
-    let new : has_name (map container_of before) (string_bytes name) ≡ false = name_is_new (map container_of before) (string_bytes name, container) (map container_of rest) entries all_of distinct in
-    ap (λ entries. map container_of entries ++ map container_of rest) inserted
-    ∙ ap (λ grown. grown ++ map container_of rest) (entries_grown before name_copy copy (ap (has_name (map container_of before)) same ∙ new))
-    ∙ one_further (map container_of before) (string_bytes name_copy, copy) (map container_of rest)
-    ∙ ap (λ bytes. map container_of before ++ (bytes, copy) ∷ map container_of rest) same
-    ∙ ap (λ made. map container_of before ++ (string_bytes name, made) ∷ map container_of rest) equal
+    let all_of : map named_container before ++ (string_bytes name, container) ∷ map named_container rest ≡ map named_container entries = subst (λ left. map named_container before ++ map named_container left ≡ map named_container entries) taken all in
+    let new : has_name (map named_container before) (string_bytes name) ≡ false = name_is_new (map named_container before) (string_bytes name, container) (map named_container rest) entries all_of distinct in
+    ap (λ entries. map named_container entries ++ map named_container rest) inserted
+    ∙ ap (λ grown. grown ++ map named_container rest) (entries_grown before name_copy copy (ap (has_name (map named_container before)) same ∙ new))
+    ∙ one_further (map named_container before) (string_bytes name_copy, copy) (map named_container rest)
+    ∙ ap (λ bytes. map named_container before ++ (bytes, copy) ∷ map named_container rest) same
+    ∙ ap (λ made. map named_container before ++ (string_bytes name, made) ∷ map named_container rest) equal
     ∙ all_of

@@ -1,6 +1,6 @@
 //! Copies of what holds itself: what items do, items, states and graphs.
 ghost use Rattle.std.specs.Prelude.{◌≡◌, map, string_bytes, IfOk};
-ghost use Rattle.sd_graph.specs.TreeFold.{container_of, graph_of, item_of, items_of, kind_of, state_of, states_of};
+ghost use Rattle.sd_graph.specs.TreeFold.{named_container, graph_tree, item_tree, item_trees, kind_tree, state_tree, state_trees};
 
 use crate::container::Container;
 use crate::graph::{Item, ItemKind, Sdfg, State};
@@ -14,7 +14,7 @@ impl ItemKind {
     /// The same once more.
     #[cycle(copying)]
     pub fn copy_of(&self, alloc: Global) -> Result<ItemKind, NoMemory>
-        ensures { IfOk result (λ copy. kind_of copy ≡ kind_of self.now) }
+        ensures { IfOk result (λ copy. kind_tree copy ≡ kind_tree self.now) }
     {
         match self {
             ItemKind::Task { code, ins, outs } => Ok(ItemKind::Task {
@@ -71,7 +71,7 @@ impl Item {
     /// The same item once more.
     #[cycle(copying)]
     pub fn copy_of(&self, alloc: Global) -> Result<Item, NoMemory>
-        ensures { IfOk result (λ copy. item_of copy ≡ item_of self.now) }
+        ensures { IfOk result (λ copy. item_tree copy ≡ item_tree self.now) }
     {
         Ok(Item {
             line: self.line,
@@ -84,7 +84,7 @@ impl State {
     /// The same state once more.
     #[cycle(copying)]
     pub fn copy_of(&self, alloc: Global) -> Result<State, NoMemory>
-        ensures { IfOk result (λ copy. state_of copy ≡ state_of self.now) }
+        ensures { IfOk result (λ copy. state_tree copy ≡ state_tree self.now) }
     {
         Ok(State {
             items: copied_items(alloc, &self.items)?,
@@ -97,7 +97,7 @@ impl Sdfg {
     /// The same graph once more.
     #[cycle(copying)]
     pub fn copy_of(&self, alloc: Global) -> Result<Sdfg, NoMemory>
-        ensures { IfOk result (λ copy. graph_of copy ≡ graph_of self.now) }
+        ensures { IfOk result (λ copy. graph_tree copy ≡ graph_tree self.now) }
     {
         Ok(Sdfg {
             name: self.name.as_str().to_string(alloc)?,
@@ -113,7 +113,7 @@ impl Sdfg {
 /// The same items once more.
 #[cycle(copying)]
 fn copied_items(alloc: Global, items: &[Item]) -> Result<Vec<Item>, NoMemory>
-    ensures { IfOk result (λ copy. items_of copy.items ≡ items_of items.now) }
+    ensures { IfOk result (λ copy. item_trees copy.items ≡ item_trees items.now) }
 {
     let mut copy = Vec::with_capacity(alloc, items.len())?;
     for item in items {
@@ -125,7 +125,7 @@ fn copied_items(alloc: Global, items: &[Item]) -> Result<Vec<Item>, NoMemory>
 /// The same states once more.
 #[cycle(copying)]
 fn copied_states(alloc: Global, states: &[State]) -> Result<Vec<State>, NoMemory>
-    ensures { IfOk result (λ copy. states_of copy.items ≡ states_of states.now) }
+    ensures { IfOk result (λ copy. state_trees copy.items ≡ state_trees states.now) }
 {
     let mut copy = Vec::with_capacity(alloc, states.len())?;
     for state in states {
@@ -161,7 +161,7 @@ fn copied_containers(
     alloc: Global,
     containers: &IndexMap<String, Container>,
 ) -> Result<IndexMap<String, Container>, NoMemory>
-    ensures { IfOk result (λ copy. map container_of copy.entries ≡ map container_of containers.now.entries) }
+    ensures { IfOk result (λ copy. map named_container copy.entries ≡ map named_container containers.now.entries) }
 {
     let mut copy = IndexMap::with_capacity(alloc, containers.len())?;
     for (name, container) in containers.iter() {

@@ -1,5 +1,5 @@
 ghost use Rattle.std.specs.Prelude.{◌≡◌, map, IfOk};
-ghost use Rattle.sd_graph.specs.TreeFold.{guard_of, exit_of};
+ghost use Rattle.sd_graph.specs.TreeFold.{guard_tree, exit_tree};
 
 use crate::link::{self, Link};
 use crate::tasklet::Tasklet;
@@ -18,7 +18,7 @@ pub struct Guard {
 impl Guard {
     /// The same condition once more.
     pub fn copy_of(&self, alloc: Global) -> Result<Guard, NoMemory>
-        ensures { IfOk result (λ copy. guard_of copy ≡ guard_of self.now) }
+        ensures { IfOk result (λ copy. guard_tree copy ≡ guard_tree self.now) }
     {
         let reads = link::copied(alloc, self.reads.as_slice())?;
         Ok(Guard {
@@ -45,7 +45,7 @@ pub struct Exit {
 impl Exit {
     /// The same transition once more.
     pub fn copy_of(&self, alloc: Global) -> Result<Exit, NoMemory>
-        ensures { IfOk result (λ copy. exit_of copy ≡ exit_of self.now) }
+        ensures { IfOk result (λ copy. exit_tree copy ≡ exit_tree self.now) }
     {
         let when = match &self.when {
             None => None,
@@ -77,7 +77,7 @@ fn copied_assignments(
 
 /// The same transitions once more.
 pub(crate) fn copied(alloc: Global, exits: &[Exit]) -> Result<Vec<Exit>, NoMemory>
-    ensures { IfOk result (λ copy. map exit_of copy.items ≡ map exit_of exits.now) }
+    ensures { IfOk result (λ copy. map exit_tree copy.items ≡ map exit_tree exits.now) }
 {
     let mut copy = Vec::with_capacity(alloc, exits.len())?;
     for exit in exits {

@@ -1,5 +1,5 @@
 ghost use Rattle.std.specs.Prelude.{◌≡◌, IfOk};
-ghost use Rattle.sd_graph.specs.TreeFold.{graph_of};
+ghost use Rattle.sd_graph.specs.TreeFold.{graph_tree};
 
 use crate::container::Container;
 use crate::exit::Exit;
@@ -93,7 +93,7 @@ pub struct Bound {
 impl Bound {
     /// The same graph once more.
     pub fn copy_of(&self, alloc: Global) -> Result<Bound, NoMemory>
-        ensures { IfOk result (λ copy. graph_of copy.graph ≡ graph_of self.now.graph) }
+        ensures { IfOk result (λ copy. graph_tree copy.graph ≡ graph_tree self.now.graph) }
     {
         Ok(Bound {
             graph: self.graph.copy_of(alloc)?,

@@ -1,5 +1,5 @@
 ghost use Rattle.std.specs.Prelude.{◌≡◌, IfOk};
-ghost use Rattle.sd_graph.specs.TreeFold.{act_of, acts_of, tasklet_of, value_of, values_of};
+ghost use Rattle.sd_graph.specs.TreeFold.{act_tree, act_trees, tasklet_tree, value_tree, value_trees};
 
 use crate::operator::{OneSign, TwoSign};
 use sd_list::{NoMemory, Text};
@@ -22,7 +22,7 @@ pub struct Tasklet {
 impl Tasklet {
     /// The same code once more.
     pub fn copy_of(&self, alloc: Global) -> Result<Tasklet, NoMemory>
-        ensures { IfOk result (λ copy. tasklet_of copy ≡ tasklet_of self.now) }
+        ensures { IfOk result (λ copy. tasklet_tree copy ≡ tasklet_tree self.now) }
     {
         Ok(Tasklet {
             ins: copied_ports(alloc, &self.ins)?,
@@ -90,7 +90,7 @@ impl Act {
     /// The same statement once more.
     #[cycle(acts)]
     pub fn copy_of(&self, alloc: Global) -> Result<Act, NoMemory>
-        ensures { IfOk result (λ copy. act_of copy ≡ act_of self.now) }
+        ensures { IfOk result (λ copy. act_tree copy ≡ act_tree self.now) }
     {
         match self {
             Act::Local { local, value } => Ok(Act::Local {
@@ -118,7 +118,7 @@ impl Act {
 /// The same statements once more.
 #[cycle(acts)]
 fn copied_acts(alloc: Global, acts: &[Act]) -> Result<Vec<Act>, NoMemory>
-    ensures { IfOk result (λ copy. acts_of copy.items ≡ acts_of acts.now) }
+    ensures { IfOk result (λ copy. act_trees copy.items ≡ act_trees acts.now) }
 {
     let mut copy = Vec::with_capacity(alloc, acts.len())?;
     for act in acts {
@@ -160,7 +160,7 @@ impl Value {
     /// The same expression once more.
     #[cycle(values)]
     pub fn copy_of(&self, alloc: Global) -> Result<Value, NoMemory>
-        ensures { IfOk result (λ copy. value_of copy ≡ value_of self.now) }
+        ensures { IfOk result (λ copy. value_tree copy ≡ value_tree self.now) }
     {
         match self {
             Value::Number(value) => Ok(Value::Number(*value)),
@@ -191,7 +191,7 @@ impl Value {
 /// The same expressions once more.
 #[cycle(values)]
 fn copied_values(alloc: Global, values: &[Value]) -> Result<Vec<Value>, NoMemory>
-    ensures { IfOk result (λ copy. values_of copy.items ≡ values_of values.now) }
+    ensures { IfOk result (λ copy. value_trees copy.items ≡ value_trees values.now) }
 {
     let mut copy = Vec::with_capacity(alloc, values.len())?;
     for value in values {
