@@ -1,5 +1,5 @@
 -- What tasklets, copies, reductions and conditions touch is there, where the containers of their links are reached.
-use Rattle.std.proofs.Common.{◌≡◌, inl, inr, ℕ, zero, suc, ◌-◌, ℤ, List, [], ◌∷◌, ◌++◌, map, length, Option, Some, None, option_map, Ok, Err, Bool, true, false, if◌then◌else◌, slice_get, refl, sym, subst}
+use Rattle.std.proofs.Common.{◌≡◌, inl, inr, ℕ, zero, suc, ◌-◌, nat_lt, ℤ, List, [], ◌∷◌, ◌++◌, map, length, Option, Some, None, option_map, Ok, Err, Bool, true, false, if◌then◌else◌, slice_get, refl, sym, subst}
 use Rattle.std.specs.List.{AllByRecursion, flat_map, zip}
 use Rattle.sd_num.specs.declared.resolution.Resolution.{Resolution}
 use Rattle.sd_range.specs.Subset.{elements, whole}
@@ -76,10 +76,15 @@ output_there memories private context (link ∷ outs) zero effect touch reached 
     (reached.streams link.memlet.container force.0) (reached.arrays link.memlet.container force.0) touched
 output_there memories private context (link ∷ outs) (suc number) effect touch reached force touched = output_there memories private context outs number effect touch reached force.1 touched
 
+connector_there : (input : Bool) (memories : Memories) (private : List ℕ) (context : Context) (outs : List Link) (number : ℕ) (effect : Effect) (touch : Touch) → IsReached memories private context →
+    AreLinksInForce context.containers private outs → PendingTouches (if input then pending_by context None effect else pending_by context (slice_get outs number) effect) touch → IsThere memories touch
+connector_there true memories private context outs number effect touch reached force touched = elim touched [ ]
+connector_there false memories private context outs number effect touch reached force touched = output_there memories private context outs number effect touch reached force touched
+
 effects_there : (memories : Memories) (private : List ℕ) (context : Context) (ins outs : List Link) (effects : List Effect) (touch : Touch) → IsReached memories private context →
     AreLinksInForce context.containers private outs → SomePendingTouches (map (pending_of context ins outs) effects) touch → IsThere memories touch
 effects_there memories private context ins outs [] touch reached force touched = elim touched [ ]
-effects_there memories private context ins outs (effect ∷ effects) touch reached force (inl touched) = output_there memories private context outs (effect.connector - length ins) effect touch reached force touched
+effects_there memories private context ins outs (effect ∷ effects) touch reached force (inl touched) = connector_there (nat_lt effect.connector (length ins)) memories private context outs (effect.connector - length ins) effect touch reached force touched
 effects_there memories private context ins outs (effect ∷ effects) touch reached force (inr touched) = effects_there memories private context ins outs effects touch reached force touched
 
 -- what is done with an evaluation that gave something
