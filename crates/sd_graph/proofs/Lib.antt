@@ -8,6 +8,7 @@ pub mod WiringLaws
 pub mod Compatible
 pub mod EffectsInside
 pub mod RowNumbers
+pub mod ElementPlaces
 pub mod UnfoldedOrder
 pub mod UnfoldedNew
 pub mod UnfoldedCycles
