@@ -10,3 +10,4 @@ pub mod PlaceExamples
 pub mod ElementExamples
 pub mod ThereExamples
 pub mod InForceExamples
+pub mod UpwardsExamples

@@ -30,7 +30,8 @@ pub use laws::{
     a_run_of_a_graph_unfolds_new, before_is_the_closure_of_conflicts,
     each_effect_is_inside_its_connector, each_element_has_a_number_of_its_own,
     each_run_of_a_graph_has_one_outcome, each_touch_of_an_item_is_of_one_of_its_uses,
-    items_of_a_list_have_an_order, items_without_order_touch_compatibly,
+    elements_are_at_the_places_of_their_connector, items_of_a_list_have_an_order,
+    items_without_order_touch_compatibly,
 };
 pub use link::{Link, Memlet};
 pub use operator::{OneSign, TwoSign};

@@ -119,7 +119,7 @@ the_first_division_by_zero = (refl, refl)
 
 -- ---- jac
 
-abbrev jac_graph : GraphTree
+abbrev pub jac_graph : GraphTree
 jac_graph =
     graph (codes "jac")
     ((codes "A", container_of (constant (pos 4) ∷ []) Argument) ∷
