@@ -38,7 +38,8 @@ pub struct Exit {
     pub back: bool,
     /// Without a condition it may always be taken.
     pub when: Option<Guard>,
-    /// The variables that it sets, each to a value of the variables before it.
+    /// The variables that it sets, each to the value of its expression at the values before the
+    /// transition.
     pub set: Sequence<(u32, Affine)>,
 }
 

@@ -15,7 +15,7 @@ use std::alloc::Global;
 ///
 /// The first `arguments` containers are the arguments. The first `symbols` variables are the size
 /// symbols: all that the source declares, in its order, used or not. After binding no expression
-/// names them.
+/// names them. The type does not ask this: a contract that needs it says so.
 #[derive(Drop)]
 #[cycle(graph)]
 pub struct Sdfg {
@@ -84,7 +84,7 @@ pub enum ItemKind {
     },
 }
 
-/// A graph in which no size symbol is left and every extent is a constant.
+/// A graph meant to have no size symbol left and a constant for every extent.
 #[derive(Drop)]
 pub struct Bound {
     pub graph: Sdfg,

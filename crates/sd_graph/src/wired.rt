@@ -35,7 +35,8 @@ pub enum NodeKind {
 
 /// One edge between two nodes, by their numbers.
 ///
-/// A connector's edge has its link, a scope's its container, and one that only orders has neither.
+/// A connector's edge has its link, one into a scope's entry or out of its exit its container, and
+/// one that only orders has neither.
 #[derive(Drop)]
 pub struct Edge {
     pub from: u32,

@@ -1,6 +1,6 @@
 -- Which transitions lead upwards.
-use Rattle.std.proofs.Common.{refl, inl, inr, ℕ, zero, suc, List, [], ◌∷◌, None, Bool, true, false, codes, arith}
-use Rattle.sd_graph.specs.PlainTree.{nested_graph, ItemTrees, no_item, and_item, StateTrees, no_state, and_state, GraphTree, graph, ExitTree}
+use Rattle.std.proofs.Common.{refl, inl, inr, ℕ, zero, suc, [], ◌∷◌, None, true, false, codes, arith}
+use Rattle.sd_graph.specs.PlainTree.{nested_graph, no_item, and_item, no_state, and_state, GraphTree, graph, ExitTree}
 use Rattle.sd_graph.specs.TreeParts.{count_states, exits_at, states_of_graph}
 use Rattle.sd_graph.specs.Upwards.{ExitsLeadUpwards, LeadsUpwards}
 use Rattle.sd_graph.proofs.Among.{false_not_true}

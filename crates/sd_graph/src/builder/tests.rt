@@ -7,6 +7,9 @@ use sd_list::{Sequence, Text};
 use sd_range::Subset;
 use std::alloc::Global;
 
+// The contracts say what each of these calls answers where it answers `Ok`. These tests say that it
+// does, with ample memory.
+
 /// A graph without anything.
 fn empty(alloc: Global) -> Sdfg {
     Sdfg {
@@ -81,7 +84,7 @@ fn push_stream(graph: &mut Sdfg, alloc: Global, name: &str) -> Result<Option<u32
 }
 
 #[test]
-fn containers_are_numbered_and_found_by_name(rt: HostRuntime) {
+fn with_memory_containers_are_added(rt: HostRuntime) {
     let alloc = rt.alloc();
     let mut graph = empty(alloc);
     assert!(rt; push_stream(&mut graph, alloc, "A") == Ok(Some(0)));
@@ -91,7 +94,7 @@ fn containers_are_numbered_and_found_by_name(rt: HostRuntime) {
 }
 
 #[test]
-fn states_items_and_transitions_come_last(rt: HostRuntime) {
+fn with_memory_states_items_and_transitions_are_added(rt: HostRuntime) {
     let alloc = rt.alloc();
     let mut graph = empty(alloc);
     let mut state = no_work(alloc);
@@ -112,6 +115,6 @@ fn copies(alloc: Global, name: &str) -> Result<bool, NoMemory> {
 }
 
 #[test]
-fn a_copy_has_what_it_is_of(rt: HostRuntime) {
+fn with_memory_a_graph_is_copied(rt: HostRuntime) {
     assert!(rt; copies(rt.alloc(), "S") == Ok(true));
 }
