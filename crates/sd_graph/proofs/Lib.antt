@@ -20,4 +20,5 @@ pub mod UnfoldedThere
 pub mod TouchesThere
 pub mod StillThere
 pub mod Openings
+pub mod LoopPaths
 pub mod examples
