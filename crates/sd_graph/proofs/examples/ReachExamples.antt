@@ -3,12 +3,14 @@ use Rattle.std.proofs.Common.{◌≡◌, ℕ, ℤ, pos, negsuc, List, [], ◌∷
 use Rattle.sd_range.specs.declared.subset.Dim.{Dim}
 use Rattle.sd_range.specs.declared.subset.Dim.TheVariants.{Index, Span}
 use Rattle.sd_work.specs.Memory.{array, stream}
+use Rattle.sd_work.specs.Leaf.{write_value}
 use Rattle.sd_work.specs.Residual.{ended, list, Points, owning, also, none}
 use Rattle.sd_graph.specs.RowOrder.{row_number}
 use Rattle.sd_graph.specs.ContainerParts.{Containers, container_at}
 use Rattle.sd_graph.specs.TaskletMeaning.{Effect}
 use Rattle.sd_graph.specs.Context.{Context, span_counts, index_at, found, own_reach, view, private_memory}
-use Rattle.sd_graph.specs.Unfold.{cut, does_hold, exit_of, element_memory, in_any_order, in_graph, map_over, run_memory, target_place}
+use Rattle.sd_graph.specs.Unfold.{cut, does_hold, exit_of, element_memory, in_any_order, in_graph, map_over, pending_of, pending_through, run_memory, target_place}
+use Rattle.sd_graph.specs.declared.link.Link.{Link}
 use Rattle.sd_graph.specs.declared.container.ContainerKind.TheVariants.{Argument, Transient, Private, Stream, PrivateStream}
 use Rattle.sd_graph.proofs.examples.ExampleParts.{constant, range_of, from_to, of_variable, container_of, transition}
 
@@ -56,6 +58,14 @@ row index = (view (container_at containers 1) (record { dims = Index (constant (
 
 an_element_of_a_view_is_inside_both : (row (pos 0 ∷ []) ≡ Some 5) × (row (pos 1 ∷ []) ≡ None) × (row (negsuc 0 ∷ []) ≡ None)
 an_element_of_a_view_is_inside_both = (refl, refl, refl)
+
+-- an effect goes by the link of its output; one on an input's number, or past the outputs, by none
+an_effect_goes_by_its_output :
+    (context : Context) (link : Link) (at : List ℤ) (value : ℤ) →
+    (pending_of context (link ∷ []) (link ∷ []) (record { connector = 0; at = at; value = value }) ≡ write_value value None None) ×
+    (pending_of context (link ∷ []) (link ∷ []) (record { connector = 1; at = at; value = value }) ≡ pending_through context link (record { connector = 1; at = at; value = value })) ×
+    (pending_of context (link ∷ []) (link ∷ []) (record { connector = 2; at = at; value = value }) ≡ write_value value None None)
+an_effect_goes_by_its_output context link at value = (refl, refl, refl)
 
 -- ---- memories have an entry for each container
 
