@@ -1,7 +1,7 @@
 -- A path of transitions that is longer than there are states is found as a shorter one.
-use Rattle.std.proofs.Common.{◌≡◌, ◌⊎◌, inl, inr, ℕ, zero, suc, ◌+◌, ◌<◌, ◌≤◌, List, [], ◌∷◌, Bool, true, false, not, if◌then◌else◌, ◌&&◌, ◌||◌, nat_eq, refl, subst, arith}
+use Rattle.std.proofs.Common.{◌≡◌, ◌⊎◌, inl, inr, ℕ, zero, suc, ◌<◌, ◌≤◌, List, [], ◌∷◌, Bool, true, false, not, ◌&&◌, ◌||◌, nat_eq, refl, subst, arith}
 use Rattle.std.specs.List.{list_any}
-use Rattle.sd_graph.specs.PlainTree.{ExitTree, StateTrees, no_state, and_state}
+use Rattle.sd_graph.specs.PlainTree.{StateTrees, no_state, and_state}
 use Rattle.sd_graph.specs.TreeParts.{count_states, exits_at}
 use Rattle.sd_graph.specs.LoopScope.{leads_within, leads_to}
 use Rattle.sd_graph.proofs.Among.{false_not_true, or_first, or_second}

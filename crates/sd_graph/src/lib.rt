@@ -25,8 +25,7 @@ pub use exit::{Exit, Guard};
 pub use graph::{Bound, Item, ItemKind, Sdfg, State};
 pub use laws::{
     a_graph_is_run_from_left_to_right, a_machine_of_a_graph_is_well_formed,
-    a_path_of_any_length_is_found,
-    a_run_of_a_graph_has_ordered_pools, a_run_of_a_graph_is_ordered,
+    a_path_of_any_length_is_found, a_run_of_a_graph_has_ordered_pools, a_run_of_a_graph_is_ordered,
     a_run_of_a_graph_pays_its_cycles, a_run_of_a_graph_touches_nothing_outside,
     a_run_of_a_graph_touches_what_is_there, a_run_of_a_graph_unfolds_new,
     before_is_the_closure_of_conflicts, each_effect_is_inside_its_connector,
