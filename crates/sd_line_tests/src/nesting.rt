@@ -1,0 +1,129 @@
+//! Where an expression is too deep.
+use crate::reading::said;
+use sd_line::BlockKind;
+use std::alloc::Global;
+use std::test::Fail;
+
+/// The texts `before`, `levels` times `open`, `atom`, as often `close`, and `behind`, one after another.
+fn nested(
+    alloc: Global,
+    around: (&str, &str),
+    levels: u32,
+    each: (&str, &str),
+    atom: &str,
+) -> Result<String, Fail> {
+    let mut text = String::from_str(alloc, around.0)?;
+    for _ in 0..levels {
+        text.push_str(each.0)?;
+    }
+    text.push_str(atom)?;
+    for _ in 0..levels {
+        text.push_str(each.1)?;
+    }
+    text.push_str(around.1)?;
+    Ok(text)
+}
+
+/// Whether so many levels are read and one more is too deep.
+fn is_deepest(
+    alloc: Global,
+    kind: BlockKind,
+    around: (&str, &str),
+    levels: u32,
+    each: (&str, &str),
+) -> Result<bool, Fail> {
+    let read = nested(alloc, around, levels, each, "a")?;
+    let deep = nested(alloc, around, levels.saturating_add(1), each, "a")?;
+    let read = said(alloc, kind, read.as_bytes())?;
+    let deep = said(alloc, kind, deep.as_bytes())?;
+    Ok(read.as_str() != "none" && read.as_str() != "deep" && deep.as_str() == "deep")
+}
+
+#[test]
+fn an_expression_has_at_most_64_levels(rt: HostRuntime) -> Result<(), Fail> {
+    for (kind, before, behind, levels, open, close) in [
+        (BlockKind::Tasklet, "c = ", "", 64, "(", ")"),
+        (BlockKind::Tasklet, "c = ", "", 64, "- ", ""),
+        (BlockKind::Tasklet, "c = ", "", 64, "not ", ""),
+        (BlockKind::Tasklet, "c = ", "", 64, "", " + b"),
+        (BlockKind::Tasklet, "c = ", "", 32, "b * (", ")"),
+        (BlockKind::Tasklet, "c = ", "", 64, "min(b, ", ")"),
+        (BlockKind::Tasklet, "c = ", "", 64, "b if b else ", ""),
+        (BlockKind::Tasklet, "c = ", "", 64, "b[", "]"),
+        (BlockKind::Tasklet, "c[", "] = 1", 64, "(", ")"),
+        (BlockKind::Tasklet, "c >> A(1, lambda x, y: ", ")", 64, "(", ")"),
+        (BlockKind::Tasklet, "c << A[", "]", 64, "(", ")"),
+        (BlockKind::Tasklet, "c << A[B[", "]:]", 64, "(", ")"),
+        (BlockKind::Scope, "Y[0] += ", "", 64, "(", ")"),
+        (BlockKind::Program, "Y[0] += ", "", 63, "(", ")"),
+        (BlockKind::Program, "Y[0] = ", "", 64, "(", ")"),
+        (BlockKind::Program, "Y[0] = ((A[", "]))", 64, "(", ")"),
+        (BlockKind::Program, "Y[0] = A[", "]", 64, "B[", "]"),
+        (BlockKind::Program, "Y[0] = A[B[", "]]", 63, "(", ")"),
+        (BlockKind::Program, "Y[", "] = 1", 64, "(", ")"),
+        (BlockKind::Program, "Y[0:", "] = X[0]", 64, "(", ")"),
+        (BlockKind::Program, "for k in range(", "):", 63, "(", ")"),
+        (BlockKind::Program, "for k in range(", ", 1):", 64, "(", ")"),
+        (BlockKind::Program, "for k in range(0, ", "):", 63, "(", ")"),
+        (BlockKind::Program, "for i in dace.map[0:", "]:", 64, "(", ")"),
+        (BlockKind::Program, "while ", ":", 64, "(", ")"),
+        (BlockKind::Program, "X = dace.define_local([", "], dace.int64)", 64, "(", ")"),
+        (BlockKind::Top, "def f(A: dace.int64[", "]):", 64, "(", ")"),
+    ] {
+        let alloc = rt.alloc();
+        assert!(rt; is_deepest(alloc, kind, (before, behind), levels, (open, close))?, "{before}{open}");
+    }
+    Ok(())
+}
+
+#[test]
+fn no_form_goes_before_too_deep(rt: HostRuntime) -> Result<(), Fail> {
+    let alloc = rt.alloc();
+    for (before, behind, says) in [
+        ("c = ", "", "deep"),
+        ("c = ", " + 1", "deep"),
+        ("c = ", " +", "none"),
+        ("c = ", " + b b", "none"),
+        ("c = ", ", a", "none"),
+        ("c = ", " = 1", "none"),
+        ("c = ", ")", "none"),
+        ("c = (", "", "none"),
+        ("c[", ", 1 + ] = 1", "none"),
+        ("c[", ", 1] = 1 +", "none"),
+        ("c[1, ", "] = 1", "deep"),
+        ("c << A[", ", 0:1:0]", "none"),
+        ("c << A[", ", 0:1]", "deep"),
+        ("if ", ":", "deep"),
+        ("if ", "", "none"),
+        ("while ", ":", "none"),
+    ] {
+        let line = nested(alloc, (before, behind), 65, ("(", ")"), "a")?;
+        let shown = said(alloc, BlockKind::Tasklet, line.as_bytes())?;
+        assert_eq!(rt; shown.as_str(), says, "{before} {behind}");
+    }
+    Ok(())
+}
+
+/// `before`, and then `each` so often that the text has 2^17 bytes.
+fn long(alloc: Global, before: &str, each: &str) -> Result<String, Fail> {
+    let mut text = String::from_str(alloc, before)?;
+    for _ in 0..(1 << 17) / each.len().max(1) {
+        text.push_str(each)?;
+    }
+    Ok(text)
+}
+
+#[test]
+fn long_lines_are_answered(rt: HostRuntime) -> Result<(), Fail> {
+    let alloc = rt.alloc();
+    for (each, says) in [
+        ("(", "none"),
+        ("- ", "deep"),
+        (",", "none"),
+    ] {
+        let line = long(alloc, "c = ", each)?;
+        let shown = said(alloc, BlockKind::Tasklet, line.as_bytes())?;
+        assert_eq!(rt; shown.as_str(), says, "{each}");
+    }
+    Ok(())
+}

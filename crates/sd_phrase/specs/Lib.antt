@@ -1,0 +1,11 @@
+pub mod Spans
+pub mod Words
+pub mod Signs
+pub mod Parts
+pub mod Readings
+pub mod ExpressionReading
+pub mod Phrase
+pub mod SubsetReading
+pub mod Memlet
+pub mod LambdaReading
+pub mod MemletReading
