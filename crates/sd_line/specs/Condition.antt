@@ -1,5 +1,5 @@
 -- A condition and its colon: `while`, `if` and `elif`.
-use Rattle.std.specs.Prelude.{ℕ, List, [], ◌∷◌, codes, Bool, true, if◌then◌else◌}
+use Rattle.std.specs.Prelude.{ℕ, List, [], ◌∷◌, codes, Bool, true}
 use Rattle.sd_lex.specs.PlainTree.{Expression, while_loop, branch, no_statement}
 use Rattle.sd_phrase.specs.ExpressionReading.{expression}
 use Rattle.sd_phrase.specs.Parts.{at_mark}

@@ -10,7 +10,6 @@ use Rattle.sd_phrase.specs.declared.word.Mark.TheVariants.{Comma}
 use Rattle.sd_phrase.specs.declared.word.Piece.{Piece}
 use Rattle.sd_phrase.specs.Memlet.{LambdaTree}
 use Rattle.sd_line.specs.Head.{HeadTree, reduce_head}
-use Rattle.sd_line.specs.Repetition.{names}
 use Rattle.sd_line.specs.declared.body.reduction.Options.{Options}
 
 -- the number below zero that a minus makes of a number

@@ -1,5 +1,5 @@
 -- `for k in range(..):` and `for i, j in dace.map[..]:`.
-use Rattle.std.specs.Prelude.{ℕ, ℤ, nat_eq, length, List, [], ◌∷◌, ◌++◌, codes, map, Option, Some, None, true, false, if◌then◌else◌}
+use Rattle.std.specs.Prelude.{ℕ, ℤ, nat_eq, length, List, [], ◌∷◌, ◌++◌, codes, Option, Some, None, true, false, if◌then◌else◌}
 use Rattle.sd_lex.specs.PlainTree.{Expression, map_scope, for_loop, no_statement}
 use Rattle.sd_phrase.specs.ExpressionReading.{expression}
 use Rattle.sd_phrase.specs.Parts.{parts_of, closed, Few, one_part, two_parts, three_parts, few}

@@ -14,7 +14,10 @@ use crate::body::{read_condition, read_elif};
 use crate::head::Head;
 use sd_lex::{Expr, Statement};
 use sd_list::NoMemory;
-use sd_phrase::{LEVELS, Bracket, Piece, Reading, WrittenMemlet, bracketed, is_name, is_phrase, is_spelled, name_of, next, read_expression, read_list, read_memlet};
+use sd_phrase::{
+    Bracket, LEVELS, Piece, Reading, WrittenMemlet, bracketed, is_name, is_phrase, is_spelled,
+    name_of, next, read_expression, read_list, read_memlet,
+};
 use std::alloc::Global;
 
 fn set_of(

@@ -1,5 +1,5 @@
 //! What a line says outside all blocks.
-ghost use Rattle.std.specs.Prelude.{◌≡◌, ◌∷◌, [], ◌++◌, OnOk, IfOk, map, string_bytes};
+ghost use Rattle.std.specs.Prelude.{◌≡◌, [], IfOk, map, string_bytes};
 ghost use Rattle.sd_lex.specs.PlainTree.{argument_array};
 ghost use Rattle.sd_lex.specs.TreeFold.{expression_of, expressions_listed, statement_of, block_listed};
 ghost use Rattle.sd_phrase.specs.declared.word.Mark.TheVariants.{Comma};
@@ -14,7 +14,10 @@ ghost use Rattle.sd_phrase.specs.Words.{spelling};
 use crate::head::Head;
 use sd_lex::{Expr, Statement};
 use sd_list::NoMemory;
-use sd_phrase::{LEVELS, Bracket, Mark, Piece, Reading, Word, after, bracketed_whole, header, is_phrase, mark_of, name_first, name_of, next, part_count, read_list};
+use sd_phrase::{
+    Bracket, LEVELS, Mark, Piece, Reading, Word, after, bracketed_whole, header, is_phrase,
+    mark_of, name_first, name_of, next, part_count, read_list,
+};
 use std::alloc::Global;
 
 fn read_extents_in(

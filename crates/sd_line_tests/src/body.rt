@@ -6,26 +6,47 @@ use std::test::Fail;
 #[test]
 fn declarations_elements_and_calls(rt: HostRuntime) -> Result<(), Fail> {
     for (line, says) in [
-        ("X = dace.define_local([N, 2], dtype=dace.int64)", "local X[N;2;]64 at 7"),
-        ("X = dace.define_local([1, 2, 3, 4, 5], dace.int64)", "local X[1;2;3;4;5;]64 at 7"),
+        (
+            "X = dace.define_local([N, 2], dtype=dace.int64)",
+            "local X[N;2;]64 at 7",
+        ),
+        (
+            "X = dace.define_local([1, 2, 3, 4, 5], dace.int64)",
+            "local X[1;2;3;4;5;]64 at 7",
+        ),
         ("X = dace.define_local([N])", "none"),
         ("X = dace.define_local([], dace.int64)", "none"),
         ("X = dace.define_local(N, dace.int64)", "none"),
-        ("S = dace.define_stream(dace.int64, 8)", "stream S 64 8 at 7"),
-        ("S = dace.define_stream(dtype=dace.int64)", "stream S 64 _ at 7"),
+        (
+            "S = dace.define_stream(dace.int64, 8)",
+            "stream S 64 8 at 7",
+        ),
+        (
+            "S = dace.define_stream(dtype=dace.int64)",
+            "stream S 64 _ at 7",
+        ),
         ("S = dace.define_stream(dace.int64)", "stream S 64 _ at 7"),
-        ("S = dace.define_stream(dtype=dace.int64, 0)", "stream S 64 0 at 7"),
+        (
+            "S = dace.define_stream(dtype=dace.int64, 0)",
+            "stream S 64 0 at 7",
+        ),
         ("S = dace.define_stream(dace.int64, N)", "none"),
         ("S = dace.define_stream()", "none"),
         ("X = 1", "none"),
-        ("Y[i] = X[i + 1] + 1", "assign Y[i;] = (X[(i + 1);] + 1) at 7"),
+        (
+            "Y[i] = X[i + 1] + 1",
+            "assign Y[i;] = (X[(i + 1);] + 1) at 7",
+        ),
         ("Y[i, j] += X[i, j]", "assign Y[i;j;] += X[i;j;] at 7"),
         ("if[0] = 1", "assign if[0;] = 1 at 7"),
         ("Y[i] = X[0:1]", "none"),
         ("Y[i] *= 1", "none"),
         ("Y[] = 1", "none"),
         ("Y[0:N] = X[i, :]", "copy Y[0:N:_;] X[i;_:_:_;] at 7"),
-        ("Y[i, 0:N:2] = X[1:N + 1:2]", "copy Y[i;0:N:2;] X[1:(N + 1):2;] at 7"),
+        (
+            "Y[i, 0:N:2] = X[1:N + 1:2]",
+            "copy Y[i;0:N:2;] X[1:(N + 1):2;] at 7",
+        ),
         ("Y[0:N] = X", "none"),
         ("Y[0:N] = X[0:N] + 1", "none"),
         ("Y[:] += X[:]", "none"),
@@ -46,13 +67,31 @@ fn declarations_elements_and_calls(rt: HostRuntime) -> Result<(), Fail> {
 #[test]
 fn reductions_and_consume_scopes(rt: HostRuntime) -> Result<(), Fail> {
     for (line, says) in [
-        ("dace.reduce(lambda x, y: x + y, X, Y)", "reduce x,y sum X Y _ _"),
-        ("dace.reduce(lambda x, y: max(x, y), X, Y, axis=1)", "reduce x,y max X Y 1 _"),
-        ("dace.reduce(lambda x, y: y, X, Y, identity=-3)", "reduce x,y last X Y _ -3"),
-        ("dace.reduce(lambda x, y: x, X, Y, axis=0, identity=3)", "reduce x,y _ X Y 0 3"),
-        ("dace.reduce(lambda x, y: x + y, X, Y, identity=3, axis=0)", "none"),
+        (
+            "dace.reduce(lambda x, y: x + y, X, Y)",
+            "reduce x,y sum X Y _ _",
+        ),
+        (
+            "dace.reduce(lambda x, y: max(x, y), X, Y, axis=1)",
+            "reduce x,y max X Y 1 _",
+        ),
+        (
+            "dace.reduce(lambda x, y: y, X, Y, identity=-3)",
+            "reduce x,y last X Y _ -3",
+        ),
+        (
+            "dace.reduce(lambda x, y: x, X, Y, axis=0, identity=3)",
+            "reduce x,y _ X Y 0 3",
+        ),
+        (
+            "dace.reduce(lambda x, y: x + y, X, Y, identity=3, axis=0)",
+            "none",
+        ),
         ("dace.reduce(lambda x, y: x + y, X, Y, axis=-1)", "none"),
-        ("dace.reduce(lambda x, y: x + y, X, Y, identity=--3)", "none"),
+        (
+            "dace.reduce(lambda x, y: x + y, X, Y, identity=--3)",
+            "none",
+        ),
         ("dace.reduce(lambda x, y: x + y, X)", "none"),
         ("dace.reduce(lambda x, y: x + y, X[0], Y)", "none"),
         ("dace.reduce(lambda x, y: x +, X, Y)", "none"),
@@ -83,7 +122,10 @@ fn reductions_and_consume_scopes(rt: HostRuntime) -> Result<(), Fail> {
 #[test]
 fn maps_loops_and_conditions(rt: HostRuntime) -> Result<(), Fail> {
     for (line, says) in [
-        ("for i, j in dace.map[0:N, i:M:2]:", "map i;j;[0:N:_;i:M:2;] at 7"),
+        (
+            "for i, j in dace.map[0:N, i:M:2]:",
+            "map i;j;[0:N:_;i:M:2;] at 7",
+        ),
         ("for i, j in dace.map[0:N]:", "none"),
         ("for i in dace.map[0:N, 0:N]:", "none"),
         ("for i in dace.map[:N]:", "none"),

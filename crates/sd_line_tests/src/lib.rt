@@ -2,16 +2,15 @@
 #![tactic(auto)]
 
 #[cfg(test)]
-mod reading;
-#[cfg(test)]
-mod show;
-
-#[cfg(test)]
 mod body;
 #[cfg(test)]
 mod expressions;
 #[cfg(test)]
 mod nesting;
+#[cfg(test)]
+mod reading;
+#[cfg(test)]
+mod show;
 #[cfg(test)]
 mod tasklet;
 #[cfg(test)]

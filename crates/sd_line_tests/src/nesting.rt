@@ -51,7 +51,14 @@ fn an_expression_has_at_most_64_levels(rt: HostRuntime) -> Result<(), Fail> {
         (BlockKind::Tasklet, "c = ", "", 64, "b if b else ", ""),
         (BlockKind::Tasklet, "c = ", "", 64, "b[", "]"),
         (BlockKind::Tasklet, "c[", "] = 1", 64, "(", ")"),
-        (BlockKind::Tasklet, "c >> A(1, lambda x, y: ", ")", 64, "(", ")"),
+        (
+            BlockKind::Tasklet,
+            "c >> A(1, lambda x, y: ",
+            ")",
+            64,
+            "(",
+            ")",
+        ),
         (BlockKind::Tasklet, "c << A[", "]", 64, "(", ")"),
         (BlockKind::Tasklet, "c << A[B[", "]:]", 64, "(", ")"),
         (BlockKind::Scope, "Y[0] += ", "", 64, "(", ")"),
@@ -65,13 +72,30 @@ fn an_expression_has_at_most_64_levels(rt: HostRuntime) -> Result<(), Fail> {
         (BlockKind::Program, "for k in range(", "):", 63, "(", ")"),
         (BlockKind::Program, "for k in range(", ", 1):", 64, "(", ")"),
         (BlockKind::Program, "for k in range(0, ", "):", 63, "(", ")"),
-        (BlockKind::Program, "for i in dace.map[0:", "]:", 64, "(", ")"),
+        (
+            BlockKind::Program,
+            "for i in dace.map[0:",
+            "]:",
+            64,
+            "(",
+            ")",
+        ),
         (BlockKind::Program, "while ", ":", 64, "(", ")"),
-        (BlockKind::Program, "X = dace.define_local([", "], dace.int64)", 64, "(", ")"),
+        (
+            BlockKind::Program,
+            "X = dace.define_local([",
+            "], dace.int64)",
+            64,
+            "(",
+            ")",
+        ),
         (BlockKind::Top, "def f(A: dace.int64[", "]):", 64, "(", ")"),
     ] {
         let alloc = rt.alloc();
-        assert!(rt; is_deepest(alloc, kind, (before, behind), levels, (open, close))?, "{before}{open}");
+        assert!(rt;
+            is_deepest(alloc, kind, (before, behind), levels, (open, close))?,
+            "{before}{open}"
+        );
     }
     Ok(())
 }
@@ -116,11 +140,7 @@ fn long(alloc: Global, before: &str, each: &str) -> Result<String, Fail> {
 #[test]
 fn long_lines_are_answered(rt: HostRuntime) -> Result<(), Fail> {
     let alloc = rt.alloc();
-    for (each, says) in [
-        ("(", "none"),
-        ("- ", "deep"),
-        (",", "none"),
-    ] {
+    for (each, says) in [("(", "none"), ("- ", "deep"), (",", "none")] {
         let line = long(alloc, "c = ", each)?;
         let shown = said(alloc, BlockKind::Tasklet, line.as_bytes())?;
         assert_eq!(rt; shown.as_str(), says, "{each}");

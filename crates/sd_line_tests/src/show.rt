@@ -209,7 +209,10 @@ fn statement(shown: &mut String, tree: &Statement) -> Result<(), Fail> {
             write!(shown, "{bits}")?;
         }
         Statement::Stream {
-            name, bits, size, ..
+            name,
+            bits,
+            size,
+            ..
         } => {
             write!(shown, "stream {name} {bits} ")?;
             number(shown, *size)?;
@@ -276,7 +279,10 @@ fn statement(shown: &mut String, tree: &Statement) -> Result<(), Fail> {
             when(shown, " = ", value)?;
         }
         Statement::SetAt {
-            name, at, value, ..
+            name,
+            at,
+            value,
+            ..
         } => {
             named(shown, "set ", name, at)?;
             when(shown, " = ", value)?;

@@ -7,13 +7,28 @@ use std::test::Fail;
 fn connectors(rt: HostRuntime) -> Result<(), Fail> {
     for (line, says) in [
         ("c << A", "input c A(_)[]"),
-        ("c << A[i, 0:N, :, k:, :k, 1:N:2]", "input c A(_)[i;0:N:_;_:_:_;k:_:_;_:k:_;1:N:2;]"),
+        (
+            "c << A[i, 0:N, :, k:, :k, 1:N:2]",
+            "input c A(_)[i;0:N:_;_:_:_;k:_:_;_:k:_;1:N:2;]",
+        ),
         ("c >> A(2)[i]", "output c A(2)[i;]"),
         ("c >> A(-1)", "output c A(-1)[]"),
-        ("c >> A(0, lambda x, y: x + y)[0]", "output c A(0 x,y sum)[0;]"),
-        ("c >> A(1, lambda x, y: y * x)", "output c A(1 x,y product)[]"),
-        ("c >> A(1, lambda x, y: min(y, x))", "output c A(1 x,y min)[]"),
-        ("c >> A(1, lambda x, y: max(x, y))", "output c A(1 x,y max)[]"),
+        (
+            "c >> A(0, lambda x, y: x + y)[0]",
+            "output c A(0 x,y sum)[0;]",
+        ),
+        (
+            "c >> A(1, lambda x, y: y * x)",
+            "output c A(1 x,y product)[]",
+        ),
+        (
+            "c >> A(1, lambda x, y: min(y, x))",
+            "output c A(1 x,y min)[]",
+        ),
+        (
+            "c >> A(1, lambda x, y: max(x, y))",
+            "output c A(1 x,y max)[]",
+        ),
         ("c >> A(1, lambda x, y: (x & y))", "output c A(1 x,y and)[]"),
         ("c >> A(1, lambda x, y: x | y)", "output c A(1 x,y or)[]"),
         ("c >> A(1, lambda x, y: x ^ y)", "output c A(1 x,y xor)[]"),

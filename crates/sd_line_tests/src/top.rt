@@ -19,8 +19,14 @@ fn lines_at_top_level(rt: HostRuntime) -> Result<(), Fail> {
         ("@dace.program", "program below"),
         ("@dace.program()", "none"),
         ("@dace.consume(S, 1)", "none"),
-        ("def f(A: dace.int64[N, 2*M], b: dace.int64):", "program f A[N;(2 * M);]64 at 7 b[]64 at 7"),
-        ("def f(A: dace.int64[1, 2, 3, 4]):", "program f A[1;2;3;4;]64 at 7"),
+        (
+            "def f(A: dace.int64[N, 2*M], b: dace.int64):",
+            "program f A[N;(2 * M);]64 at 7 b[]64 at 7",
+        ),
+        (
+            "def f(A: dace.int64[1, 2, 3, 4]):",
+            "program f A[1;2;3;4;]64 at 7",
+        ),
         ("def f(A: dace.int64[1, 2, 3, 4, 5]):", "none"),
         ("def f(A: dace.int64[]):", "none"),
         ("def f():", "none"),

@@ -1,11 +1,11 @@
 //! The reading of an expression.
-ghost use Rattle.std.specs.Prelude.{◌≡◌, ◌∷◌, [], ◌++◌, OnOk, map, length, IfOk, string_bytes};
+ghost use Rattle.std.specs.Prelude.{◌≡◌, [], map, IfOk, string_bytes};
 ghost use Rattle.sd_lex.specs.PlainTree.{element_at, one, two};
 ghost use Rattle.sd_lex.specs.TreeFold.{expression_of, expressions_listed};
 ghost use Rattle.sd_phrase.specs.declared.word.Mark.TheVariants.{Comma};
 ghost use Rattle.sd_phrase.specs.ExpressionReading as definition;
 ghost use Rattle.sd_phrase.specs.ExpressionReading.{reads, subscripts, own_subscripts};
-ghost use Rattle.sd_phrase.specs.Parts.{parts_of, few};
+ghost use Rattle.sd_phrase.specs.Parts.{parts_of};
 ghost use Rattle.sd_phrase.specs.Readings.{reading_map, both, listed};
 ghost use Rattle.sd_phrase.specs.Signs.{cut_of};
 ghost use Rattle.sd_phrase.specs.Spans.{AreInside, IsInside};

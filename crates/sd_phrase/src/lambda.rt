@@ -1,20 +1,17 @@
 //! Lambdas.
-ghost use Rattle.std.specs.Prelude.{◌≡◌, ℕ, List, Some, None, pos, IfOk, IfSome, MatchOption, option_map, string_bytes};
-ghost use Rattle.sd_lex.specs.TreeFold.{expression_of, dimensions_of};
+ghost use Rattle.std.specs.Prelude.{◌≡◌, Some, None, IfOk, IfSome, MatchOption};
+ghost use Rattle.sd_lex.specs.TreeFold.{expression_of};
 ghost use Rattle.sd_phrase.specs.Memlet.{lambda_tree_of};
 ghost use Rattle.sd_phrase.specs.LambdaReading as definition;
-ghost use Rattle.sd_phrase.specs.Phrase as phrases;
-ghost use Rattle.sd_phrase.specs.Readings.{reading_map, both};
+ghost use Rattle.sd_phrase.specs.Readings.{reading_map};
 ghost use Rattle.sd_phrase.specs.Spans.{AreInside, IsInside};
 ghost use Rattle.sd_phrase.specs.Words.{spelling};
 
 use crate::expression::{LEVELS, name_of, read_expression};
-use crate::parts::bracketed;
-use crate::phrase::{minus_one, name_first, next, number_first};
+use crate::phrase::{name_first, next};
 use crate::reading::Reading;
-use crate::subset::read_subset;
-use crate::word::{Bracket, Piece, same};
-use sd_lex::{Expr, Lambda, Slot, TwoSign};
+use crate::word::{Piece, same};
+use sd_lex::{Expr, Lambda, TwoSign};
 use sd_list::NoMemory;
 use std::alloc::Global;
 
@@ -147,7 +144,11 @@ pub fn read_lambda_by(
 }
 
 /// A whole lambda.
-pub(crate) fn read_lambda(alloc: Global, text: &[u8], tokens: &[Piece]) -> Result<Reading<WrittenLambda>, NoMemory>
+pub(crate) fn read_lambda(
+    alloc: Global,
+    text: &[u8],
+    tokens: &[Piece],
+) -> Result<Reading<WrittenLambda>, NoMemory>
     requires { AreInside text.now tokens.now }
     ensures { IfOk result (λ r. reading_map lambda_tree_of r ≡ definition.lambda_whole text.now tokens.now) }
 {

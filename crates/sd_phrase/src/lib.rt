@@ -19,8 +19,8 @@ pub use expression::{LEVELS, name_of, read_expression, read_list};
 pub use lambda::{LambdaNames, WrittenLambda, lambda_names, read_lambda_by};
 pub use memlet::{WrittenMemlet, read_memlet};
 pub use parts::{
-    Few, at_mark, bracketed, bracketed_whole, closed, closed_whole, few_parts, is_balanced, mark_of,
-    part_count,
+    Few, at_mark, bracketed, bracketed_whole, closed, closed_whole, few_parts, is_balanced,
+    mark_of, part_count,
 };
 pub use phrase::{
     after, header, is_phrase, lone_name, lone_number, name_first, next, number_first, step_of,

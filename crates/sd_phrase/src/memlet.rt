@@ -1,21 +1,20 @@
 //! Memlets: what a connector line moves.
-ghost use Rattle.std.specs.Prelude.{◌≡◌, ℕ, List, Some, None, pos, IfOk, IfSome, MatchOption, option_map, string_bytes};
-ghost use Rattle.sd_lex.specs.TreeFold.{expression_of, dimensions_of};
+ghost use Rattle.std.specs.Prelude.{◌≡◌, Some, None, IfOk, IfSome, MatchOption, option_map};
+ghost use Rattle.sd_lex.specs.TreeFold.{dimensions_of};
 ghost use Rattle.sd_phrase.specs.Memlet.{lambda_tree_of, memlet_tree_of};
 ghost use Rattle.sd_phrase.specs.MemletReading as definition;
-ghost use Rattle.sd_phrase.specs.Phrase as phrases;
 ghost use Rattle.sd_phrase.specs.Readings.{reading_map, both};
 ghost use Rattle.sd_phrase.specs.Spans.{AreInside, IsInside};
 ghost use Rattle.sd_phrase.specs.Words.{spelling};
 
-use crate::expression::{name_of, read_expression};
+use crate::expression::name_of;
 use crate::lambda::{WrittenLambda, read_lambda};
 use crate::parts::bracketed;
 use crate::phrase::{minus_one, name_first, next, number_first};
 use crate::reading::Reading;
 use crate::subset::read_subset;
-use crate::word::{Bracket, Piece, same};
-use sd_lex::{Expr, Lambda, Slot, TwoSign};
+use crate::word::{Bracket, Piece};
+use sd_lex::Slot;
 use sd_list::NoMemory;
 use std::alloc::Global;
 

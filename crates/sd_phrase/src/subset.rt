@@ -1,9 +1,9 @@
 //! Dimensions of a subset and ranges of a map.
-ghost use Rattle.std.specs.Prelude.{◌≡◌, ◌∷◌, [], ◌++◌, OnOk, map, length, IfOk, option_map};
+ghost use Rattle.std.specs.Prelude.{◌≡◌, IfOk, option_map};
 ghost use Rattle.sd_lex.specs.TreeFold.{expression_of, dimension_of, dimensions_of};
 ghost use Rattle.sd_phrase.specs.declared.word.Mark.TheVariants.{Comma, Colon};
-ghost use Rattle.sd_phrase.specs.Parts.{parts_of, few, few_of, IsEach};
-ghost use Rattle.sd_phrase.specs.Readings.{reading_map, listed};
+ghost use Rattle.sd_phrase.specs.Parts.{few_of, IsEach};
+ghost use Rattle.sd_phrase.specs.Readings.{reading_map};
 ghost use Rattle.sd_phrase.specs.Spans.{AreInside};
 ghost use Rattle.sd_phrase.specs.Phrase.{step_of};
 ghost use Rattle.sd_phrase.specs.SubsetReading as definition;

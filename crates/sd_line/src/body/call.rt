@@ -1,5 +1,5 @@
 //! `f(X, Y[d])`.
-ghost use Rattle.std.specs.Prelude.{◌≡◌, ◌∷◌, [], ◌++◌, OnOk, IfOk, map};
+ghost use Rattle.std.specs.Prelude.{◌≡◌, IfOk, map};
 ghost use Rattle.sd_lex.specs.PlainTree.{call};
 ghost use Rattle.sd_lex.specs.TreeFold.{dimensions_of, call_argument_of};
 ghost use Rattle.sd_phrase.specs.declared.word.Mark.TheVariants.{Comma};

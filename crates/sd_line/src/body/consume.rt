@@ -10,7 +10,10 @@ ghost use Rattle.sd_phrase.specs.Words.{spelling};
 
 use crate::head::Head;
 use sd_list::NoMemory;
-use sd_phrase::{Bracket, Few, Mark, Piece, Reading, after, closed_whole, few_parts, header, lone_name, lone_number, name_first, name_of, next};
+use sd_phrase::{
+    Bracket, Few, Mark, Piece, Reading, after, closed_whole, few_parts, header, lone_name,
+    lone_number, name_first, name_of, next,
+};
 use std::alloc::Global;
 
 fn read_decorator_parts(

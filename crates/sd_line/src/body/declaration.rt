@@ -14,7 +14,10 @@ ghost use Rattle.sd_phrase.specs.Words.{spelling};
 use crate::head::Head;
 use sd_lex::{Expr, Statement};
 use sd_list::NoMemory;
-use sd_phrase::{LEVELS, Bracket, Few, Mark, Piece, Reading, after, bracketed, closed_whole, few_parts, is_phrase, lone_number, name_of, next, read_list};
+use sd_phrase::{
+    Bracket, Few, LEVELS, Mark, Piece, Reading, after, bracketed, closed_whole, few_parts,
+    is_phrase, lone_number, name_of, next, read_list,
+};
 use std::alloc::Global;
 
 /// Whether the tokens are the type of 64 bits, also behind `dtype=`.

@@ -10,7 +10,10 @@ ghost use Rattle.sd_phrase.specs.Words.{spelling};
 use crate::head::{BlockKind, Head};
 use sd_lex::{Expr, Slot, Statement};
 use sd_list::NoMemory;
-use sd_phrase::{LEVELS, Bracket, Mark, Piece, Reading, at_mark, bracketed_whole, name_first, name_of, next, read_expression, read_list, read_slots};
+use sd_phrase::{
+    Bracket, LEVELS, Mark, Piece, Reading, at_mark, bracketed_whole, name_first, name_of, next,
+    read_expression, read_list, read_slots,
+};
 use std::alloc::Global;
 
 fn assign_of(

@@ -1,5 +1,5 @@
 //! A line of a body, whatever it is.
-ghost use Rattle.std.specs.Prelude.{◌≡◌, ◌∷◌, IfOk};
+ghost use Rattle.std.specs.Prelude.{◌≡◌, IfOk};
 ghost use Rattle.sd_line.specs.BodyLine as definition;
 ghost use Rattle.sd_line.specs.HeadFold.{head_tree};
 ghost use Rattle.sd_phrase.specs.Readings.{reading_map};
@@ -15,7 +15,10 @@ use crate::body::repetition::read_for;
 use crate::head::{BlockKind, Head};
 use sd_lex::Statement;
 use sd_list::NoMemory;
-use sd_phrase::{Bracket, Piece, Reading, after, bracketed, bracketed_whole, closed_whole, is_name, is_phrase, is_spelled, next};
+use sd_phrase::{
+    Bracket, Piece, Reading, after, bracketed, bracketed_whole, closed_whole, is_name, is_phrase,
+    is_spelled, next,
+};
 use std::alloc::Global;
 
 /// A line by its first word.

@@ -9,7 +9,10 @@ ghost use Rattle.sd_phrase.specs.Words.{spelling};
 
 use crate::head::Head;
 use sd_list::NoMemory;
-use sd_phrase::{Mark, LambdaNames, Piece, Reading, WrittenLambda, after, at_mark, lambda_names, lone_number, name_first, name_of, next, number_first, read_lambda_by};
+use sd_phrase::{
+    LambdaNames, Mark, Piece, Reading, WrittenLambda, after, at_mark, lambda_names, lone_number,
+    name_first, name_of, next, number_first, read_lambda_by,
+};
 use std::alloc::Global;
 
 /// The number below zero that a minus makes.

@@ -1,5 +1,5 @@
 //! `for k in range(..):` and `for i, j in dace.map[..]:`.
-ghost use Rattle.std.specs.Prelude.{◌≡◌, ◌∷◌, [], ◌++◌, length, map, Some, None, OnOk, IfOk, IfSome, MatchOption, string_bytes};
+ghost use Rattle.std.specs.Prelude.{◌≡◌, ◌∷◌, [], ◌++◌, map, Some, None, OnOk, IfOk, IfSome, MatchOption, string_bytes};
 ghost use Rattle.sd_lex.specs.PlainTree.{map_scope, no_statement};
 ghost use Rattle.sd_lex.specs.TreeFold.{expression_of, dimensions_of};
 ghost use Rattle.sd_line.specs.Repetition as definition;
@@ -8,13 +8,15 @@ ghost use Rattle.sd_line.specs.HeadFold.{head_tree};
 ghost use Rattle.sd_phrase.specs.Parts as parts;
 ghost use Rattle.sd_phrase.specs.Parts.{few_of, IsEach};
 ghost use Rattle.sd_phrase.specs.Readings.{reading_map, both};
-ghost use Rattle.sd_phrase.specs.Spans.{AreInside, IsInside};
-ghost use Rattle.sd_phrase.specs.Words.{spelling};
+ghost use Rattle.sd_phrase.specs.Spans.{AreInside};
 
 use crate::head::Head;
 use sd_lex::{Expr, Slot, Statement};
 use sd_list::NoMemory;
-use sd_phrase::{LEVELS, Bracket, Few, Mark, Piece, Reading, after, few_parts, header, name_first, name_of, next, part_count, read_expression, read_slots, step_of};
+use sd_phrase::{
+    Bracket, Few, LEVELS, Mark, Piece, Reading, after, few_parts, header, name_first, name_of,
+    next, part_count, read_expression, read_slots, step_of,
+};
 use std::alloc::Global;
 
 fn push(list: &mut Vec<String>, item: String) -> Result<(), NoMemory>
