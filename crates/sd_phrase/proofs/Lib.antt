@@ -3,3 +3,16 @@ pub mod PartLemmas
 pub mod PieceLemmas
 pub mod ReaderLemmas
 pub mod InsideLemmas
+pub mod BracketLemmas
+pub mod OperandLemmas
+pub mod LevelLemmas
+pub mod SpelledTokens
+pub mod PartsRead
+pub mod ReadsBack
+pub mod RankLemmas
+pub mod WrittenTokens
+pub mod WrittenCuts
+pub mod WrittenReads
+pub mod WrittenOnce
+pub mod GroupedReads
+pub mod examples

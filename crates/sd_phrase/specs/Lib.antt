@@ -9,3 +9,5 @@ pub mod SubsetReading
 pub mod Memlet
 pub mod LambdaReading
 pub mod MemletReading
+pub mod Printing
+pub mod Grammar

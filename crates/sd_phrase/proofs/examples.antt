@@ -1,0 +1,2 @@
+pub mod PrintingExamples
+pub mod GrammarExamples
