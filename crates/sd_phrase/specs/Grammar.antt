@@ -16,6 +16,7 @@ use Rattle.sd_phrase.specs.Words.{spelling}
 use Rattle.sd_phrase.specs.Signs.{level_of_one, level_of_two}
 use Rattle.sd_phrase.specs.Printing.{word_between, word_before, is_call, is_variable}
 
+-- the operators of the rank of comparisons
 abbrev pub is_comparison : TwoSign → Bool
 is_comparison Less = true
 is_comparison LessEqual = true
