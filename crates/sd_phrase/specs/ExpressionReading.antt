@@ -42,7 +42,7 @@ abbrev pub element : List ℕ → (subscript : Reader) → List Piece → Readin
 element name subscript rest =
     if_some (whole (bracketed Square rest)) (λ inside. reading_map (λ at. element_at name (expressions_listed at)) (listed (map subscript (parts_of Comma inside))))
 
--- what `min` and `max` stand before: round brackets with two parts, or as any name the subscripts of an element
+-- behind `min(` or `max(`: two parts, and the bracket that ends the list
 abbrev pub call_of : TwoSign → Reader → List Piece → Reading Expression
 call_of sign read more = if_some (whole (closed Round more)) (λ inside. pair sign read (few (parts_of Comma inside)))
 

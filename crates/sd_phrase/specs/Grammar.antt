@@ -71,6 +71,10 @@ mutual
     written_more : (levels : ℕ) (tree : Expression) (trees : Expressions) (front back : List Piece) (comma : Piece) →
         Written text false levels 1 tree front → comma.word ≡ Stop Comma → WrittenEach text levels trees back → WrittenEach text levels (and_expression tree trees) (front ++ comma ∷ back)
 
+-- the rank of what no operator outside brackets divides
+abbrev pub undivided : ℕ
+undivided = 12
+
 -- what three operands with two operators between them are: the tighter operator joins first, of two of one rank the left one, and two comparisons are no form
 abbrev pub grouped : (first second : TwoSign) → (a b c : Expression) → Reading Expression
 grouped first second a b c =

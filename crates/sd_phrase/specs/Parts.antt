@@ -134,7 +134,7 @@ abbrev pub whole : Option (List Piece × List Piece) → Option (List Piece)
 whole None = None
 whole (Some cut) = nothing_behind cut.0 cut.1
 
--- the same, where so many are open
+-- each bracket is closed and none that was not opened, where so many are open
 abbrev pub is_balanced_from : (depth : ℕ) → List Piece → Bool
 is_balanced_from depth [] = nat_eq depth 0
 is_balanced_from depth (t ∷ ts) = if nat_eq (depth_after t.word (depth + 1)) 0 then false else is_balanced_from (depth_after t.word (depth + 1) - 1) ts

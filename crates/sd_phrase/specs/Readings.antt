@@ -29,7 +29,7 @@ abbrev pub if_empty : {A B : Type 0} → List A → Reading B → Reading B
 if_empty [] r = r
 if_empty (x ∷ xs) r = NoForm
 
--- the same where the forms before are known, and whether one of the parts before is too deep
+-- readings of parts as one of their list, where the forms before are known, and whether a part before is too deep
 abbrev pub listed_from : {A : Type 0} → (before : List A) → (deep : Bool) → List (Reading A) → Reading (List A)
 listed_from before deep [] = if deep then TooDeep else Form before
 listed_from before deep (NoForm ∷ rs) = NoForm

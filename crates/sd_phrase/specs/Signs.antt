@@ -12,7 +12,7 @@ use Rattle.sd_phrase.specs.declared.word.Sign.TheVariants.{Stop as Stop_sign, If
 use Rattle.sd_phrase.specs.declared.word.Word.{Word}
 use Rattle.sd_phrase.specs.declared.word.Word.TheVariants.{Number, Name, Callee, Between, Before, Minus, If as If_word, Else as Else_word, Stop, Open, Close, Quoted}
 
--- the levels from the loosest: 0 a mark that no expression has, 1 a conditional, 2 `or`, 3 `and`, 4 `not`, 5 one comparison, 6 `|`, 7 `^`, 8 `&`, 9 `+ -`, 10 `* // %`, 11 unary `- ~`
+-- the levels from the loosest: 0 a mark that no expression has, 1 a conditional, 2 `or`, 3 `and`, 4 `not`, 5 one comparison, 6 `|`, 7 `^`, 8 `&`, 9 `+ -`, 10 `* // %`, 11 unary `- ~`; min and max are calls and never cut a list
 abbrev pub level_of_two : TwoSign → ℕ
 level_of_two Or = 2
 level_of_two And = 3

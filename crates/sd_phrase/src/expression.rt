@@ -161,7 +161,7 @@ pub fn read_expression(
 /// The tokens as an expression with no sign outside brackets that is looser than the limit.
 #[cycle(reads)]
 #[tactic(auto, using(crate::proofs::ReaderLemmas::reads_none, crate::proofs::ReaderLemmas::reads_more, crate::proofs::ReaderLemmas::reads_cut))]
-pub fn read_at(
+fn read_at(
     alloc: Global,
     text: &[u8],
     in_body: bool,

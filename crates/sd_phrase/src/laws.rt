@@ -4,7 +4,7 @@ ghost use Rattle.sd_lex.specs.PlainTree.{Expression};
 ghost use Rattle.sd_phrase.specs.declared.reading.Reading.TheVariants.{Form};
 ghost use Rattle.sd_phrase.specs.declared.word.Piece.{Piece};
 ghost use Rattle.sd_phrase.specs.ExpressionReading.{expression, reads};
-ghost use Rattle.sd_phrase.specs.Grammar.{Written, grouped};
+ghost use Rattle.sd_phrase.specs.Grammar.{Written, undivided, grouped};
 ghost use Rattle.sd_phrase.specs.Printing.{Spells, fits, read_back, word_between, is_call};
 
 /// An expression printed with all its parentheses reads as the same tree where the levels are
@@ -24,5 +24,5 @@ pub fn an_expression_of_the_grammar_reads_as_its_tree()
 /// Three operands, each of which no operator divides, with two operators between them read as the
 /// ranks of the two say.
 pub fn operators_join_by_their_ranks()
-    ensures { (text : List ℕ) (in_body : Bool) (levels : ℕ) (first second : TwoSign) (a b c : Expression) (front middle back : List Piece) (t u : Piece) → is_call first ≡ false → is_call second ≡ false → Written text in_body levels 12 a front → t.word ≡ word_between first → Written text in_body levels 12 b middle → u.word ≡ word_between second → Written text in_body levels 12 c back → expression text in_body (suc (suc levels)) (front ++ t ∷ (middle ++ u ∷ back)) ≡ grouped first second a b c }
+    ensures { (text : List ℕ) (in_body : Bool) (levels : ℕ) (first second : TwoSign) (a b c : Expression) (front middle back : List Piece) (t u : Piece) → is_call first ≡ false → is_call second ≡ false → Written text in_body levels undivided a front → t.word ≡ word_between first → Written text in_body levels undivided b middle → u.word ≡ word_between second → Written text in_body levels undivided c back → expression text in_body (suc (suc levels)) (front ++ t ∷ (middle ++ u ∷ back)) ≡ grouped first second a b c }
 {}

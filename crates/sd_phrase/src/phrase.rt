@@ -1,5 +1,5 @@
 //! Tokens by their look: names and signs with given bytes, names, numbers.
-ghost use Rattle.std.specs.Prelude.{◌≡◌, Some, None, map, IfSome, MatchOption};
+ghost use Rattle.std.specs.Prelude.{◌≡◌, [], ◌∷◌, Some, None, map, IfSome, MatchOption};
 ghost use Rattle.sd_phrase.specs.Parts as parts;
 ghost use Rattle.sd_phrase.specs.Phrase as phrases;
 ghost use Rattle.sd_phrase.specs.Spans.{AreInside, IsInside};
@@ -48,6 +48,7 @@ pub fn is_phrase(text: &[u8], tokens: &[Piece], phrase: &[&str]) -> bool
 pub fn name_first<'a>(text: &[u8], tokens: &'a [Piece]) -> Option<(Piece, &'a [Piece])>
     requires { AreInside text.now tokens.now }
     ensures rest { MatchOption result (phrases.name_first text.now tokens.now ≡ None) (λ found. phrases.name_first text.now tokens.now ≡ Some (spelling text.now found.0, found.1.now)) }
+    ensures token { IfSome result (λ found. tokens.now ≡ found.0 ∷ found.1.now) }
     ensures inside { IfSome result (λ found. IsInside text.now found.0 × AreInside text.now found.1.now) }
 {
     match tokens {
@@ -60,6 +61,7 @@ pub fn name_first<'a>(text: &[u8], tokens: &'a [Piece]) -> Option<(Piece, &'a [P
 pub fn lone_name(text: &[u8], tokens: &[Piece]) -> Option<Piece>
     requires { AreInside text.now tokens.now }
     ensures name { MatchOption result (phrases.lone_name text.now tokens.now ≡ None) (λ name. phrases.lone_name text.now tokens.now ≡ Some (spelling text.now name)) }
+    ensures token { IfSome result (λ name. tokens.now ≡ name ∷ []) }
     ensures inside { IfSome result (IsInside text.now) }
 {
     match tokens {
@@ -109,7 +111,7 @@ pub fn lone_number(tokens: &[Piece]) -> Option<i64>
     }
 }
 
-/// The same from 1 on.
+/// The number that the only token is, from 1 on, as a step has to be.
 pub fn step_of(tokens: &[Piece]) -> Option<i64>
     ensures { result ≡ phrases.step_of tokens.now }
 {

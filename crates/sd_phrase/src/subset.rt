@@ -144,7 +144,7 @@ fn read_map_range(alloc: Global, text: &[u8], parts: Few<'_>) -> Result<Reading<
     }
 }
 
-/// A dimension of a subset, or a range of a map.
+/// A dimension of a subset where `in_subset`, and else a range of a map.
 fn read_slot(
     alloc: Global,
     text: &[u8],
@@ -162,7 +162,7 @@ fn read_slot(
     }
 }
 
-/// Dimensions of a subset, or ranges of a map, between commas.
+/// Dimensions of a subset where `in_subset`, and else ranges of a map, between commas.
 pub fn read_slots(
     alloc: Global,
     text: &[u8],
