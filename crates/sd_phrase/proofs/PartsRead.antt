@@ -14,38 +14,38 @@ use Rattle.sd_phrase.specs.declared.word.Sign.TheVariants.{If as If_sign, Else a
 use Rattle.sd_phrase.specs.declared.word.Word.{Word}
 use Rattle.sd_phrase.specs.declared.word.Word.TheVariants.{Number, Name, Callee, If, Else, Stop, Open, Close}
 use Rattle.sd_phrase.specs.Readings.{reading_map, both}
-use Rattle.sd_phrase.specs.Signs.{level_of_one, level_of_two}
-use Rattle.sd_phrase.specs.ExpressionReading.{Reader, all_three, left_limit, atom_by, element_or_deep, subscripts_by, reads_by}
+use Rattle.sd_phrase.specs.Signs.{rank_of_one, rank_of_two}
+use Rattle.sd_phrase.specs.ExpressionReading.{Reader, all_three, rank_on_left, atom_by, element_or_deep, subscripts_by, reads_by}
 use Rattle.sd_phrase.specs.Words.{spelling}
 use Rattle.sd_phrase.specs.Printing.{word_between, word_before, is_variable, spend, read_back}
 use Rattle.sd_phrase.proofs.BracketLemmas.{Keeps}
 use Rattle.sd_phrase.proofs.OperandLemmas.{IsOperand, HasNoComma, operand_variable, operand_number, uncut_operand, sign_word, between_is_sign, before_is_sign, if_is_sign, else_is_sign, cut_between, cut_before, cut_conditional}
 use Rattle.sd_phrase.proofs.LevelLemmas.{without_level, with_level, parentheses_read, too_deep, deep_parenthesis, deep_before, two_read, one_read, choice_read, call_read, deep_call}
 
--- one is the loosest limit
-looser_than_none : (sign : TwoSign) → nat_lt (level_of_two sign) 1 ≡ false
+-- one is the loosest rank
+looser_than_none : (sign : TwoSign) → nat_lt (rank_of_two sign) 1 ≡ false
 looser_than_none Or = refl
 looser_than_none sign = refl
 
-looser_than_none_before : (sign : OneSign) → nat_lt (level_of_one sign) 1 ≡ false
+looser_than_none_before : (sign : OneSign) → nat_lt (rank_of_one sign) 1 ≡ false
 looser_than_none_before Not = refl
 looser_than_none_before sign = refl
 
 -- a single token
-pub number_reads : (text : List ℕ) (own : Option Reader) (levels limit : ℕ) (t : Piece) (value : ℤ) → t.word ≡ Number value → reads_by text own levels limit (t ∷ []) ≡ Form (number value)
-number_reads text own zero limit t value e = without_level text own limit (t ∷ []) ∙ ap (λ w. atom_by (λ ts. NoForm) (λ ts. NoForm) w (spelling text t) []) e
-number_reads text own (suc n) limit t value e =
-    with_level text own n limit (t ∷ []) None (uncut_operand (t ∷ []) (operand_number t value e)) ∙ ap (λ w. atom_by (reads_by text own n 1) (subscripts_by own (reads_by text own n 1)) w (spelling text t) []) e
+pub number_reads : (text : List ℕ) (own : Option Reader) (levels rank : ℕ) (t : Piece) (value : ℤ) → t.word ≡ Number value → reads_by text own levels rank (t ∷ []) ≡ Form (number value)
+number_reads text own zero rank t value e = without_level text own rank (t ∷ []) ∙ ap (λ w. atom_by (λ ts. NoForm) (λ ts. NoForm) w (spelling text t) []) e
+number_reads text own (suc n) rank t value e =
+    with_level text own n rank (t ∷ []) None (uncut_operand (t ∷ []) (operand_number t value e)) ∙ ap (λ w. atom_by (reads_by text own n 1) (subscripts_by own (reads_by text own n 1)) w (spelling text t) []) e
 
 variable_atom : (read subscript : Reader) (w : Word) (name : List ℕ) → is_variable w ≡ true → atom_by read subscript w name [] ≡ Form (named name)
 variable_atom read subscript Name name h = refl
 variable_atom read subscript (Callee sign) name h = refl
 variable_atom read subscript w name h = cc
 
-pub name_reads : (text : List ℕ) (own : Option Reader) (levels limit : ℕ) (t : Piece) → is_variable t.word ≡ true → reads_by text own levels limit (t ∷ []) ≡ Form (named (spelling text t))
-name_reads text own zero limit t h = without_level text own limit (t ∷ []) ∙ variable_atom (λ ts. NoForm) (λ ts. NoForm) t.word (spelling text t) h
-name_reads text own (suc n) limit t h =
-    with_level text own n limit (t ∷ []) None (uncut_operand (t ∷ []) (operand_variable t h)) ∙ variable_atom (reads_by text own n 1) (subscripts_by own (reads_by text own n 1)) t.word (spelling text t) h
+pub name_reads : (text : List ℕ) (own : Option Reader) (levels rank : ℕ) (t : Piece) → is_variable t.word ≡ true → reads_by text own levels rank (t ∷ []) ≡ Form (named (spelling text t))
+name_reads text own zero rank t h = without_level text own rank (t ∷ []) ∙ variable_atom (λ ts. NoForm) (λ ts. NoForm) t.word (spelling text t) h
+name_reads text own (suc n) rank t h =
+    with_level text own n rank (t ∷ []) None (uncut_operand (t ∷ []) (operand_variable t h)) ∙ variable_atom (reads_by text own n 1) (subscripts_by own (reads_by text own n 1)) t.word (spelling text t) h
 
 -- readings of parts that are each enough or too deep
 both_back : (sign : TwoSign) (a b : Bool) (l r : Expression) → both (two sign) (read_back a l) (read_back b r) ≡ read_back (a && b) (two sign l r)
@@ -76,22 +76,22 @@ all_spent : (n : ℕ) (f g h : ℕ → Bool) → (spend 1 n f && (spend 1 n g &&
 all_spent zero f g h = refl
 all_spent (suc n) f g h = refl
 
--- tokens that read as the tree where what a level leaves is enough, at whatever limit
+-- tokens that read as the tree where what a level leaves is enough, at whatever rank
 abbrev pub ReadsWith : List ℕ → Option Reader → List Piece → (ℕ → Bool) → Expression → Type 0
-ReadsWith text own ts f tree = (levels limit : ℕ) → reads_by text own levels limit ts ≡ read_back (spend 1 levels f) tree
+ReadsWith text own ts f tree = (levels rank : ℕ) → reads_by text own levels rank ts ≡ read_back (spend 1 levels f) tree
 
-pub parentheses_back : (text : List ℕ) (own : Option Reader) (levels limit : ℕ) (opening closing : Piece) (inside : List Piece) (f : ℕ → Bool) (tree : Expression) →
+pub parentheses_back : (text : List ℕ) (own : Option Reader) (levels rank : ℕ) (opening closing : Piece) (inside : List Piece) (f : ℕ → Bool) (tree : Expression) →
     opening.word ≡ Open Round → closing.word ≡ Close Round → Keeps 0 inside → ((n : ℕ) → reads_by text own n 1 inside ≡ read_back (f n) tree) →
-    reads_by text own levels limit (opening ∷ inside ++ closing ∷ []) ≡ read_back (spend 1 levels f) tree
-parentheses_back text own zero limit opening closing inside f tree e g k h =
-    too_deep text own limit opening (inside ++ closing ∷ []) (Open Round) e deep_parenthesis (omega (arith, length-append inside (closing ∷ [])))
-parentheses_back text own (suc n) limit opening closing inside f tree e g k h = parentheses_read text own n limit opening closing inside e g k ∙ h n
+    reads_by text own levels rank (opening ∷ inside ++ closing ∷ []) ≡ read_back (spend 1 levels f) tree
+parentheses_back text own zero rank opening closing inside f tree e g k h =
+    too_deep text own rank opening (inside ++ closing ∷ []) (Open Round) e deep_parenthesis (omega (arith, length-append inside (closing ∷ [])))
+parentheses_back text own (suc n) rank opening closing inside f tree e g k h = parentheses_read text own n rank opening closing inside e g k ∙ h n
 
 pub one_reads : (text : List ℕ) (own : Option Reader) (levels : ℕ) (sign : OneSign) (back : List Piece) (t : Piece) (f : ℕ → Bool) (tree : Expression) →
     t.word ≡ word_before sign → IsOperand back → 0 < length back → ReadsWith text own back f tree → reads_by text own levels 1 (t ∷ back) ≡ read_back (spend 2 levels f) (one sign tree)
 one_reads text own zero sign back t f tree e p l r = too_deep text own 1 t back (word_before sign) e (deep_before sign) l
 one_reads text own (suc n) sign back t f tree e p l r =
-    one_read text own n 1 sign back t (looser_than_none_before sign) (cut_before back t (One sign) (sign_word t.word (word_before sign) false (One sign) e (before_is_sign sign)) p) ∙ ap (reading_map (one sign)) (r n (level_of_one sign)) ∙ one_back sign (spend 1 n f) tree
+    one_read text own n 1 sign back t (looser_than_none_before sign) (cut_before back t (One sign) (sign_word t.word (word_before sign) false (One sign) e (before_is_sign sign)) p) ∙ ap (reading_map (one sign)) (r n (rank_of_one sign)) ∙ one_back sign (spend 1 n f) tree
 
 pub two_reads : (text : List ℕ) (own : Option Reader) (levels : ℕ) (sign : TwoSign) (front back : List Piece) (t : Piece) (f g : ℕ → Bool) (left right : Expression) →
     reads_by text own zero 1 (front ++ t ∷ back) ≡ TooDeep → IsOperand front → t.word ≡ word_between sign → IsOperand back → ReadsWith text own front f left → ReadsWith text own back g right →
@@ -100,8 +100,8 @@ two_reads text own zero sign front back t f g left right d o e p l r = d
 two_reads text own (suc n) sign front back t f g left right d o e p l r =
     two_read text own n 1 sign front back t (looser_than_none sign)
     (cut_between front back t (Two sign) o (sign_word t.word (word_between sign) true (Two sign) e (between_is_sign sign)) p)
-    ∙ ap (λ x. both (two sign) x (reads_by text own n (level_of_two sign + 1) back)) (l n (left_limit (level_of_two sign)))
-    ∙ ap (both (two sign) (read_back (spend 1 n f) left)) (r n (level_of_two sign + 1))
+    ∙ ap (λ x. both (two sign) x (reads_by text own n (rank_of_two sign + 1) back)) (l n (rank_on_left (rank_of_two sign)))
+    ∙ ap (both (two sign) (read_back (spend 1 n f) left)) (r n (rank_of_two sign + 1))
     ∙ both_back sign (spend 1 n f) (spend 1 n g) left right ∙ ap (λ b. read_back b (two sign left right)) (both_spent n f g)
 
 pub choice_reads : (text : List ℕ) (own : Option Reader) (levels : ℕ) (front middle back : List Piece) (t u : Piece) (f g h : ℕ → Bool) (value when other : Expression) →

@@ -10,8 +10,8 @@ use Rattle.sd_phrase.specs.declared.word.Piece.{Piece}
 use Rattle.sd_phrase.specs.declared.word.Place.{Place}
 use Rattle.sd_phrase.specs.declared.word.Sign.{Sign}
 use Rattle.sd_phrase.specs.declared.word.Sign.TheVariants.{Stop as Stop_sign, If as If_sign, Else as Else_sign, One, Two}
-use Rattle.sd_phrase.specs.Signs.{level, level_of_one, level_of_two, cuts_before, cut_from, cut_of, better}
-use Rattle.sd_phrase.specs.ExpressionReading.{left_limit}
+use Rattle.sd_phrase.specs.Signs.{rank_of, rank_of_one, rank_of_two, cuts_before, cut_from, cut_of, better}
+use Rattle.sd_phrase.specs.ExpressionReading.{rank_on_left}
 use Rattle.sd_phrase.specs.Grammar.{rank_before}
 use Rattle.sd_phrase.proofs.OperandLemmas.{IsOperand, IsSign, sign_step, place}
 
@@ -28,7 +28,7 @@ looser : (a b : ℕ) → a + 1 ≤ b → nat_lt a b ≡ true
 looser a b h = grind (arith, nat_tests)
 
 -- no operator between operands has the rank of one before its operand
-ranks_apart : (sign : OneSign) (other : TwoSign) → level_of_one sign ≤ level_of_two other → level_of_one sign + 1 ≤ level_of_two other
+ranks_apart : (sign : OneSign) (other : TwoSign) → rank_of_one sign ≤ rank_of_two other → rank_of_one sign + 1 ≤ rank_of_two other
 ranks_apart Not Or h = omega arith
 ranks_apart Not other h = omega arith
 ranks_apart Neg Or h = omega arith
@@ -36,46 +36,46 @@ ranks_apart Neg other h = omega arith
 ranks_apart Inv Or h = omega arith
 ranks_apart Inv other h = omega arith
 
-tighter_than_choice : (sign : TwoSign) → 2 ≤ level_of_two sign
+tighter_than_choice : (sign : TwoSign) → 2 ≤ rank_of_two sign
 tighter_than_choice Or = omega arith
 tighter_than_choice sign = omega arith
 
-pub rank_before_limit : (sign : TwoSign) → rank_before sign ≡ left_limit (level_of_two sign)
-rank_before_limit Or = refl
-rank_before_limit sign = refl
+pub rank_before_is_on_left : (sign : TwoSign) → rank_before sign ≡ rank_on_left (rank_of_two sign)
+rank_before_is_on_left Or = refl
+rank_before_is_on_left sign = refl
 
-pub rank_before_keeps : (sign : TwoSign) → level_of_two sign ≤ rank_before sign
+pub rank_before_keeps : (sign : TwoSign) → rank_of_two sign ≤ rank_before sign
 rank_before_keeps Or = omega arith
 rank_before_keeps sign = omega arith
 
 -- no later sign of this rank or a tighter one cuts the list in place of the sign
 abbrev pub StaysBefore : Sign → (rank : ℕ) → Type 0
-StaysBefore earlier rank = (sign : Sign) → rank ≤ level sign → cuts_before sign earlier ≡ false
+StaysBefore earlier rank = (sign : Sign) → rank ≤ rank_of sign → cuts_before sign earlier ≡ false
 
-pub two_stays : (sign : TwoSign) → StaysBefore (Two sign) (level_of_two sign + 1)
-two_stays sign (Two other) h = tighter (level_of_two other) (level_of_two sign) h
-two_stays sign (One other) h = not_looser_than (level_of_one other) (level_of_two sign) (omega arith)
-two_stays sign If_sign h = not_looser_than 1 (level_of_two sign) (omega arith)
-two_stays sign Else_sign h = not_looser_than 1 (level_of_two sign) (omega arith)
-two_stays sign Stop_sign h = not_looser_than 0 (level_of_two sign) (omega arith)
+pub two_stays : (sign : TwoSign) → StaysBefore (Two sign) (rank_of_two sign + 1)
+two_stays sign (Two other) h = tighter (rank_of_two other) (rank_of_two sign) h
+two_stays sign (One other) h = not_looser_than (rank_of_one other) (rank_of_two sign) (omega arith)
+two_stays sign If_sign h = not_looser_than 1 (rank_of_two sign) (omega arith)
+two_stays sign Else_sign h = not_looser_than 1 (rank_of_two sign) (omega arith)
+two_stays sign Stop_sign h = not_looser_than 0 (rank_of_two sign) (omega arith)
 
-pub one_stays : (sign : OneSign) → StaysBefore (One sign) (level_of_one sign)
-one_stays sign (Two other) h = tighter (level_of_two other) (level_of_one sign) (ranks_apart sign other h)
-one_stays sign (One other) h = not_looser_than (level_of_one other) (level_of_one sign) h
-one_stays sign If_sign h = not_looser_than 1 (level_of_one sign) h
-one_stays sign Else_sign h = not_looser_than 1 (level_of_one sign) h
-one_stays sign Stop_sign h = not_looser_than 0 (level_of_one sign) h
+pub one_stays : (sign : OneSign) → StaysBefore (One sign) (rank_of_one sign)
+one_stays sign (Two other) h = tighter (rank_of_two other) (rank_of_one sign) (ranks_apart sign other h)
+one_stays sign (One other) h = not_looser_than (rank_of_one other) (rank_of_one sign) h
+one_stays sign If_sign h = not_looser_than 1 (rank_of_one sign) h
+one_stays sign Else_sign h = not_looser_than 1 (rank_of_one sign) h
+one_stays sign Stop_sign h = not_looser_than 0 (rank_of_one sign) h
 
 pub if_stays : StaysBefore If_sign 1
-if_stays (Two other) h = tighter (level_of_two other) 1 (tighter_than_choice other)
-if_stays (One other) h = not_looser_than (level_of_one other) 1 h
+if_stays (Two other) h = tighter (rank_of_two other) 1 (tighter_than_choice other)
+if_stays (One other) h = not_looser_than (rank_of_one other) 1 h
 if_stays If_sign h = refl
 if_stays Else_sign h = refl
 if_stays Stop_sign h = absurd (omega arith)
 
 pub else_stays : StaysBefore Else_sign 1
-else_stays (Two other) h = tighter (level_of_two other) 1 (tighter_than_choice other)
-else_stays (One other) h = not_looser_than (level_of_one other) 1 h
+else_stays (Two other) h = tighter (rank_of_two other) 1 (tighter_than_choice other)
+else_stays (One other) h = not_looser_than (rank_of_one other) 1 h
 else_stays If_sign h = refl
 else_stays Else_sign h = refl
 else_stays Stop_sign h = absurd (omega arith)
@@ -83,7 +83,7 @@ else_stays Stop_sign h = absurd (omega arith)
 -- the sign found, if there is one, is of this rank or a tighter one
 abbrev pub IsAtLeast : (rank : ℕ) → Option Place → Type 0
 IsAtLeast rank None = ⊤
-IsAtLeast rank (Some found) = rank ≤ level found.sign
+IsAtLeast rank (Some found) = rank ≤ rank_of found.sign
 
 -- the sign cuts the list in place of any of this rank or a tighter one
 abbrev pub CutsAfter : Sign → (rank : ℕ) → Type 0
@@ -92,21 +92,21 @@ CutsAfter sign rank = (best : Option Place) (at : ℕ) → IsAtLeast rank best �
 chosen : (sign : Sign) (found : Place) (at : ℕ) → cuts_before sign found.sign ≡ true → better (Some found) at (Some sign) ≡ Some (place at sign)
 chosen sign found at e = ap (λ b. if b then Some (place at sign) else Some found) e
 
-pub loose_two_cuts : (sign : TwoSign) → CutsAfter (Two sign) (level_of_two sign)
+pub loose_two_cuts : (sign : TwoSign) → CutsAfter (Two sign) (rank_of_two sign)
 loose_two_cuts sign None at h = refl
-loose_two_cuts sign (Some found) at h = chosen (Two sign) found at (as_loose (level_of_two sign) (level found.sign) h)
+loose_two_cuts sign (Some found) at h = chosen (Two sign) found at (as_loose (rank_of_two sign) (rank_of found.sign) h)
 
 pub two_cuts : (sign : TwoSign) → CutsAfter (Two sign) (rank_before sign)
 two_cuts sign None at h = refl
-two_cuts sign (Some found) at h = let k = rank_before_keeps sign in chosen (Two sign) found at (as_loose (level_of_two sign) (level found.sign) (omega arith))
+two_cuts sign (Some found) at h = let k = rank_before_keeps sign in chosen (Two sign) found at (as_loose (rank_of_two sign) (rank_of found.sign) (omega arith))
 
 pub if_cuts : CutsAfter If_sign 2
 if_cuts None at h = refl
-if_cuts (Some found) at h = chosen If_sign found at (looser 1 (level found.sign) h)
+if_cuts (Some found) at h = chosen If_sign found at (looser 1 (rank_of found.sign) h)
 
 pub else_cuts : CutsAfter Else_sign 2
 else_cuts None at h = refl
-else_cuts (Some found) at h = chosen Else_sign found at (looser 1 (level found.sign) h)
+else_cuts (Some found) at h = chosen Else_sign found at (looser 1 (rank_of found.sign) h)
 
 -- behind a sign that stays before those of the rank, the search passes over the tokens
 abbrev pub Under : (rank : ℕ) → List Piece → Type 0
@@ -128,7 +128,7 @@ stays_further earlier rank further h k sign l = k sign (omega arith)
 stays : (p : Place) (at : ℕ) (sign : Sign) → cuts_before sign p.sign ≡ false → better (Some p) at (Some sign) ≡ Some p
 stays p at sign e = ap (λ b. if b then Some (place at sign) else Some p) e
 
-pub sign_under : (rank before behind : ℕ) (front back : List Piece) (t : Piece) (sign : Sign) → rank ≤ level sign → rank ≤ before → rank ≤ behind →
+pub sign_under : (rank before behind : ℕ) (front back : List Piece) (t : Piece) (sign : Sign) → rank ≤ rank_of sign → rank ≤ before → rank ≤ behind →
     Under before front → IsSign t.word true sign → Under behind back → Under rank (front ++ t ∷ back)
 sign_under rank before behind front back t sign l m n u w v at p rest h =
     let a : at + length front + 1 + length back ≡ at + length (front ++ t ∷ back) = omega (arith, length-append front (t ∷ back)) in
@@ -139,7 +139,7 @@ sign_under rank before behind front back t sign l m n u w v at p rest h =
     ∙ v (at + length front + 1) p rest (stays_further p.sign rank behind n h)
     ∙ ap (λ k. cut_from 0 true k (Some p) rest) a
 
-pub before_under : (rank behind : ℕ) (back : List Piece) (t : Piece) (sign : Sign) → rank ≤ level sign → rank ≤ behind → IsSign t.word false sign → Under behind back → Under rank (t ∷ back)
+pub before_under : (rank behind : ℕ) (back : List Piece) (t : Piece) (sign : Sign) → rank ≤ rank_of sign → rank ≤ behind → IsSign t.word false sign → Under behind back → Under rank (t ∷ back)
 before_under rank behind back t sign l n w v at p rest h =
     let a : at + 1 + length back ≡ at + length (t ∷ back) = omega arith in
     sign_step t (back ++ rest) at false (Some p) sign w
@@ -169,7 +169,7 @@ before_cut behind back t sign s w v at rest =
     sign_step t (back ++ rest) at false None sign w ∙ v (at + 1) (place at sign) rest s
     ∙ ap (λ k. cut_from 0 true k (Some (place at sign)) rest) a ∙ ap (λ k. cut_from 0 true (at + length (t ∷ back)) (Some (place k sign)) rest) b
 
-pub cut_alone : (n rank : ℕ) (sign : Sign) (ts : List Piece) → rank ≤ level sign → CutAt n sign ts → Alone rank ts
+pub cut_alone : (n rank : ℕ) (sign : Sign) (ts : List Piece) → rank ≤ rank_of sign → CutAt n sign ts → Alone rank ts
 cut_alone n rank sign ts l c at rest = (Some (place (at + n) sign), l, c at rest)
 
 pub cut_whole : (n : ℕ) (sign : Sign) (ts : List Piece) → CutAt n sign ts → cut_of ts ≡ Some (place n sign)

@@ -86,11 +86,11 @@ mutual
   spelled_reads text tree ts (spelled_element name at t opening closing inside h e f s g) in_body levels =
       element_reads text in_body levels name at t opening closing inside h e f g (each_keeps text at inside s) (λ n. each_reads text at inside s n name [] false)
   spelled_reads text tree ts (spelled_one sign of t back e s) in_body levels =
-      one_reads text (own_subscripts text in_body) levels sign back t (λ n. fits in_body n of) of e (operand_passes text of back s) (operand_filled text of back s) (λ n limit. operand_reads text of back s in_body n limit)
+      one_reads text (own_subscripts text in_body) levels sign back t (λ n. fits in_body n of) of e (operand_passes text of back s) (operand_filled text of back s) (λ n rank. operand_reads text of back s in_body n rank)
   spelled_reads text tree ts (spelled_two sign left right front back t c s e r) in_body levels =
       two_reads text (own_subscripts text in_body) levels sign front back t (λ n. fits in_body n left) (λ n. fits in_body n right) left right
       (operand_too_deep text left front s (own_subscripts text in_body) 1 (t ∷ back)) (operand_passes text left front s) e (operand_passes text right back r)
-      (λ n limit. operand_reads text left front s in_body n limit) (λ n limit. operand_reads text right back r in_body n limit)
+      (λ n rank. operand_reads text left front s in_body n rank) (λ n rank. operand_reads text right back r in_body n rank)
       ∙ ap (λ b. read_back (spend (if b then 1 else 2) levels (λ n. fits in_body n left && fits in_body n right)) (two sign left right)) (sym c)
   spelled_reads text tree ts (spelled_call sign left right t opening comma closing front back c e f s g r h) in_body levels =
       call_reads text (own_subscripts text in_body) levels sign t opening comma closing front back (λ n. fits in_body n left) (λ n. fits in_body n right) left right e f g h
@@ -101,12 +101,12 @@ mutual
       choice_reads text (own_subscripts text in_body) levels front middle back t u (λ n. fits in_body n value) (λ n. fits in_body n when) (λ n. fits in_body n other) value when other
       (operand_too_deep text value front s (own_subscripts text in_body) 1 (t ∷ (middle ++ u ∷ back)))
       (operand_passes text value front s) e (operand_passes text when middle r) f (operand_passes text other back q)
-      (λ n limit. operand_reads text value front s in_body n limit) (λ n limit. operand_reads text when middle r in_body n limit) (λ n limit. operand_reads text other back q in_body n limit)
+      (λ n rank. operand_reads text value front s in_body n rank) (λ n rank. operand_reads text when middle r in_body n rank) (λ n rank. operand_reads text other back q in_body n rank)
 
-  pub operand_reads : (text : List ℕ) (tree : Expression) (ts : List Piece) → SpellsOperand text tree ts → (in_body : Bool) (levels limit : ℕ) →
-      reads text in_body levels limit ts ≡ read_back (spend 1 levels (λ left. fits in_body left tree)) tree
-  operand_reads text tree ts (in_parentheses inner opening closing inside e s f) in_body levels limit =
-      parentheses_back text (own_subscripts text in_body) levels limit opening closing inside (λ n. fits in_body n inner) inner e f (spelled_keeps text inner inside s)
+  pub operand_reads : (text : List ℕ) (tree : Expression) (ts : List Piece) → SpellsOperand text tree ts → (in_body : Bool) (levels rank : ℕ) →
+      reads text in_body levels rank ts ≡ read_back (spend 1 levels (λ left. fits in_body left tree)) tree
+  operand_reads text tree ts (in_parentheses inner opening closing inside e s f) in_body levels rank =
+      parentheses_back text (own_subscripts text in_body) levels rank opening closing inside (λ n. fits in_body n inner) inner e f (spelled_keeps text inner inside s)
       (λ n. spelled_reads text inner inside s in_body n)
 
   each_reads : (text : List ℕ) (trees : Expressions) (ts : List Piece) → SpellsEach text trees ts → (levels : ℕ) (name : List ℕ) (before : List Expression) (deep : Bool) →

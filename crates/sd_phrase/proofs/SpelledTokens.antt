@@ -72,10 +72,10 @@ operand_commas text tree ts (in_parentheses inner opening closing inside e s f) 
 pub operand_filled : (text : List ℕ) (tree : Expression) (ts : List Piece) → SpellsOperand text tree ts → 0 < length ts
 operand_filled text tree ts (in_parentheses inner opening closing inside e s f) = omega arith
 
-pub operand_too_deep : (text : List ℕ) (tree : Expression) (ts : List Piece) → SpellsOperand text tree ts → (own : Option Reader) (limit : ℕ) (rest : List Piece) →
-    reads_by text own zero limit (ts ++ rest) ≡ TooDeep
-operand_too_deep text tree ts (in_parentheses inner opening closing inside e s f) own limit rest =
-    too_deep text own limit opening ((inside ++ closing ∷ []) ++ rest) (Open Round) e deep_parenthesis
+pub operand_too_deep : (text : List ℕ) (tree : Expression) (ts : List Piece) → SpellsOperand text tree ts → (own : Option Reader) (rank : ℕ) (rest : List Piece) →
+    reads_by text own zero rank (ts ++ rest) ≡ TooDeep
+operand_too_deep text tree ts (in_parentheses inner opening closing inside e s f) own rank rest =
+    too_deep text own rank opening ((inside ++ closing ∷ []) ++ rest) (Open Round) e deep_parenthesis
     (omega (arith, length-append (inside ++ closing ∷ []) rest, length-append inside (closing ∷ [])))
 
 pub spelled_commas : (text : List ℕ) (tree : Expression) (ts : List Piece) → Spells text tree ts → HasNoComma ts

@@ -3,7 +3,7 @@ use Rattle.std.proofs.Common.{arith, ◌≡◌, sym, ◌∙◌, ◌≤◌, ℕ, 
 use Rattle.sd_lex.specs.PlainTree.{Expression, Expressions}
 use Rattle.sd_phrase.specs.declared.reading.Reading.TheVariants.{Form}
 use Rattle.sd_phrase.specs.declared.word.Piece.{Piece}
-use Rattle.sd_phrase.specs.Signs.{level_of_one, level_of_two}
+use Rattle.sd_phrase.specs.Signs.{rank_of_one, rank_of_two}
 use Rattle.sd_phrase.specs.Grammar.{rank_before, Written, written_number, written_name, written_element_of_body, written_element_of_tasklet, written_in_parentheses, written_one, written_two, written_call, written_choice, WrittenEach, written_last, written_more}
 use Rattle.sd_phrase.proofs.WrittenReads.{written_reads}
 
@@ -22,11 +22,11 @@ mutual
       written_in_parentheses b more wide inner opening closing inside e (written_wider text b n 1 inner inside s more 1 (omega arith) (omega arith)) f
   written_wider text in_body levels rank tree ts (written_one b n r sign of t back l e s) zero wide h k = absurd (omega arith)
   written_wider text in_body levels rank tree ts (written_one b n r sign of t back l e s) (suc more) wide h k =
-      written_one b more wide sign of t back (omega arith) e (written_wider text b n (level_of_one sign) of back s more (level_of_one sign) (omega arith) (omega arith))
+      written_one b more wide sign of t back (omega arith) e (written_wider text b n (rank_of_one sign) of back s more (rank_of_one sign) (omega arith) (omega arith))
   written_wider text in_body levels rank tree ts (written_two b n r sign left right front back t c l s e q) zero wide h k = absurd (omega arith)
   written_wider text in_body levels rank tree ts (written_two b n r sign left right front back t c l s e q) (suc more) wide h k =
       written_two b more wide sign left right front back t c (omega arith) (written_wider text b n (rank_before sign) left front s more (rank_before sign) (omega arith) (omega arith)) e
-      (written_wider text b n (level_of_two sign + 1) right back q more (level_of_two sign + 1) (omega arith) (omega arith))
+      (written_wider text b n (rank_of_two sign + 1) right back q more (rank_of_two sign + 1) (omega arith) (omega arith))
   written_wider text in_body levels rank tree ts (written_call b n r sign left right t opening comma closing front back c e f s g q i) zero wide h k = absurd (omega arith)
   written_wider text in_body levels rank tree ts (written_call b n r sign left right t opening comma closing front back c e f s g q i) (suc more) wide h k =
       written_call b more wide sign left right t opening comma closing front back c e f (written_wider text b n 1 left front s more 1 (omega arith) (omega arith)) g

@@ -8,7 +8,7 @@ use Rattle.sd_phrase.specs.declared.word.Mark.TheVariants.{Comma}
 use Rattle.sd_phrase.specs.declared.word.Piece.{Piece}
 use Rattle.sd_phrase.specs.declared.word.Sign.TheVariants.{If as If_sign, Else as Else_sign, One, Two}
 use Rattle.sd_phrase.specs.declared.word.Word.TheVariants.{Number, Callee, If, Else, Stop, Open, Close}
-use Rattle.sd_phrase.specs.Signs.{level_of_one, level_of_two}
+use Rattle.sd_phrase.specs.Signs.{rank_of_one, rank_of_two}
 use Rattle.sd_phrase.specs.Printing.{word_between, word_before, is_variable}
 use Rattle.sd_phrase.specs.Grammar.{rank_before, Written, written_number, written_name, written_element_of_body, written_element_of_tasklet, written_in_parentheses, written_one, written_two, written_call, written_choice, WrittenEach, written_last, written_more}
 use Rattle.sd_phrase.proofs.BracketLemmas.{Keeps, keeps_both, keeps_brackets}
@@ -26,10 +26,10 @@ mutual
       keeps_flat t (opening ∷ inside ++ closing ∷ []) (flat_variable t.word h) (keeps_brackets Square Square opening closing inside f g (written_each_keeps text n at inside s))
   written_keeps text in_body levels rank tree ts (written_in_parentheses b n r inner opening closing inside e s f) = keeps_brackets Round Round opening closing inside e f (written_keeps text b n 1 inner inside s)
   written_keeps text in_body levels rank tree ts (written_one b n r sign of t back l e s) =
-      keeps_flat t back (flat_word t.word (word_before sign) e (flat_before sign)) (written_keeps text b n (level_of_one sign) of back s)
+      keeps_flat t back (flat_word t.word (word_before sign) e (flat_before sign)) (written_keeps text b n (rank_of_one sign) of back s)
   written_keeps text in_body levels rank tree ts (written_two b n r sign left right front back t c l s e q) =
       keeps_both front (t ∷ back) 0 (written_keeps text b n (rank_before sign) left front s)
-      (keeps_flat t back (flat_word t.word (word_between sign) e (flat_between sign)) (written_keeps text b n (level_of_two sign + 1) right back q))
+      (keeps_flat t back (flat_word t.word (word_between sign) e (flat_between sign)) (written_keeps text b n (rank_of_two sign + 1) right back q))
   written_keeps text in_body levels rank tree ts (written_call b n r sign left right t opening comma closing front back c e f s g q h) =
       keeps_flat t (opening ∷ (front ++ comma ∷ back) ++ closing ∷ []) (flat_variable t.word (ap is_variable e))
       (keeps_brackets Round Round opening closing (front ++ comma ∷ back) f h (keeps_both front (comma ∷ back) 0 (written_keeps text b n 1 left front s) (keeps_comma comma back g (written_keeps text b n 1 right back q))))
@@ -57,10 +57,10 @@ written_commas text in_body levels rank tree ts (written_element_of_tasklet n r 
 written_commas text in_body levels rank tree ts (written_in_parentheses b n r inner opening closing inside e s f) =
     no_comma_brackets Round Round opening closing inside e f (written_keeps text b n 1 inner inside s)
 written_commas text in_body levels rank tree ts (written_one b n r sign of t back l e s) =
-    no_comma_flat t back (flat_word t.word (word_before sign) e (flat_before sign)) (written_commas text b n (level_of_one sign) of back s)
+    no_comma_flat t back (flat_word t.word (word_before sign) e (flat_before sign)) (written_commas text b n (rank_of_one sign) of back s)
 written_commas text in_body levels rank tree ts (written_two b n r sign left right front back t c l s e q) =
     no_comma_both front (t ∷ back) (written_commas text b n (rank_before sign) left front s)
-    (no_comma_flat t back (flat_word t.word (word_between sign) e (flat_between sign)) (written_commas text b n (level_of_two sign + 1) right back q))
+    (no_comma_flat t back (flat_word t.word (word_between sign) e (flat_between sign)) (written_commas text b n (rank_of_two sign + 1) right back q))
 written_commas text in_body levels rank tree ts (written_call b n r sign left right t opening comma closing front back c e f s g q h) =
     no_comma_flat t (opening ∷ (front ++ comma ∷ back) ++ closing ∷ []) (flat_variable t.word (ap is_variable e))
     (no_comma_brackets Round Round opening closing (front ++ comma ∷ back) f h (written_call_keeps text b n left right front back comma s g q))
@@ -107,11 +107,11 @@ written_under text in_body levels rank tree ts (written_element_of_tasklet n r n
 written_under text in_body levels rank tree ts (written_in_parentheses b n r inner opening closing inside e s f) =
     operand_under r (opening ∷ inside ++ closing ∷ []) (parentheses_pass text b n inner opening closing inside e s f)
 written_under text in_body levels rank tree ts (written_one b n r sign of t back l e s) =
-    before_under r (level_of_one sign) back t (One sign) l l (before_word t sign e) (written_under text b n (level_of_one sign) of back s)
+    before_under r (rank_of_one sign) back t (One sign) l l (before_word t sign e) (written_under text b n (rank_of_one sign) of back s)
 written_under text in_body levels rank tree ts (written_two b n r sign left right front back t c l s e q) =
     let k = rank_before_keeps sign in
-    sign_under r (rank_before sign) (level_of_two sign + 1) front back t (Two sign) l (omega arith) (omega arith)
-    (written_under text b n (rank_before sign) left front s) (between_word t sign e) (written_under text b n (level_of_two sign + 1) right back q)
+    sign_under r (rank_before sign) (rank_of_two sign + 1) front back t (Two sign) l (omega arith) (omega arith)
+    (written_under text b n (rank_before sign) left front s) (between_word t sign e) (written_under text b n (rank_of_two sign + 1) right back q)
 written_under text in_body levels rank tree ts (written_call b n r sign left right t opening comma closing front back c e f s g q h) =
     operand_under r (t ∷ opening ∷ (front ++ comma ∷ back) ++ closing ∷ []) (call_passes text b n sign left right t opening comma closing front back e f s g q h)
 written_under text in_body levels rank tree ts (written_choice b n r value when other front middle back t u l s e q f p) =

@@ -15,7 +15,7 @@ use Rattle.sd_phrase.specs.declared.word.Word.{Word}
 use Rattle.sd_phrase.specs.declared.word.Word.TheVariants.{Number, Name, Callee, Open}
 use Rattle.sd_phrase.specs.Parts.{parts_of, closed, bracketed, whole, Few, two_parts, few}
 use Rattle.sd_phrase.specs.Readings.{reading_map, both, if_some, listed}
-use Rattle.sd_phrase.specs.Signs.{level, level_of_one, level_of_two, cut_of}
+use Rattle.sd_phrase.specs.Signs.{rank_of, rank_of_one, rank_of_two, cut_of}
 use Rattle.sd_phrase.specs.Words.{spelling}
 
 -- how the tokens of a part are read
@@ -28,9 +28,9 @@ all_three NoForm when other = NoForm
 all_three TooDeep when other = both (λ w o. w) TooDeep (both (λ w o. w) when other)
 all_three (Form value) when other = both (λ w o. choice value w o) when other
 
--- the left side of a comparison has no comparison; of any other sign between two it may have this level again
-abbrev pub left_limit : ℕ → ℕ
-left_limit l = if nat_eq l 5 then 6 else l
+-- the left side of a comparison has no comparison; of any other sign between two it may have this rank again
+abbrev pub rank_on_left : ℕ → ℕ
+rank_on_left l = if nat_eq l 5 then 6 else l
 
 -- min and max have two parts
 abbrev pub pair : TwoSign → Reader → Few → Reading Expression
@@ -76,20 +76,20 @@ abbrev pub at_else : (again : ℕ → Reader) → List Piece → List Piece → 
 at_else again front back None = NoForm
 at_else again front back (Some place) = if_else place.sign (all_three (again 2 front) (again 2 (take place.at back)) (again 1 (drop (place.at + 1) back)))
 
--- a list cut at a sign: what is before it and what is behind it, with the sign's own level on the left of a sign that groups to the left, and one tighter on its right
+-- a list cut at a sign: what is before it and what is behind it, with the sign's own rank on the left of a sign that groups to the left, and one tighter on its right
 abbrev pub at_sign : (again : ℕ → Reader) → Sign → List Piece → List Piece → Reading Expression
-at_sign again (Two sign) front back = both (two sign) (again (left_limit (level_of_two sign)) front) (again (level_of_two sign + 1) back)
-at_sign again (One sign) [] back = reading_map (one sign) (again (level_of_one sign) back)
+at_sign again (Two sign) front back = both (two sign) (again (rank_on_left (rank_of_two sign)) front) (again (rank_of_two sign + 1) back)
+at_sign again (One sign) [] back = reading_map (one sign) (again (rank_of_one sign) back)
 at_sign again (One sign) (t ∷ front) back = NoForm
 at_sign again If front back = at_else again front back (cut_of back)
 at_sign again Else front back = NoForm
 at_sign again Stop front back = NoForm
 
--- a list whose cut is known: a sign looser than the limit cannot stand there
-abbrev pub by_cut : List ℕ → (again : ℕ → Reader) → (subscript : Reader) → (limit : ℕ) → List Piece → Option Place → Reading Expression
-by_cut text again subscript limit ts None = atom text (again 1) subscript ts
-by_cut text again subscript limit ts (Some place) =
-    if nat_lt (level place.sign) limit then NoForm else at_sign again place.sign (take place.at ts) (drop (place.at + 1) ts)
+-- a list whose cut is known: a sign looser than the rank cannot stand there
+abbrev pub by_cut : List ℕ → (again : ℕ → Reader) → (subscript : Reader) → (rank : ℕ) → List Piece → Option Place → Reading Expression
+by_cut text again subscript rank ts None = atom text (again 1) subscript ts
+by_cut text again subscript rank ts (Some place) =
+    if nat_lt (rank_of place.sign) rank then NoForm else at_sign again place.sign (take place.at ts) (drop (place.at + 1) ts)
 
 -- an element is read even where no level is left, and what is none is too deep there
 abbrev pub deep_unless : Option (List Piece) → Reading Expression → Reading Expression
@@ -114,19 +114,19 @@ abbrev pub subscripts_by : (own : Option Reader) → Reader → Reader
 subscripts_by None read = read
 subscripts_by (Some subscript) read = subscript
 
--- the tokens as an expression with no sign outside brackets that is looser than the limit, with at most so many operators, brackets, calls and conditionals round any atom
-unfoldable pub reads_by : (text : List ℕ) → (own : Option Reader) → (levels limit : ℕ) → Reader
-reads_by text own zero limit ts = last_level text own ts
-reads_by text own (suc levels) limit ts = by_cut text (reads_by text own levels) (subscripts_by own (reads_by text own levels 1)) limit ts (cut_of ts)
+-- the tokens as an expression with no sign outside brackets that is looser than the rank, with at most so many operators, brackets, calls and conditionals round any atom
+unfoldable pub reads_by : (text : List ℕ) → (own : Option Reader) → (levels rank : ℕ) → Reader
+reads_by text own zero rank ts = last_level text own ts
+reads_by text own (suc levels) rank ts = by_cut text (reads_by text own levels) (subscripts_by own (reads_by text own levels 1)) rank ts (cut_of ts)
 
 -- a subscript outside tasklets is an expression of its own
 abbrev pub own_subscripts : List ℕ → Bool → Option Reader
 own_subscripts text true = Some (reads_by text None 64 1)
 own_subscripts text false = None
 
--- the tokens as an expression of a body (and every affine one) or of a tasklet, with so many levels and no sign looser than the limit outside brackets
-abbrev pub reads : List ℕ → (in_body : Bool) → (levels limit : ℕ) → Reader
-reads text in_body levels limit ts = reads_by text (own_subscripts text in_body) levels limit ts
+-- the tokens as an expression of a body (and every affine one) or of a tasklet, with so many levels and no sign looser than the rank outside brackets
+abbrev pub reads : List ℕ → (in_body : Bool) → (levels rank : ℕ) → Reader
+reads text in_body levels rank ts = reads_by text (own_subscripts text in_body) levels rank ts
 
 -- the subscripts of an element of such an expression
 abbrev pub subscripts : List ℕ → (in_body : Bool) → (levels : ℕ) → Reader

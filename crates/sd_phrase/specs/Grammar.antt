@@ -13,7 +13,7 @@ use Rattle.sd_phrase.specs.declared.word.Mark.TheVariants.{Comma}
 use Rattle.sd_phrase.specs.declared.word.Piece.{Piece}
 use Rattle.sd_phrase.specs.declared.word.Word.TheVariants.{Number, Callee, If, Else, Stop, Open, Close}
 use Rattle.sd_phrase.specs.Words.{spelling}
-use Rattle.sd_phrase.specs.Signs.{level_of_one, level_of_two}
+use Rattle.sd_phrase.specs.Signs.{rank_of_one, rank_of_two}
 use Rattle.sd_phrase.specs.Printing.{word_between, word_before, is_call, is_variable}
 
 -- the operators of the rank of comparisons
@@ -28,7 +28,7 @@ is_comparison sign = false
 
 -- the rank of what stands before an operator: its own, and for a comparison the next tighter one
 abbrev pub rank_before : TwoSign → ℕ
-rank_before sign = if is_comparison sign then level_of_two sign + 1 else level_of_two sign
+rank_before sign = if is_comparison sign then rank_of_two sign + 1 else rank_of_two sign
 
 mutual
   -- tokens of a body or of a tasklet that are written for a tree, with no sign outside brackets that is looser than the rank, and at most so many operators,
@@ -48,11 +48,11 @@ mutual
     written_in_parentheses : (in_body : Bool) (levels rank : ℕ) (tree : Expression) (opening closing : Piece) (inside : List Piece) →
         opening.word ≡ Open Round → Written text in_body levels 1 tree inside → closing.word ≡ Close Round → Written text in_body (suc levels) rank tree (opening ∷ inside ++ closing ∷ [])
     -- -e
-    written_one : (in_body : Bool) (levels rank : ℕ) (sign : OneSign) (of : Expression) (t : Piece) (back : List Piece) → rank ≤ level_of_one sign →
-        t.word ≡ word_before sign → Written text in_body levels (level_of_one sign) of back → Written text in_body (suc levels) rank (one sign of) (t ∷ back)
+    written_one : (in_body : Bool) (levels rank : ℕ) (sign : OneSign) (of : Expression) (t : Piece) (back : List Piece) → rank ≤ rank_of_one sign →
+        t.word ≡ word_before sign → Written text in_body levels (rank_of_one sign) of back → Written text in_body (suc levels) rank (one sign of) (t ∷ back)
     -- e + f
-    written_two : (in_body : Bool) (levels rank : ℕ) (sign : TwoSign) (left right : Expression) (front back : List Piece) (t : Piece) → is_call sign ≡ false → rank ≤ level_of_two sign →
-        Written text in_body levels (rank_before sign) left front → t.word ≡ word_between sign → Written text in_body levels (level_of_two sign + 1) right back →
+    written_two : (in_body : Bool) (levels rank : ℕ) (sign : TwoSign) (left right : Expression) (front back : List Piece) (t : Piece) → is_call sign ≡ false → rank ≤ rank_of_two sign →
+        Written text in_body levels (rank_before sign) left front → t.word ≡ word_between sign → Written text in_body levels (rank_of_two sign + 1) right back →
         Written text in_body (suc levels) rank (two sign left right) (front ++ t ∷ back)
     -- min(e, f), of any rank
     written_call : (in_body : Bool) (levels rank : ℕ) (sign : TwoSign) (left right : Expression) (t opening comma closing : Piece) (front back : List Piece) → is_call sign ≡ true →
@@ -78,5 +78,5 @@ undivided = 12
 -- what three operands with two operators between them are: the tighter operator joins first, of two of one rank the left one, and two comparisons are no form
 abbrev pub grouped : (first second : TwoSign) → (a b c : Expression) → Reading Expression
 grouped first second a b c =
-    if nat_lt (level_of_two first) (level_of_two second) then Form (two first a (two second b c))
+    if nat_lt (rank_of_two first) (rank_of_two second) then Form (two first a (two second b c))
     else (if is_comparison first && is_comparison second then NoForm else Form (two second (two first a b) c))

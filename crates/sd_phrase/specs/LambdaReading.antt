@@ -26,13 +26,13 @@ kind_of_sign BitXor = Some Xor
 kind_of_sign sign = None
 
 -- the expression is this name alone
-abbrev pub is_named : List ℕ → Expression → Bool
-is_named name (named other) = bytes_eq other name
-is_named name body = false
+abbrev pub is_name_alone : List ℕ → Expression → Bool
+is_name_alone name (named other) = bytes_eq other name
+is_name_alone name body = false
 
 -- the two parts are the two names, in either order
 abbrev pub is_pair : (first second : List ℕ) → (left right : Expression) → Bool
-is_pair first second left right = (is_named first left && is_named second right) || (is_named second left && is_named first right)
+is_pair first second left right = (is_name_alone first left && is_name_alone second right) || (is_name_alone second left && is_name_alone first right)
 
 -- the kind of a lambda with two different names: the later value, or the two names in either order about one of seven signs
 abbrev pub kind_of_body : (first second : List ℕ) → Expression → Option Lambda

@@ -12,48 +12,48 @@ use Rattle.sd_phrase.specs.declared.word.Sign.TheVariants.{Stop as Stop_sign, If
 use Rattle.sd_phrase.specs.declared.word.Word.{Word}
 use Rattle.sd_phrase.specs.declared.word.Word.TheVariants.{Number, Name, Callee, Between, Before, Minus, If as If_word, Else as Else_word, Stop, Open, Close, Quoted}
 
--- the levels from the loosest: 0 a mark that no expression has, 1 a conditional, 2 `or`, 3 `and`, 4 `not`, 5 one comparison, 6 `|`, 7 `^`, 8 `&`, 9 `+ -`, 10 `* // %`, 11 unary `- ~`; min and max are calls and never cut a list
-abbrev pub level_of_two : TwoSign → ℕ
-level_of_two Or = 2
-level_of_two And = 3
-level_of_two Less = 5
-level_of_two LessEqual = 5
-level_of_two Greater = 5
-level_of_two GreaterEqual = 5
-level_of_two Equal = 5
-level_of_two Differ = 5
-level_of_two BitOr = 6
-level_of_two BitXor = 7
-level_of_two BitAnd = 8
-level_of_two Add = 9
-level_of_two Sub = 9
-level_of_two Mul = 10
-level_of_two FloorDiv = 10
-level_of_two Mod = 10
-level_of_two Min = 12
-level_of_two Max = 12
+-- the ranks from the loosest: 0 a mark that no expression has, 1 a conditional, 2 `or`, 3 `and`, 4 `not`, 5 one comparison, 6 `|`, 7 `^`, 8 `&`, 9 `+ -`, 10 `* // %`, 11 unary `- ~`; min and max are calls and never cut a list
+abbrev pub rank_of_two : TwoSign → ℕ
+rank_of_two Or = 2
+rank_of_two And = 3
+rank_of_two Less = 5
+rank_of_two LessEqual = 5
+rank_of_two Greater = 5
+rank_of_two GreaterEqual = 5
+rank_of_two Equal = 5
+rank_of_two Differ = 5
+rank_of_two BitOr = 6
+rank_of_two BitXor = 7
+rank_of_two BitAnd = 8
+rank_of_two Add = 9
+rank_of_two Sub = 9
+rank_of_two Mul = 10
+rank_of_two FloorDiv = 10
+rank_of_two Mod = 10
+rank_of_two Min = 12
+rank_of_two Max = 12
 
--- the level of a sign before one expression
-abbrev pub level_of_one : OneSign → ℕ
-level_of_one Not = 4
-level_of_one Neg = 11
-level_of_one Inv = 11
+-- the rank of a sign before one expression
+abbrev pub rank_of_one : OneSign → ℕ
+rank_of_one Not = 4
+rank_of_one Neg = 11
+rank_of_one Inv = 11
 
--- the level of a sign
-abbrev pub level : Sign → ℕ
-level Stop_sign = 0
-level If = 1
-level Else = 1
-level (One sign) = level_of_one sign
-level (Two sign) = level_of_two sign
+-- the rank of a sign
+abbrev pub rank_of : Sign → ℕ
+rank_of Stop_sign = 0
+rank_of If = 1
+rank_of Else = 1
+rank_of (One sign) = rank_of_one sign
+rank_of (Two sign) = rank_of_two sign
 
 -- a list is cut at the later of two signs rather than at the earlier one
 abbrev pub cuts_before : (later earlier : Sign) → Bool
-cuts_before (Two sign) earlier = nat_le (level_of_two sign) (level earlier)
-cuts_before (One sign) earlier = nat_lt (level_of_one sign) (level earlier)
-cuts_before If earlier = nat_lt 1 (level earlier)
-cuts_before Else earlier = nat_lt 1 (level earlier)
-cuts_before Stop_sign earlier = nat_lt 0 (level earlier)
+cuts_before (Two sign) earlier = nat_le (rank_of_two sign) (rank_of earlier)
+cuts_before (One sign) earlier = nat_lt (rank_of_one sign) (rank_of earlier)
+cuts_before If earlier = nat_lt 1 (rank_of earlier)
+cuts_before Else earlier = nat_lt 1 (rank_of earlier)
+cuts_before Stop_sign earlier = nat_lt 0 (rank_of earlier)
 
 -- the sign that a word is; a minus stands between two where an expression ends before it
 abbrev pub sign_of : Word → (after : Bool) → Option Sign

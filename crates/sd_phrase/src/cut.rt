@@ -5,8 +5,8 @@ ghost use Rattle.sd_phrase.specs.Signs as signs;
 use crate::word::{Piece, Place, Sign, Word};
 use sd_lex::{OneSign, TwoSign};
 
-pub(crate) fn level_of_two(sign: TwoSign) -> u8
-    ensures { result ≡ signs.level_of_two sign }
+pub(crate) fn rank_of_two(sign: TwoSign) -> u8
+    ensures { result ≡ signs.rank_of_two sign }
 {
     match sign {
         TwoSign::Or => 2,
@@ -30,8 +30,8 @@ pub(crate) fn level_of_two(sign: TwoSign) -> u8
     }
 }
 
-pub(crate) fn level_of_one(sign: OneSign) -> u8
-    ensures { result ≡ signs.level_of_one sign }
+pub(crate) fn rank_of_one(sign: OneSign) -> u8
+    ensures { result ≡ signs.rank_of_one sign }
 {
     match sign {
         OneSign::Not => 4,
@@ -40,15 +40,15 @@ pub(crate) fn level_of_one(sign: OneSign) -> u8
     }
 }
 
-pub(crate) fn level(sign: Sign) -> u8
-    ensures { result ≡ signs.level sign }
+pub(crate) fn rank_of(sign: Sign) -> u8
+    ensures { result ≡ signs.rank_of sign }
 {
     match sign {
         Sign::Stop => 0,
         Sign::If => 1,
         Sign::Else => 1,
-        Sign::One(one) => level_of_one(one),
-        Sign::Two(two) => level_of_two(two),
+        Sign::One(one) => rank_of_one(one),
+        Sign::Two(two) => rank_of_two(two),
     }
 }
 
@@ -57,11 +57,11 @@ fn cuts_before(later: Sign, earlier: Sign) -> bool
     ensures { result ≡ signs.cuts_before later earlier }
 {
     match later {
-        Sign::Two(two) => level_of_two(two) <= level(earlier),
-        Sign::One(one) => level_of_one(one) < level(earlier),
-        Sign::If => 1 < level(earlier),
-        Sign::Else => 1 < level(earlier),
-        Sign::Stop => 0 < level(earlier),
+        Sign::Two(two) => rank_of_two(two) <= rank_of(earlier),
+        Sign::One(one) => rank_of_one(one) < rank_of(earlier),
+        Sign::If => 1 < rank_of(earlier),
+        Sign::Else => 1 < rank_of(earlier),
+        Sign::Stop => 0 < rank_of(earlier),
     }
 }
 

@@ -11,7 +11,7 @@ ghost use Rattle.sd_phrase.specs.Signs.{cut_of};
 ghost use Rattle.sd_phrase.specs.Spans.{AreInside, IsInside};
 ghost use Rattle.sd_phrase.specs.Words.{spelling};
 
-use crate::cut::{cut_of, level, level_of_one, level_of_two};
+use crate::cut::{cut_of, rank_of, rank_of_one, rank_of_two};
 use crate::parts::{Few, bracketed_whole, closed_whole, few_parts, mark_of};
 use crate::reading::Reading;
 use crate::word::{Bracket, Mark, Piece, Sign, Word};
@@ -133,10 +133,10 @@ fn element_of(
     }
 }
 
-fn left_limit(level: u8) -> u8
-    ensures { result ≡ definition.left_limit level }
+fn rank_on_left(rank: u8) -> u8
+    ensures { result ≡ definition.rank_on_left rank }
 {
-    if level == 5 { 6 } else { level }
+    if rank == 5 { 6 } else { rank }
 }
 
 /// How deeply an expression may be nested.
@@ -158,7 +158,7 @@ pub fn read_expression(
     read_at(alloc, text, in_body, levels, 1, tokens)
 }
 
-/// The tokens as an expression with no sign outside brackets that is looser than the limit.
+/// The tokens as an expression with no sign outside brackets that is looser than the rank.
 #[cycle(reads)]
 #[tactic(auto, using(crate::proofs::ReaderLemmas::reads_none, crate::proofs::ReaderLemmas::reads_more, crate::proofs::ReaderLemmas::reads_cut))]
 fn read_at(
@@ -166,11 +166,11 @@ fn read_at(
     text: &[u8],
     in_body: bool,
     levels: u32,
-    limit: u8,
+    rank: u8,
     tokens: &[Piece],
 ) -> Result<Reading<Expr>, NoMemory>
     requires { AreInside text.now tokens.now }
-    ensures { IfOk result (λ r. reading_map expression_of r ≡ reads text.now in_body levels limit tokens.now) }
+    ensures { IfOk result (λ r. reading_map expression_of r ≡ reads text.now in_body levels rank tokens.now) }
 {
     if levels == 0 {
         return read_last(alloc, text, in_body, tokens);
@@ -179,7 +179,7 @@ fn read_at(
     match cut_of(tokens) {
         None => read_atom(alloc, text, in_body, less, tokens),
         Some(place) => {
-            if level(place.sign) < limit {
+            if rank_of(place.sign) < rank {
                 Ok(Reading::NoForm)
             } else {
                 read_sign(
@@ -249,14 +249,14 @@ fn read_sign(
 {
     match sign {
         Sign::Two(two) => {
-            let level = level_of_two(two);
-            let left = read_at(alloc, text, in_body, levels, left_limit(level), front)?;
-            let right = read_at(alloc, text, in_body, levels, level + 1, back)?;
+            let rank = rank_of_two(two);
+            let left = read_at(alloc, text, in_body, levels, rank_on_left(rank), front)?;
+            let right = read_at(alloc, text, in_body, levels, rank + 1, back)?;
             two_of(alloc, two, left, right)
         }
         Sign::One(one) => {
             if front.is_empty() {
-                let of = read_at(alloc, text, in_body, levels, level_of_one(one), back)?;
+                let of = read_at(alloc, text, in_body, levels, rank_of_one(one), back)?;
                 one_of(alloc, one, of)
             } else {
                 Ok(Reading::NoForm)

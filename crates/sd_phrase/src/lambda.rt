@@ -40,8 +40,8 @@ fn kind_of_sign(sign: TwoSign) -> Option<Lambda>
 }
 
 /// Whether an expression is a name alone.
-fn is_named(name: &[u8], body: &Expr) -> bool
-    ensures { result ≡ definition.is_named name.now (expression_of body.now) }
+fn is_name_alone(name: &[u8], body: &Expr) -> bool
+    ensures { result ≡ definition.is_name_alone name.now (expression_of body.now) }
 {
     match body {
         Expr::Name(other) => same(other.as_bytes(), name),
@@ -52,8 +52,8 @@ fn is_named(name: &[u8], body: &Expr) -> bool
 fn is_pair(first: &[u8], second: &[u8], left: &Expr, right: &Expr) -> bool
     ensures { result ≡ definition.is_pair first.now second.now (expression_of left.now) (expression_of right.now) }
 {
-    (is_named(first, left) && is_named(second, right))
-        || (is_named(second, left) && is_named(first, right))
+    (is_name_alone(first, left) && is_name_alone(second, right))
+        || (is_name_alone(second, left) && is_name_alone(first, right))
 }
 
 fn kind_of_body(first: &[u8], second: &[u8], body: &Expr) -> Option<Lambda>

@@ -4,10 +4,10 @@ use Rattle.sd_phrase.proofs.PartLemmas.{to_end}
 use Rattle.sd_phrase.proofs.InsideLemmas.{inside_rest}
 use Rattle.sd_phrase.proofs.expression.+reads.Goals as goal
 
-pub read_at-returns-else-level-limit : goal.read_at-returns-else-level-limit
-read_at-returns-else-level-limit t c =
+pub read_at-returns-else-rank_of-rank : goal.read_at-returns-else-rank_of-rank
+read_at-returns-else-rank_of-rank t c =
     rw (
-      reads_cut c.args.text.now c.args.in_body c.args.levels c.args.limit c.args.tokens.now c.in-Some.place c.if-levels-eq0.false (sym c.cut_of.ensures.place ∙ c.in-Some.is) (omega (arith, c.if-level-limit.false, c.level.ensures)),
+      reads_cut c.args.text.now c.args.in_body c.args.levels c.args.rank c.args.tokens.now c.in-Some.place c.if-levels-eq0.false (sym c.cut_of.ensures.place ∙ c.in-Some.is) (omega (arith, c.if-rank_of-rank.false, c.rank_of.ensures)),
       sym (to_end c.args.tokens.now (c.in-Some.place.at + 1)),
     ) c.read_sign.ensures
 
