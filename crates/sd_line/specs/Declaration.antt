@@ -6,7 +6,7 @@ use Rattle.sd_lex.specs.TreeFold.{expressions_listed}
 use Rattle.sd_phrase.specs.Parts.{parts_of, closed, bracketed, whole, Few, one_part, two_parts, few}
 use Rattle.sd_phrase.specs.Phrase.{next, after, is_phrase, lone_number}
 use Rattle.sd_phrase.specs.Readings.{reading_map, if_some, if_true}
-use Rattle.sd_phrase.specs.SubsetReading.{expressions}
+use Rattle.sd_phrase.specs.ExpressionReading.{expressions}
 use Rattle.sd_phrase.specs.declared.reading.Reading.{Reading}
 use Rattle.sd_phrase.specs.declared.reading.Reading.TheVariants.{NoForm, Form}
 use Rattle.sd_phrase.specs.declared.word.Bracket.TheVariants.{Round, Square}

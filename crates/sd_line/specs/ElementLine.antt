@@ -2,11 +2,11 @@
 use Rattle.std.specs.Prelude.{ℕ, List, codes, Option, Some, None, Bool, true, false}
 use Rattle.sd_lex.specs.PlainTree.{Expression, Dimension, assign, copy}
 use Rattle.sd_lex.specs.TreeFold.{expressions_listed}
-use Rattle.sd_phrase.specs.ExpressionReading.{expression}
+use Rattle.sd_phrase.specs.ExpressionReading.{expression, expressions}
 use Rattle.sd_phrase.specs.Parts.{at_mark, bracketed, whole}
 use Rattle.sd_phrase.specs.Phrase.{next, name_first}
 use Rattle.sd_phrase.specs.Readings.{both, if_some}
-use Rattle.sd_phrase.specs.SubsetReading.{expressions, slots}
+use Rattle.sd_phrase.specs.SubsetReading.{slots}
 use Rattle.sd_phrase.specs.declared.reading.Reading.{Reading}
 use Rattle.sd_phrase.specs.declared.reading.Reading.TheVariants.{NoForm}
 use Rattle.sd_phrase.specs.declared.word.Bracket.TheVariants.{Square}

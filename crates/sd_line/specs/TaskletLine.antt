@@ -7,13 +7,12 @@ use Rattle.sd_phrase.specs.declared.reading.Reading.TheVariants.{NoForm, Form}
 use Rattle.sd_phrase.specs.declared.word.Bracket.TheVariants.{Square}
 use Rattle.sd_phrase.specs.declared.word.Piece.{Piece}
 use Rattle.sd_line.specs.Condition.{condition, elif_line, else_phrase}
-use Rattle.sd_phrase.specs.ExpressionReading.{expression}
+use Rattle.sd_phrase.specs.ExpressionReading.{expression, expressions}
 use Rattle.sd_line.specs.Head.{HeadTree, statement_head, input_head, output_head, else_head}
 use Rattle.sd_phrase.specs.MemletReading.{memlet}
 use Rattle.sd_phrase.specs.Parts.{bracketed}
 use Rattle.sd_phrase.specs.Phrase.{next, is_phrase}
 use Rattle.sd_phrase.specs.Readings.{reading_map, both, if_some}
-use Rattle.sd_phrase.specs.SubsetReading.{expressions}
 use Rattle.sd_phrase.specs.Words.{is_name, is_spelled, spelling}
 
 -- `c = E`, behind its sign

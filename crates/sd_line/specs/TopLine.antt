@@ -14,7 +14,7 @@ use Rattle.sd_line.specs.Head.{HeadTree, import_line, symbol_line, program_decor
 use Rattle.sd_phrase.specs.Parts.{parts_of, closed, bracketed, whole}
 use Rattle.sd_phrase.specs.Phrase.{next, after, is_phrase, name_first, header}
 use Rattle.sd_phrase.specs.Readings.{reading_map, if_some, if_true, listed}
-use Rattle.sd_phrase.specs.SubsetReading.{expressions}
+use Rattle.sd_phrase.specs.ExpressionReading.{expressions}
 use Rattle.sd_phrase.specs.Words.{spelling}
 
 -- `import dace`

@@ -1,4 +1,4 @@
--- What a whole list of tokens is as an expression.
+-- What a whole list of tokens is as an expression, or as expressions between commas.
 use Rattle.std.specs.Prelude.{ℕ, zero, suc, ◌+◌, List, [], ◌∷◌, take, drop, map, Option, Some, None, Bool, true, false, nat_eq, nat_lt, if◌then◌else◌}
 use Rattle.sd_lex.specs.declared.syntax.operator.TwoSign.{TwoSign}
 use Rattle.sd_lex.specs.PlainTree.{Expression, number, named, element_at, one, two, choice}
@@ -28,9 +28,9 @@ all_three NoForm when other = NoForm
 all_three TooDeep when other = both (λ w o. w) TooDeep (both (λ w o. w) when other)
 all_three (Form value) when other = both (λ w o. choice value w o) when other
 
--- the left side of a comparison has no comparison; of any other sign between two it may have this rank again
+-- the loosest rank on the left of a sign of this rank: no comparison has a comparison there, and any other sign between two may have one of its own rank
 abbrev pub rank_on_left : ℕ → ℕ
-rank_on_left l = if nat_eq l 5 then 6 else l
+rank_on_left rank = if nat_eq rank 5 then 6 else rank
 
 -- min and max have two parts
 abbrev pub pair : TwoSign → Reader → Few → Reading Expression
@@ -135,3 +135,7 @@ subscripts text in_body levels ts = subscripts_by (own_subscripts text in_body) 
 -- an expression with at most so many levels
 abbrev pub expression : List ℕ → (in_body : Bool) → (levels : ℕ) → Reader
 expression text in_body levels ts = reads text in_body levels 1 ts
+
+-- expressions between commas
+abbrev pub expressions : List ℕ → (in_body : Bool) → (levels : ℕ) → List Piece → Reading (List Expression)
+expressions text in_body levels ts = listed (map (expression text in_body levels) (parts_of Comma ts))

@@ -1,4 +1,4 @@
--- Lists of expressions, dimensions of a subset and ranges of a map.
+-- Dimensions of a subset and ranges of a map.
 use Rattle.std.specs.Prelude.{ℕ, ℤ, List, [], ◌∷◌, map, Option, Some, None, Bool, true, false}
 use Rattle.sd_lex.specs.PlainTree.{Expression, Dimension, index, span}
 use Rattle.sd_phrase.specs.declared.reading.Reading.{Reading}
@@ -10,10 +10,6 @@ use Rattle.sd_phrase.specs.ExpressionReading.{expression}
 use Rattle.sd_phrase.specs.Parts.{parts_of, bracketed, whole, Few, one_part, two_parts, three_parts, few}
 use Rattle.sd_phrase.specs.Phrase.{step_of}
 use Rattle.sd_phrase.specs.Readings.{reading_map, both, if_some, listed}
-
--- expressions between commas
-abbrev pub expressions : List ℕ → (in_body : Bool) → (levels : ℕ) → List Piece → Reading (List Expression)
-expressions text in_body levels ts = listed (map (expression text in_body levels) (parts_of Comma ts))
 
 -- an affine expression
 abbrev pub affine : List ℕ → List Piece → Reading Expression

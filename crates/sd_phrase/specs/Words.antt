@@ -24,14 +24,17 @@ abbrev pub names : List (List ℕ × Word)
 names = (codes "min", Callee Min) ∷ (codes "max", Callee Max) ∷ (codes "or", Between Or) ∷ (codes "and", Between And)
     ∷ (codes "not", Before Not) ∷ (codes "if", If) ∷ (codes "else", Else) ∷ []
 
+-- the marks that lists have a use for, and the brackets
+abbrev pub marks : List (List ℕ × Word)
+marks = (codes ",", Stop Comma) ∷ (codes ":", Stop Colon) ∷ (codes "=", Stop Assign) ∷ (codes "+=", Stop AddAssign)
+    ∷ (codes "(", Open Round) ∷ (codes ")", Close Round) ∷ (codes "[", Open Square) ∷ (codes "]", Close Square) ∷ []
+
 -- the signs that expressions and lists have a use for
 abbrev pub signs : List (List ℕ × Word)
 signs = (codes "<", Between Less) ∷ (codes "<=", Between LessEqual) ∷ (codes ">", Between Greater) ∷ (codes ">=", Between GreaterEqual)
     ∷ (codes "==", Between Equal) ∷ (codes "!=", Between Differ) ∷ (codes "|", Between BitOr) ∷ (codes "^", Between BitXor)
     ∷ (codes "&", Between BitAnd) ∷ (codes "+", Between Add) ∷ (codes "-", Minus) ∷ (codes "*", Between Mul)
-    ∷ (codes "//", Between FloorDiv) ∷ (codes "%", Between Mod) ∷ (codes "~", Before Inv)
-    ∷ (codes ",", Stop Comma) ∷ (codes ":", Stop Colon) ∷ (codes "=", Stop Assign) ∷ (codes "+=", Stop AddAssign)
-    ∷ (codes "(", Open Round) ∷ (codes ")", Close Round) ∷ (codes "[", Open Square) ∷ (codes "]", Close Square) ∷ []
+    ∷ (codes "//", Between FloorDiv) ∷ (codes "%", Between Mod) ∷ (codes "~", Before Inv) ∷ marks
 
 -- what a token of this kind and with these bytes is to the reading of a line
 abbrev pub word_by : TokenKind → List ℕ → Word

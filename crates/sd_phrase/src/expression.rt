@@ -2,11 +2,10 @@
 ghost use Rattle.std.specs.Prelude.{◌≡◌, [], map, IfOk, string_bytes};
 ghost use Rattle.sd_lex.specs.PlainTree.{element_at, one, two};
 ghost use Rattle.sd_lex.specs.TreeFold.{expression_of, expressions_listed};
-ghost use Rattle.sd_phrase.specs.declared.word.Mark.TheVariants.{Comma};
+ghost use Rattle.sd_phrase.specs.declared.word.Word.TheVariants.{Callee};
 ghost use Rattle.sd_phrase.specs.ExpressionReading as definition;
 ghost use Rattle.sd_phrase.specs.ExpressionReading.{reads, subscripts, own_subscripts};
-ghost use Rattle.sd_phrase.specs.Parts.{parts_of};
-ghost use Rattle.sd_phrase.specs.Readings.{reading_map, both, listed};
+ghost use Rattle.sd_phrase.specs.Readings.{reading_map, both};
 ghost use Rattle.sd_phrase.specs.Signs.{cut_of};
 ghost use Rattle.sd_phrase.specs.Spans.{AreInside, IsInside};
 ghost use Rattle.sd_phrase.specs.Words.{spelling};
@@ -326,20 +325,37 @@ fn read_atom(
                     read_element(alloc, text, in_body, levels, *first, rest)
                 }
             }
-            Word::Callee(sign) => match rest {
-                [] => Ok(Reading::Form(Expr::Name(name_of(alloc, text, *first)?))),
-                [second, more @ ..] => match second.word {
-                    Word::Open(Bracket::Round) => {
-                        read_call(alloc, text, in_body, levels, sign, more)
-                    }
-                    _ => read_element(alloc, text, in_body, levels, *first, rest),
-                },
-            },
+            Word::Callee(sign) => read_callee(alloc, text, in_body, levels, sign, *first, rest),
             Word::Open(Bracket::Round) => match closed_whole(Bracket::Round, rest) {
                 Some(inside) => read_at(alloc, text, in_body, levels, 1, inside),
                 None => Ok(Reading::NoForm),
             },
             _ => Ok(Reading::NoForm),
+        },
+    }
+}
+
+/// Tokens that begin with `min` or `max`: a call, and else a name or an element as of any name.
+#[cycle(reads)]
+#[tactic(auto)]
+fn read_callee(
+    alloc: Global,
+    text: &[u8],
+    in_body: bool,
+    levels: u32,
+    sign: TwoSign,
+    name: Piece,
+    rest: &[Piece],
+) -> Result<Reading<Expr>, NoMemory>
+    requires name { IsInside text.now name }
+    requires rest { AreInside text.now rest.now }
+    ensures { IfOk result (λ r. reading_map expression_of r ≡ definition.atom_by (reads text.now in_body levels 1) (subscripts text.now in_body levels) (Callee sign) (spelling text.now name) rest.now) }
+{
+    match rest {
+        [] => Ok(Reading::Form(Expr::Name(name_of(alloc, text, name)?))),
+        [first, more @ ..] => match first.word {
+            Word::Open(Bracket::Round) => read_call(alloc, text, in_body, levels, sign, more),
+            _ => read_element(alloc, text, in_body, levels, name, rest),
         },
     }
 }
@@ -411,7 +427,7 @@ pub fn read_list(
     tokens: &[Piece],
 ) -> Result<Reading<Vec<Expr>>, NoMemory>
     requires { AreInside text.now tokens.now }
-    ensures { IfOk result (λ r. reading_map (λ list. map expression_of list.items) r ≡ listed (map (reads text.now in_body levels 1) (parts_of Comma tokens.now))) }
+    ensures { IfOk result (λ r. reading_map (λ list. map expression_of list.items) r ≡ definition.expressions text.now in_body levels tokens.now) }
 {
     let mut list: Vec<Expr> = Vec::new(alloc);
     let mut deep = false;

@@ -5,7 +5,7 @@ ghost use Rattle.std.specs.List.{All};
 ghost use Rattle.sd_lex.specs.TokenText as token_text;
 ghost use Rattle.sd_phrase.specs.Spans.{IsInside, AreInside};
 ghost use Rattle.sd_phrase.specs.Words as words;
-ghost use Rattle.sd_phrase.specs.Words.{told, names, signs};
+ghost use Rattle.sd_phrase.specs.Words.{told, names, marks, signs};
 
 use sd_lex::{OneSign, Token, TokenKind, TwoSign};
 use sd_list::NoMemory;
@@ -104,6 +104,31 @@ fn name_word(spelling: &[u8]) -> Word
     }
 }
 
+/// The word that a mark or a bracket is.
+fn mark_word(spelling: &[u8]) -> Word
+    ensures { result ≡ told marks Word.Other spelling.now }
+{
+    if same(spelling, b",") {
+        Word::Stop(Mark::Comma)
+    } else if same(spelling, b":") {
+        Word::Stop(Mark::Colon)
+    } else if same(spelling, b"=") {
+        Word::Stop(Mark::Assign)
+    } else if same(spelling, b"+=") {
+        Word::Stop(Mark::AddAssign)
+    } else if same(spelling, b"(") {
+        Word::Open(Bracket::Round)
+    } else if same(spelling, b")") {
+        Word::Close(Bracket::Round)
+    } else if same(spelling, b"[") {
+        Word::Open(Bracket::Square)
+    } else if same(spelling, b"]") {
+        Word::Close(Bracket::Square)
+    } else {
+        Word::Other
+    }
+}
+
 /// The word that a sign is.
 fn sign_word(spelling: &[u8]) -> Word
     ensures { result ≡ told signs Word.Other spelling.now }
@@ -138,24 +163,8 @@ fn sign_word(spelling: &[u8]) -> Word
         Word::Between(TwoSign::Mod)
     } else if same(spelling, b"~") {
         Word::Before(OneSign::Inv)
-    } else if same(spelling, b",") {
-        Word::Stop(Mark::Comma)
-    } else if same(spelling, b":") {
-        Word::Stop(Mark::Colon)
-    } else if same(spelling, b"=") {
-        Word::Stop(Mark::Assign)
-    } else if same(spelling, b"+=") {
-        Word::Stop(Mark::AddAssign)
-    } else if same(spelling, b"(") {
-        Word::Open(Bracket::Round)
-    } else if same(spelling, b")") {
-        Word::Close(Bracket::Round)
-    } else if same(spelling, b"[") {
-        Word::Open(Bracket::Square)
-    } else if same(spelling, b"]") {
-        Word::Close(Bracket::Square)
     } else {
-        Word::Other
+        mark_word(spelling)
     }
 }
 

@@ -8,7 +8,7 @@ use Rattle.sd_phrase.specs.Readings.{listed_from}
 use Rattle.sd_phrase.specs.Spans.{AreInside}
 use Rattle.sd_phrase.proofs.expression.+reads.Given as goal
 
--- each function's rank among those that have as many levels; an expression of a body stands above all those of subscripts
+-- each function's place among those that have as many levels; an expression of a body stands above all those of subscripts
 abbrev pub decreases-read_at : goal.decreases-read_at
 decreases-read_at l = 8 * l.levels + 7 + (if l.in_body then 1000 else 0)
 
@@ -24,11 +24,14 @@ decreases-read_choice l = 8 * l.levels + 11 + (if l.in_body then 1000 else 0)
 abbrev pub decreases-read_atom : goal.decreases-read_atom
 decreases-read_atom l = 8 * l.levels + 14 + (if l.in_body then 1000 else 0)
 
+abbrev pub decreases-read_callee : goal.decreases-read_callee
+decreases-read_callee l = 8 * l.levels + 13 + (if l.in_body then 1000 else 0)
+
 abbrev pub decreases-read_call : goal.decreases-read_call
-decreases-read_call l = 8 * l.levels + 13 + (if l.in_body then 1000 else 0)
+decreases-read_call l = 8 * l.levels + 12 + (if l.in_body then 1000 else 0)
 
 abbrev pub decreases-read_element : goal.decreases-read_element
-decreases-read_element l = if l.in_body then 900 else 8 * l.levels + 13
+decreases-read_element l = if l.in_body then 900 else 8 * l.levels + 12
 
 abbrev pub decreases-read_list : goal.decreases-read_list
 decreases-read_list l = 8 * l.levels + 11 + (if l.in_body then 1000 else 0)
