@@ -1,6 +1,7 @@
 pub mod CutLemmas
 pub mod PartLemmas
 pub mod PieceLemmas
+pub mod PhraseLemmas
 pub mod ReaderLemmas
 pub mod InsideLemmas
 pub mod BracketLemmas

@@ -1,5 +1,5 @@
 //! Lambdas.
-ghost use Rattle.std.specs.Prelude.{◌≡◌, Some, None, IfOk, IfSome, MatchOption};
+ghost use Rattle.std.specs.Prelude.{◌≡◌, Some, None, IfOk, IfSome, MatchOption, slice_get};
 ghost use Rattle.sd_lex.specs.TreeFold.{expression_of};
 ghost use Rattle.sd_phrase.specs.Memlet.{lambda_tree_of};
 ghost use Rattle.sd_phrase.specs.LambdaReading as definition;
@@ -101,6 +101,8 @@ pub struct LambdaNames<'a> {
 pub fn lambda_names<'a>(text: &[u8], tokens: &'a [Piece]) -> Option<LambdaNames<'a>>
     requires { AreInside text.now tokens.now }
     ensures names { MatchOption result (definition.lambda_names text.now tokens.now ≡ None) (λ names. definition.lambda_names text.now tokens.now ≡ Some (record { first = spelling text.now names.first; second = spelling text.now names.second; rest = names.rest.now })) }
+    ensures first { IfSome result (λ names. slice_get tokens.now 0 ≡ Some names.first) }
+    ensures second { IfSome result (λ names. slice_get tokens.now 2 ≡ Some names.second) }
     ensures inside { IfSome result (λ names. IsInside text.now names.first × IsInside text.now names.second × AreInside text.now names.rest.now) }
 {
     let (first, rest) = name_first(text, tokens)?;
