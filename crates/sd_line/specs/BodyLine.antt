@@ -50,14 +50,14 @@ reduce_or_word text line ts None =
     else if is_phrase text else_phrase ts then Form else_head
     else first_word_line text line ts
 
--- a line that no definition, element or call is
-abbrev pub keyword_line : List ℕ → (line : ℕ) → List Piece → Reading HeadTree
-keyword_line text line ts = reduce_or_word text line ts (after text reduce_phrase ts)
+-- a line that is no declaration, element or call
+abbrev pub body_keyword_line : List ℕ → (line : ℕ) → List Piece → Reading HeadTree
+body_keyword_line text line ts = reduce_or_word text line ts (after text reduce_phrase ts)
 
 -- a call, where round brackets end the line behind its first name, and else a line by its first word
 abbrev pub call_or_keyword : List ℕ → (line : ℕ) → Piece → List Piece → Option (List Piece) → Reading HeadTree
 call_or_keyword text line t ts (Some inside) = call_line text line (spelling text t) inside
-call_or_keyword text line t ts None = keyword_line text line ts
+call_or_keyword text line t ts None = body_keyword_line text line ts
 
 -- a line of an element, where `[` is behind its first name
 abbrev pub element_or_call : List ℕ → BlockKind → (line : ℕ) → Piece → (rest ts : List Piece) → Option (List Piece × List Piece) → Reading HeadTree
@@ -70,10 +70,10 @@ declaration_or_element text kind line t rest ts (Some behind) = declaration_line
 declaration_or_element text kind line t rest ts None = element_or_call text kind line t rest ts (bracketed Square rest)
 
 -- a line that begins with a name: what stands behind it decides, and then the name
-abbrev pub named_line : List ℕ → BlockKind → (line : ℕ) → Piece → (rest ts : List Piece) → Reading HeadTree
-named_line text kind line t rest ts = declaration_or_element text kind line t rest ts (next text (codes "=") rest)
+abbrev pub body_named_line : List ℕ → BlockKind → (line : ℕ) → Piece → (rest ts : List Piece) → Reading HeadTree
+body_named_line text kind line t rest ts = declaration_or_element text kind line t rest ts (next text (codes "=") rest)
 
 -- a line of a body
 abbrev pub body_line : List ℕ → BlockKind → (line : ℕ) → List Piece → Reading HeadTree
 body_line text kind line [] = NoForm
-body_line text kind line (t ∷ ts) = if is_name t.word then named_line text kind line t ts (t ∷ ts) else decorator_line text (t ∷ ts)
+body_line text kind line (t ∷ ts) = if is_name t.word then body_named_line text kind line t ts (t ∷ ts) else decorator_line text (t ∷ ts)

@@ -10,10 +10,10 @@ use Rattle.sd_phrase.specs.declared.word.Mark.TheVariants.{Comma}
 use Rattle.sd_phrase.specs.declared.word.Piece.{Piece}
 use Rattle.sd_line.specs.Head.{HeadTree, statement_head}
 
--- one argument: a name and its subset
-abbrev pub argument : List ℕ → List Piece → Reading (List ℕ × List Dimension)
-argument text ts = if_some (name_first text ts) (λ found. reading_map (λ dimensions. (found.0, dimensions)) (subset text found.1))
+-- one argument of a call: a name and its subset
+abbrev pub call_argument : List ℕ → List Piece → Reading (List ℕ × List Dimension)
+call_argument text ts = if_some (name_first text ts) (λ found. reading_map (λ dimensions. (found.0, dimensions)) (subset text found.1))
 
 -- `f(X, Y[d])`: what is in the round brackets
 abbrev pub call_line : List ℕ → (line : ℕ) → (name : List ℕ) → List Piece → Reading HeadTree
-call_line text line name inside = reading_map (λ arguments. statement_head (call line name arguments)) (listed (map (argument text) (parts_of Comma inside)))
+call_line text line name inside = reading_map (λ arguments. statement_head (call line name arguments)) (listed (map (call_argument text) (parts_of Comma inside)))

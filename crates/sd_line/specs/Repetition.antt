@@ -23,8 +23,8 @@ names_from text before (t ∷ u ∷ ts) =
     else None
 
 -- the names between commas that the list begins with, and what is behind them
-abbrev pub names : List ℕ → List Piece → Option (List (List ℕ) × List Piece)
-names text ts = names_from text [] ts
+abbrev pub names_first : List ℕ → List Piece → Option (List (List ℕ) × List Piece)
+names_first text ts = names_from text [] ts
 
 -- a loop with its begin
 abbrev pub looped : (line : ℕ) → (name : List ℕ) → (step : Option ℤ) → Expression → Expression → HeadTree
@@ -79,4 +79,4 @@ for_names text line names ts = loop_or_map text line names ts (after text in_ran
 
 -- `for k in range(..):` or `for i, j in dace.map[..]:`, behind the `for`
 abbrev pub for_line : List ℕ → (line : ℕ) → List Piece → Reading HeadTree
-for_line text line ts = if_some (names text ts) (λ found. for_names text line found.0 found.1)
+for_line text line ts = if_some (names_first text ts) (λ found. for_names text line found.0 found.1)

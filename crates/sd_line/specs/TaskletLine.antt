@@ -41,8 +41,8 @@ abbrev pub output_line : List ℕ → (name : List ℕ) → List Piece → Readi
 output_line text name ts = reading_map (output_head name) (memlet text ts)
 
 -- a line that is no assignment and no connector: `if`, `elif` or `else:`
-abbrev pub keyword_line : List ℕ → (line : ℕ) → Piece → (rest ts : List Piece) → Reading HeadTree
-keyword_line text line t rest ts =
+abbrev pub tasklet_keyword_line : List ℕ → (line : ℕ) → Piece → (rest ts : List Piece) → Reading HeadTree
+tasklet_keyword_line text line t rest ts =
     if is_phrase text else_phrase ts then Form else_head
     else if is_spelled text t (codes "if") then when_line text line rest
     else if is_spelled text t (codes "elif") then elif_line text false rest
@@ -51,7 +51,7 @@ keyword_line text line t rest ts =
 -- an assignment to an element, where `[` is behind the first name
 abbrev pub element_or_keyword : List ℕ → (line : ℕ) → Piece → (rest ts : List Piece) → Option (List Piece × List Piece) → Reading HeadTree
 element_or_keyword text line t rest ts (Some cut) = set_at_line text line (spelling text t) cut.0 cut.1
-element_or_keyword text line t rest ts None = keyword_line text line t rest ts
+element_or_keyword text line t rest ts None = tasklet_keyword_line text line t rest ts
 
 -- an output, where `>>` is behind the first name
 abbrev pub output_or_element : List ℕ → (line : ℕ) → Piece → (rest ts : List Piece) → Option (List Piece) → Reading HeadTree
@@ -69,10 +69,10 @@ set_or_input text line t rest ts (Some behind) = set_line text line (spelling te
 set_or_input text line t rest ts None = input_or_output text line t rest ts (next text (codes "<<") rest)
 
 -- a line that begins with a name: what stands behind it decides, and then the name
-abbrev pub named_line : List ℕ → (line : ℕ) → Piece → (rest ts : List Piece) → Reading HeadTree
-named_line text line t rest ts = set_or_input text line t rest ts (next text (codes "=") rest)
+abbrev pub tasklet_named_line : List ℕ → (line : ℕ) → Piece → (rest ts : List Piece) → Reading HeadTree
+tasklet_named_line text line t rest ts = set_or_input text line t rest ts (next text (codes "=") rest)
 
 -- a line of a tasklet
 abbrev pub tasklet_line : List ℕ → (line : ℕ) → List Piece → Reading HeadTree
 tasklet_line text line [] = NoForm
-tasklet_line text line (t ∷ ts) = if is_name t.word then named_line text line t ts (t ∷ ts) else NoForm
+tasklet_line text line (t ∷ ts) = if is_name t.word then tasklet_named_line text line t ts (t ∷ ts) else NoForm

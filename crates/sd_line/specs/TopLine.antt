@@ -46,15 +46,15 @@ abbrev pub extents : List ℕ → List Piece → Reading (List Expression)
 extents text [] = Form []
 extents text (t ∷ ts) = if_some (whole (bracketed Square (t ∷ ts))) (extents_in text)
 
--- `X: dace.int64` or `X: dace.int64[e, e]`
-abbrev pub argument : List ℕ → (line : ℕ) → List Piece → Reading StatementTree
-argument text line ts =
+-- an argument of a program: `X: dace.int64` or `X: dace.int64[e, e]`
+abbrev pub program_argument : List ℕ → (line : ℕ) → List Piece → Reading StatementTree
+program_argument text line ts =
     if_some (name_first text ts) (λ found. if_some (after text type_phrase found.1) (λ rest.
     reading_map (λ list. argument_array line found.0 64 (expressions_listed list)) (extents text rest)))
 
 -- `def f(X: t, Y: t):`: what is in the round brackets
 abbrev pub program_line : List ℕ → (line : ℕ) → (name : List ℕ) → List Piece → Reading HeadTree
-program_line text line name inside = reading_map (λ list. program_head name (block_listed list)) (listed (map (argument text line) (parts_of Comma inside)))
+program_line text line name inside = reading_map (λ list. program_head name (block_listed list)) (listed (map (program_argument text line) (parts_of Comma inside)))
 
 -- `def f(X: t, Y: t):`, behind the `def`
 abbrev pub def_line : List ℕ → (line : ℕ) → List Piece → Reading HeadTree

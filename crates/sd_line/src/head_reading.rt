@@ -13,8 +13,8 @@ use sd_list::NoMemory;
 use sd_phrase::{Piece, Reading, is_balanced};
 use std::alloc::Global;
 
-/// What the tokens of a line say in a block of this kind. Its first token stands on this physical
-/// line.
+/// What the tokens of a line say in a block of this kind. The tokens are those of the line alone,
+/// without the marks of its end and of blocks; the first of them stands on this physical line.
 pub fn read_head(
     alloc: Global,
     text: &[u8],

@@ -210,7 +210,7 @@ fn read_output(
     output_of(alloc, text, name, memlet)
 }
 
-/// A line that no assignment and no connector is.
+/// A line that is no assignment and no connector: `if`, `elif` or `else:`.
 fn read_keyword_line(
     alloc: Global,
     text: &[u8],
@@ -222,7 +222,7 @@ fn read_keyword_line(
     requires first { IsInside text.now first }
     requires rest { AreInside text.now rest.now }
     requires tokens { AreInside text.now tokens.now }
-    ensures { IfOk result (λ r. reading_map head_tree r ≡ definition.keyword_line text.now line first rest.now tokens.now) }
+    ensures { IfOk result (λ r. reading_map head_tree r ≡ definition.tasklet_keyword_line text.now line first rest.now tokens.now) }
 {
     if is_phrase(text, tokens, &["else", ":"]) {
         Ok(Reading::Form(Head::Else))
@@ -247,7 +247,7 @@ fn read_named_line(
     requires first { IsInside text.now first }
     requires rest { AreInside text.now rest.now }
     requires tokens { AreInside text.now tokens.now }
-    ensures { IfOk result (λ r. reading_map head_tree r ≡ definition.named_line text.now line first rest.now tokens.now) }
+    ensures { IfOk result (λ r. reading_map head_tree r ≡ definition.tasklet_named_line text.now line first rest.now tokens.now) }
 {
     if let Some(behind) = next(text, rest, b"=") {
         return read_set(alloc, text, line, first, behind);

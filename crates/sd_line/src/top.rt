@@ -86,7 +86,7 @@ fn read_argument(
     tokens: &[Piece],
 ) -> Result<Reading<Statement>, NoMemory>
     requires { AreInside text.now tokens.now }
-    ensures { IfOk result (λ r. reading_map statement_of r ≡ definition.argument text.now line tokens.now) }
+    ensures { IfOk result (λ r. reading_map statement_of r ≡ definition.program_argument text.now line tokens.now) }
 {
     let Some((name, rest)) = name_first(text, tokens) else {
         return Ok(Reading::NoForm);
@@ -108,7 +108,7 @@ fn read_arguments(
     tokens: &[Piece],
 ) -> Result<Reading<Vec<Statement>>, NoMemory>
     requires { AreInside text.now tokens.now }
-    ensures { IfOk result (λ r. reading_map (λ list. map statement_of list.items) r ≡ listed (map (definition.argument text.now line) (parts_of Comma tokens.now))) }
+    ensures { IfOk result (λ r. reading_map (λ list. map statement_of list.items) r ≡ listed (map (definition.program_argument text.now line) (parts_of Comma tokens.now))) }
 {
     let mut list: Vec<Statement> = Vec::new(alloc);
     let mut deep = false;

@@ -43,7 +43,7 @@ fn read_argument(
     tokens: &[Piece],
 ) -> Result<Reading<(String, Vec<Slot>)>, NoMemory>
     requires { AreInside text.now tokens.now }
-    ensures { IfOk result (λ r. reading_map call_argument_of r ≡ definition.argument text.now tokens.now) }
+    ensures { IfOk result (λ r. reading_map call_argument_of r ≡ definition.call_argument text.now tokens.now) }
 {
     match name_first(text, tokens) {
         None => Ok(Reading::NoForm),
@@ -61,7 +61,7 @@ fn read_arguments(
     tokens: &[Piece],
 ) -> Result<Reading<Vec<(String, Vec<Slot>)>>, NoMemory>
     requires { AreInside text.now tokens.now }
-    ensures { IfOk result (λ r. reading_map (λ list. map call_argument_of list.items) r ≡ listed (map (definition.argument text.now) (parts_of Comma tokens.now))) }
+    ensures { IfOk result (λ r. reading_map (λ list. map call_argument_of list.items) r ≡ listed (map (definition.call_argument text.now) (parts_of Comma tokens.now))) }
 {
     let mut list: Vec<(String, Vec<Slot>)> = Vec::new(alloc);
     let mut deep = false;

@@ -51,24 +51,30 @@ fn assign_of(
     }
 }
 
-/// An assignment: its subscripts, and the tokens of its value.
+/// The value of an assignment: whether it is added, how deep it may be, and its tokens.
+struct Assigned<'a> {
+    add: bool,
+    levels: u32,
+    tokens: &'a [Piece],
+}
+
+/// An assignment: its subscripts and its value.
 fn read_assign(
     alloc: Global,
     text: &[u8],
     line: u32,
     name: Piece,
-    add: bool,
-    levels: u32,
     inside: &[Piece],
-    value: &[Piece],
+    value: Assigned<'_>,
 ) -> Result<Reading<Head>, NoMemory>
     requires name { IsInside text.now name }
     requires inside { AreInside text.now inside.now }
-    requires value { AreInside text.now value.now }
-    ensures { IfOk result (λ r. reading_map head_tree r ≡ definition.assign_line text.now line (spelling text.now name) add levels inside.now value.now) }
+    requires value { AreInside text.now value.tokens.now }
+    ensures { IfOk result (λ r. reading_map head_tree r ≡ definition.assign_line text.now line (spelling text.now name) value.entry.add value.entry.levels inside.now value.entry.tokens.now) }
 {
+    let Assigned { add, levels, tokens } = value;
     let at = read_list(alloc, text, true, LEVELS, inside)?;
-    let value = read_expression(alloc, text, true, levels, value)?;
+    let value = read_expression(alloc, text, true, levels, tokens)?;
     assign_of(alloc, text, line, name, add, at, value)
 }
 
@@ -168,11 +174,22 @@ pub(crate) fn read_element_line(
         };
     }
     match next(text, behind, b"=") {
-        Some(value) => read_assign(alloc, text, line, name, false, LEVELS, inside, value),
+        Some(tokens) => {
+            let value = Assigned {
+                add: false,
+                levels: LEVELS,
+                tokens,
+            };
+            read_assign(alloc, text, line, name, inside, value)
+        }
         None => match next(text, behind, b"+=") {
-            Some(value) => {
-                let levels = levels_of_sum(kind);
-                read_assign(alloc, text, line, name, true, levels, inside, value)
+            Some(tokens) => {
+                let value = Assigned {
+                    add: true,
+                    levels: levels_of_sum(kind),
+                    tokens,
+                };
+                read_assign(alloc, text, line, name, inside, value)
             }
             None => Ok(Reading::NoForm),
         },

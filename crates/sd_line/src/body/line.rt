@@ -48,7 +48,7 @@ fn read_word_line(
     }
 }
 
-/// A line that no definition, element or call is.
+/// A line that is no declaration, element or call.
 fn read_keyword_line(
     alloc: Global,
     text: &[u8],
@@ -56,7 +56,7 @@ fn read_keyword_line(
     tokens: &[Piece],
 ) -> Result<Reading<Head>, NoMemory>
     requires { AreInside text.now tokens.now }
-    ensures { IfOk result (λ r. reading_map head_tree r ≡ definition.keyword_line text.now line tokens.now) }
+    ensures { IfOk result (λ r. reading_map head_tree r ≡ definition.body_keyword_line text.now line tokens.now) }
 {
     if let Some(rest) = after(text, tokens, &["dace", ".", "reduce", "("]) {
         return match closed_whole(Bracket::Round, rest) {
@@ -92,7 +92,7 @@ fn read_named_line(
     requires first { IsInside text.now first }
     requires rest { AreInside text.now rest.now }
     requires tokens { AreInside text.now tokens.now }
-    ensures { IfOk result (λ r. reading_map head_tree r ≡ definition.named_line text.now kind line first rest.now tokens.now) }
+    ensures { IfOk result (λ r. reading_map head_tree r ≡ definition.body_named_line text.now kind line first rest.now tokens.now) }
 {
     if let Some(tokens) = next(text, rest, b"=") {
         return read_declaration(alloc, text, line, first, tokens);

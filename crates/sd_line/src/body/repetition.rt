@@ -42,7 +42,7 @@ fn read_names<'a>(
     tokens: &'a [Piece],
 ) -> Result<Option<Named<'a>>, NoMemory>
     requires { AreInside text.now tokens.now }
-    ensures names { IfOk result (λ found. MatchOption found (definition.names text.now tokens.now ≡ None) (λ named. definition.names text.now tokens.now ≡ Some (map string_bytes named.names.items, named.rest.now))) }
+    ensures names { IfOk result (λ found. MatchOption found (definition.names_first text.now tokens.now ≡ None) (λ named. definition.names_first text.now tokens.now ≡ Some (map string_bytes named.names.items, named.rest.now))) }
     ensures inside { IfOk result (λ found. IfSome found (λ named. AreInside text.now named.rest.now)) }
 {
     let mut names: Vec<String> = Vec::new(alloc);

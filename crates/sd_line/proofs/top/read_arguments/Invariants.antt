@@ -11,8 +11,8 @@ abbrev pub invariant-loop-place : goal.invariant-loop-place
 invariant-loop-place l = record {
   inside : AreInside l.text l.left;
   shorter : length l.left ≤ length l.tokens;
-  same : listed_from (map statement_of l.list.items) l.deep (map (definition.argument l.text l.line) (parts_of Comma l.left))
-      ≡ listed_from [] false (map (definition.argument l.text l.line) (parts_of Comma l.tokens));
+  same : listed_from (map statement_of l.list.items) l.deep (map (definition.program_argument l.text l.line) (parts_of Comma l.left))
+      ≡ listed_from [] false (map (definition.program_argument l.text l.line) (parts_of Comma l.tokens));
 }
 
 abbrev pub decreases-loop-place : goal.decreases-loop-place

@@ -7,7 +7,7 @@ use Rattle.sd_line.proofs.body.repetition.read_names.Given as goal
 abbrev pub invariant-loop-name : goal.invariant-loop-name
 invariant-loop-name l = record {
   inside : AreInside l.text l.left;
-  same : definition.names_from l.text (map string_bytes l.names.items) l.left ≡ definition.names l.text l.tokens;
+  same : definition.names_from l.text (map string_bytes l.names.items) l.left ≡ definition.names_first l.text l.tokens;
 }
 
 abbrev pub decreases-loop-name : goal.decreases-loop-name
