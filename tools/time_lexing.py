@@ -6,11 +6,9 @@ Proves and builds the program sd_lex_bench where it is not built, and prints the
 import subprocess
 import sys
 import tempfile
-from pathlib import Path
 
-CRATE = Path(__file__).resolve().parent.parent / "crates" / "sd_lex_bench"
-PROGRAM = CRATE / "out" / "sd_lex_bench"
-BYTES = 2**20
+from timed_program import BYTES, built
+
 HEAD = b"""import dace
 N = dace.symbol('N')
 
@@ -22,15 +20,13 @@ LINE = b"        C[i, j] += A[i, k] * B[k, j]  # the product\n"
 
 
 def main():
-    if not PROGRAM.is_file():
-        built = subprocess.run(["rt", "run", "--"], cwd=CRATE, stdin=subprocess.DEVNULL, capture_output=True)
-        if not PROGRAM.is_file():
-            sys.stderr.buffer.write(built.stderr)
-            return 1
+    program = built("sd_lex_bench")
+    if program is None:
+        return 1
     with tempfile.NamedTemporaryFile(suffix=".py") as source:
         source.write(HEAD + LINE * ((BYTES - len(HEAD)) // len(LINE)))
         source.flush()
-        return subprocess.run([PROGRAM, source.name]).returncode
+        return subprocess.run([program, source.name]).returncode
 
 
 if __name__ == "__main__":

@@ -7,11 +7,8 @@ time of the quickest of ten readings.
 import subprocess
 import sys
 import tempfile
-from pathlib import Path
 
-CRATE = Path(__file__).resolve().parent.parent / "crates" / "sd_line_bench"
-PROGRAM = CRATE / "out" / "sd_line_bench"
-BYTES = 2**20
+from timed_program import BYTES, built
 
 # What a line begins with, what is repeated, and what it ends with.
 LINES = [
@@ -28,16 +25,14 @@ LINES = [
 
 
 def main():
-    if not PROGRAM.is_file():
-        built = subprocess.run(["rt", "run", "--"], cwd=CRATE, stdin=subprocess.DEVNULL, capture_output=True)
-        if not PROGRAM.is_file():
-            sys.stderr.buffer.write(built.stderr)
-            return 1
+    program = built("sd_line_bench")
+    if program is None:
+        return 1
     for before, each, behind in LINES:
         with tempfile.NamedTemporaryFile(suffix=".py") as source:
             source.write(before + each * ((BYTES - len(before) - len(behind)) // len(each)) + behind)
             source.flush()
-            done = subprocess.run([PROGRAM, source.name], capture_output=True, text=True)
+            done = subprocess.run([program, source.name], capture_output=True, text=True)
             if done.returncode != 0:
                 sys.stderr.write(done.stderr)
                 return done.returncode
