@@ -72,7 +72,11 @@ fn read_assign(
     requires value { AreInside text.now value.tokens.now }
     ensures { IfOk result (λ r. reading_map head_tree r ≡ definition.assign_line text.now line (spelling text.now name) value.entry.add value.entry.levels inside.now value.entry.tokens.now) }
 {
-    let Assigned { add, levels, tokens } = value;
+    let Assigned {
+        add,
+        levels,
+        tokens,
+    } = value;
     let at = read_list(alloc, text, true, LEVELS, inside)?;
     let value = read_expression(alloc, text, true, levels, tokens)?;
     assign_of(alloc, text, line, name, add, at, value)
