@@ -40,6 +40,8 @@ fn declarations_elements_and_calls(rt: HostRuntime) -> Result<(), Fail> {
         ("Y[i, j] += X[i, j]", "assign Y[i;j;] += X[i;j;] at 7"),
         ("if[0] = 1", "assign if[0;] = 1 at 7"),
         ("Y[i] = X[0:1]", "none"),
+        ("Y[X[0:1]] = X[0:1]", "none"),
+        ("else = 1", "none"),
         ("Y[i] *= 1", "none"),
         ("Y[] = 1", "none"),
         ("Y[0:N] = X[i, :]", "copy Y[0:N:_;] X[i;_:_:_;] at 7"),

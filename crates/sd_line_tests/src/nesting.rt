@@ -100,6 +100,25 @@ fn an_expression_has_at_most_64_levels(rt: HostRuntime) -> Result<(), Fail> {
     Ok(())
 }
 
+/// The brackets round expressions of a body and of a tasklet.
+#[test]
+fn subscripts_are_levels_in_a_tasklet_and_in_lambdas(rt: HostRuntime) -> Result<(), Fail> {
+    for (kind, before, behind, levels) in [
+        (BlockKind::Tasklet, "c[A[", "]] = 1", 63),
+        (BlockKind::Tasklet, "c << A[(B[", "])]", 64),
+        (BlockKind::Program, "Y[A[", "]] = 1", 64),
+        (BlockKind::Program, "dace.reduce(lambda x, y: ", ", X, Y)", 64),
+        (BlockKind::Program, "dace.reduce(lambda x, y: A[", "], X, Y)", 63),
+    ] {
+        let alloc = rt.alloc();
+        assert!(rt;
+            is_deepest(alloc, kind, (before, behind), levels, ("(", ")"))?,
+            "{before}"
+        );
+    }
+    Ok(())
+}
+
 #[test]
 fn no_form_goes_before_too_deep(rt: HostRuntime) -> Result<(), Fail> {
     let alloc = rt.alloc();
@@ -128,22 +147,60 @@ fn no_form_goes_before_too_deep(rt: HostRuntime) -> Result<(), Fail> {
     Ok(())
 }
 
-/// `before`, and then `each` so often that the text has 2^17 bytes.
-fn long(alloc: Global, before: &str, each: &str) -> Result<String, Fail> {
-    let mut text = String::from_str(alloc, before)?;
-    for _ in 0..(1 << 17) / each.len().max(1) {
-        text.push_str(each)?;
-    }
-    Ok(text)
-}
+/// How many bytes the long lines have, but for fewer than 64.
+const LONG: u32 = 1 << 20;
 
 #[test]
 fn long_lines_are_answered(rt: HostRuntime) -> Result<(), Fail> {
     let alloc = rt.alloc();
-    for (each, says) in [("(", "none"), ("- ", "deep"), (",", "none")] {
-        let line = long(alloc, "c = ", each)?;
-        let shown = said(alloc, BlockKind::Tasklet, line.as_bytes())?;
+    for (kind, before, each, bytes, behind, says) in [
+        (BlockKind::Tasklet, "c = ", "(", 1, "", "none"),
+        (BlockKind::Tasklet, "c = ", "- ", 2, "", "deep"),
+        (BlockKind::Tasklet, "c = ", ",", 1, "", "none"),
+        (BlockKind::Program, "for ", "i,", 2, " in range(1):", "none"),
+    ] {
+        let times = LONG.saturating_sub(64) / bytes;
+        let line = nested(alloc, (before, behind), times, (each, ""), "a")?;
+        let shown = said(alloc, kind, line.as_bytes())?;
         assert_eq!(rt; shown.as_str(), says, "{each}");
+    }
+    Ok(())
+}
+
+#[test]
+fn long_lists_are_read(rt: HostRuntime) -> Result<(), Fail> {
+    let alloc = rt.alloc();
+    for (kind, line, bytes, says) in [
+        (
+            BlockKind::Tasklet,
+            ("c[", "a,", "] = 1"),
+            2,
+            ("set c[", "a;", ";] = 1 at 7"),
+        ),
+        (
+            BlockKind::Tasklet,
+            ("c << A[", "a,", "]"),
+            2,
+            ("input c A(_)[", "a;", ";]"),
+        ),
+        (
+            BlockKind::Scope,
+            ("f(", "a,", ")"),
+            2,
+            ("call f ", "a[] ", "[] at 7"),
+        ),
+        (
+            BlockKind::Top,
+            ("def f(", "a:dace.int64,", ":dace.int64):"),
+            13,
+            ("program f ", "a[]64 at 7 ", "[]64 at 7"),
+        ),
+    ] {
+        let times = LONG.saturating_sub(64) / bytes;
+        let long = nested(alloc, (line.0, line.2), times, (line.1, ""), "a")?;
+        let shown = said(alloc, kind, long.as_bytes())?;
+        let says = nested(alloc, (says.0, says.2), times, (says.1, ""), "a")?;
+        assert!(rt; shown.as_str() == says.as_str(), "{}", line.0);
     }
     Ok(())
 }

@@ -188,7 +188,7 @@ fn when(shown: &mut String, word: &str, tree: &Expr) -> Result<(), Fail> {
     expression(shown, tree)
 }
 
-fn statement(shown: &mut String, tree: &Statement) -> Result<(), Fail> {
+fn declaration(shown: &mut String, tree: &Statement) -> Result<(), Fail> {
     match tree {
         Statement::Argument {
             name,
@@ -217,6 +217,14 @@ fn statement(shown: &mut String, tree: &Statement) -> Result<(), Fail> {
             write!(shown, "stream {name} {bits} ")?;
             number(shown, *size)?;
         }
+        _ => shown.push_str("?")?,
+    }
+    Ok(())
+}
+
+/// A statement on elements, or a call.
+fn action(shown: &mut String, tree: &Statement) -> Result<(), Fail> {
+    match tree {
         Statement::Assign {
             name,
             at,
@@ -234,27 +242,31 @@ fn statement(shown: &mut String, tree: &Statement) -> Result<(), Fail> {
             from_dims,
             ..
         } => {
-            shown.push_str("copy ")?;
-            shown.push_str(to)?;
+            write!(shown, "copy {to}")?;
             slots(shown, to_dims)?;
-            shown.push_str(" ")?;
-            shown.push_str(from)?;
+            write!(shown, " {from}")?;
             slots(shown, from_dims)?;
         }
-        Statement::Map { params, ranges, .. } => {
-            shown.push_str("map ")?;
-            names(shown, params)?;
-            slots(shown, ranges)?;
-        }
-        Statement::Tasklet { .. } => shown.push_str("tasklet")?,
         Statement::Call {
             name,
             arguments: passed,
             ..
         } => {
-            shown.push_str("call ")?;
-            shown.push_str(name)?;
+            write!(shown, "call {name}")?;
             arguments(shown, passed)?;
+        }
+        _ => shown.push_str("?")?,
+    }
+    Ok(())
+}
+
+/// A line of a body with a block below it.
+fn block(shown: &mut String, tree: &Statement) -> Result<(), Fail> {
+    match tree {
+        Statement::Map { params, ranges, .. } => {
+            shown.push_str("map ")?;
+            names(shown, params)?;
+            slots(shown, ranges)?;
         }
         Statement::For {
             name,
@@ -263,9 +275,7 @@ fn statement(shown: &mut String, tree: &Statement) -> Result<(), Fail> {
             step,
             ..
         } => {
-            shown.push_str("for ")?;
-            shown.push_str(name)?;
-            shown.push_str(" ")?;
+            write!(shown, "for {name} ")?;
             wanted(shown, begin)?;
             when(shown, ":", end)?;
             shown.push_str(":")?;
@@ -273,9 +283,17 @@ fn statement(shown: &mut String, tree: &Statement) -> Result<(), Fail> {
         }
         Statement::While { when: tree, .. } => when(shown, "while ", tree)?,
         Statement::If { when: tree, .. } => when(shown, "if ", tree)?,
+        Statement::Tasklet { .. } => shown.push_str("tasklet")?,
+        _ => shown.push_str("?")?,
+    }
+    Ok(())
+}
+
+/// A statement of a tasklet.
+fn inner(shown: &mut String, tree: &Statement) -> Result<(), Fail> {
+    match tree {
         Statement::Set { name, value, .. } => {
-            shown.push_str("set ")?;
-            shown.push_str(name)?;
+            write!(shown, "set {name}")?;
             when(shown, " = ", value)?;
         }
         Statement::SetAt {
@@ -290,8 +308,53 @@ fn statement(shown: &mut String, tree: &Statement) -> Result<(), Fail> {
         Statement::When { when: tree, .. } => when(shown, "when ", tree)?,
         _ => shown.push_str("?")?,
     }
+    Ok(())
+}
+
+fn statement(shown: &mut String, tree: &Statement) -> Result<(), Fail> {
+    match tree {
+        Statement::Argument { .. } | Statement::Local { .. } | Statement::Stream { .. } => {
+            declaration(shown, tree)?
+        }
+        Statement::Assign { .. } | Statement::Copy { .. } | Statement::Call { .. } => {
+            action(shown, tree)?
+        }
+        Statement::Set { .. } | Statement::SetAt { .. } | Statement::When { .. } => {
+            inner(shown, tree)?
+        }
+        _ => block(shown, tree)?,
+    }
     let line = tree.line();
     write!(shown, " at {line}")?;
+    Ok(())
+}
+
+fn program(shown: &mut String, name: &str, arguments: &[Statement]) -> Result<(), Fail> {
+    write!(shown, "program {name}")?;
+    for argument in arguments {
+        statement(shown, argument)?;
+    }
+    Ok(())
+}
+
+/// The axis and the identity of a reduction.
+fn options(shown: &mut String, axis: Option<i64>, identity: Option<i64>) -> Result<(), Fail> {
+    number(shown, axis)?;
+    shown.push_str(" ")?;
+    number(shown, identity)
+}
+
+/// A word, the name of a connector and its memlet.
+fn moved(shown: &mut String, word: &str, name: &str, written: &WrittenMemlet) -> Result<(), Fail> {
+    write!(shown, "{word} {name} ")?;
+    memlet(shown, written)
+}
+
+fn worker_name(shown: &mut String, worker: &Option<String>) -> Result<(), Fail> {
+    match worker {
+        None => shown.push_str("_")?,
+        Some(name) => shown.push_str(name)?,
+    }
     Ok(())
 }
 
@@ -301,13 +364,7 @@ pub(crate) fn head(shown: &mut String, said: &Head) -> Result<(), Fail> {
         Head::Import => shown.push_str("import")?,
         Head::Symbol { name, quoted } => write!(shown, "symbol {name} {quoted}")?,
         Head::ProgramDecorator => shown.push_str("program below")?,
-        Head::Program { name, arguments } => {
-            shown.push_str("program ")?;
-            shown.push_str(name)?;
-            for argument in arguments {
-                statement(shown, argument)?;
-            }
-        }
+        Head::Program { name, arguments } => program(shown, name, arguments)?,
         Head::Statement(tree) => statement(shown, tree)?,
         Head::Reduce {
             lambda: resolution,
@@ -319,24 +376,10 @@ pub(crate) fn head(shown: &mut String, said: &Head) -> Result<(), Fail> {
             shown.push_str("reduce ")?;
             lambda(shown, resolution)?;
             write!(shown, " {from} {to} ")?;
-            number(shown, *axis)?;
-            shown.push_str(" ")?;
-            number(shown, *identity)?;
+            options(shown, *axis, *identity)?;
         }
-        Head::Input {
-            connector,
-            memlet: moved,
-        } => {
-            write!(shown, "input {connector} ")?;
-            memlet(shown, moved)?;
-        }
-        Head::Output {
-            connector,
-            memlet: moved,
-        } => {
-            write!(shown, "output {connector} ")?;
-            memlet(shown, moved)?;
-        }
+        Head::Input { connector, memlet } => moved(shown, "input", connector, memlet)?,
+        Head::Output { connector, memlet } => moved(shown, "output", connector, memlet)?,
         Head::ConsumeDecorator { stream, size } => write!(shown, "consume below {stream} {size}")?,
         Head::Consume {
             name,
@@ -344,10 +387,7 @@ pub(crate) fn head(shown: &mut String, said: &Head) -> Result<(), Fail> {
             worker,
         } => {
             write!(shown, "consume {name} {element} ")?;
-            match worker {
-                None => shown.push_str("_")?,
-                Some(worker) => shown.push_str(worker)?,
-            }
+            worker_name(shown, worker)?;
         }
         Head::Elif(tree) => when(shown, "elif ", tree)?,
         Head::Else => shown.push_str("else")?,
