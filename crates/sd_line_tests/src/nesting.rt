@@ -100,15 +100,24 @@ fn an_expression_has_at_most_64_levels(rt: HostRuntime) -> Result<(), Fail> {
     Ok(())
 }
 
-/// The brackets round expressions of a body and of a tasklet.
 #[test]
 fn subscripts_are_levels_in_a_tasklet_and_in_lambdas(rt: HostRuntime) -> Result<(), Fail> {
     for (kind, before, behind, levels) in [
         (BlockKind::Tasklet, "c[A[", "]] = 1", 63),
         (BlockKind::Tasklet, "c << A[(B[", "])]", 64),
         (BlockKind::Program, "Y[A[", "]] = 1", 64),
-        (BlockKind::Program, "dace.reduce(lambda x, y: ", ", X, Y)", 64),
-        (BlockKind::Program, "dace.reduce(lambda x, y: A[", "], X, Y)", 63),
+        (
+            BlockKind::Program,
+            "dace.reduce(lambda x, y: ",
+            ", X, Y)",
+            64,
+        ),
+        (
+            BlockKind::Program,
+            "dace.reduce(lambda x, y: A[",
+            "], X, Y)",
+            63,
+        ),
     ] {
         let alloc = rt.alloc();
         assert!(rt;
@@ -147,7 +156,7 @@ fn no_form_goes_before_too_deep(rt: HostRuntime) -> Result<(), Fail> {
     Ok(())
 }
 
-/// How many bytes the long lines have, but for fewer than 64.
+/// About how many bytes the long lines have; up to 64 are left for what stands round a list.
 const LONG: u32 = 1 << 20;
 
 #[test]
