@@ -72,6 +72,10 @@ abbrev pub SomeExitTouches : {P : Type 0} → List (Exit P) → Touch → Type 0
 SomeExitTouches [] touch = ⊥
 SomeExitTouches (exit ∷ exits) touch = GuardTouches exit.when touch ⊎ SomeExitTouches exits touch
 
+-- what holds of the active terms of a pool, or of its work for some value
+abbrev pub NowOrForAValue : (now : Type 0) → (later : ℤ → Type 0) → Type 0
+NowOrForAValue now later = now ⊎ ((value : ℤ) × later value)
+
 -- a term touches what its parts do, now and in every state for all values of the variables, whether it comes to them or not; a pool takes from its stream
 abbrev mutual
   pub Touches : {P : Type 0} → Term P → Touch → Type 0
@@ -84,7 +88,7 @@ abbrev mutual
       ⊎ ((state : ℕ) × (values : Values) × SomeExitTouches (exits state values) (inner touch)))
   Touches (ended own) touch = ⊥
   Touches (pool level container body active closed) touch =
-      (touch ≡ takes level container) ⊎ (SomeActiveTouches active touch ⊎ ((value : ℤ) × Touches (body value) touch))
+      (touch ≡ takes level container) ⊎ NowOrForAValue (SomeActiveTouches active touch) (λ value. Touches (body value) touch)
 
   pub SomePartTouches : {P : Type 0} → Terms P → Touch → Type 0
   SomePartTouches none touch = ⊥
@@ -94,9 +98,9 @@ abbrev mutual
   SomeActiveTouches idle touch = ⊥
   SomeActiveTouches (busy value part active) touch = Touches part touch ⊎ SomeActiveTouches active touch
 
--- what the work of a pool touches, now and for any value: all that the pool touches but its own take, which its clause above has in front of the same words
+-- what the work of a pool touches, now and for any value: all that the pool touches but its own take
 abbrev pub PoolTouches : {P : Type 0} → (body : ℤ → Term P) → Actives P → Touch → Type 0
-PoolTouches body active touch = SomeActiveTouches active touch ⊎ ((value : ℤ) × Touches (body value) touch)
+PoolTouches body active touch = NowOrForAValue (SomeActiveTouches active touch) (λ value. Touches (body value) touch)
 
 -- a change is not seen by what touches this: it writes no element that is read, and leaves a stream alone that is taken from
 abbrev pub SparesTouch : Touch → Change → Type 0
