@@ -6,7 +6,7 @@ mod body;
 #[cfg(test)]
 mod expressions;
 #[cfg(test)]
-mod nesting;
+mod lists;
 #[cfg(test)]
 mod reading;
 #[cfg(test)]
