@@ -1,0 +1,4 @@
+pub mod NameLemmas
+pub mod AccessLemmas
+pub mod NodeLemmas
+pub mod examples

@@ -1,0 +1,3 @@
+pub mod ExampleParts
+pub mod NodeExamples
+pub mod CallExamples
