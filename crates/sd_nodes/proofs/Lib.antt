@@ -1,4 +1,5 @@
 pub mod NameLemmas
 pub mod AccessLemmas
 pub mod NodeLemmas
+pub mod KeptLemmas
 pub mod examples

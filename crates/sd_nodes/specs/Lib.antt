@@ -4,3 +4,4 @@ pub mod Nodes
 pub mod SourceItems
 pub mod SourceNodes
 pub mod NodeLimits
+pub mod KeptCounts

@@ -4,8 +4,10 @@
 mod access;
 mod call;
 mod connectors;
+mod counting;
 mod declarations;
 mod elements;
+mod functions;
 mod limits;
 mod mentioned;
 mod name_set;
@@ -17,5 +19,5 @@ mod table;
 mod used;
 
 pub use access::Access;
-pub use limits::Limits;
+pub use limits::{Limits, first_over};
 pub use node::Node;
