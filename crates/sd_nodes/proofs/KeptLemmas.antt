@@ -108,8 +108,8 @@ states_as most counts limit (nodes ∷ states) h =
     let count : ℕ = count_of counts nodes in
     ap (λ line. first_of line (states_over (kept_counts most counts) (limit - count_of (kept_counts most counts) nodes) states)) (line_as most counts limit nodes h)
     ∙ ap (λ line. first_of (line_over counts limit nodes) line)
-      (ap (λ left. states_over (kept_counts most counts) left states) (left_as most limit (count_of (kept_counts most counts) nodes) count h (count_as most counts nodes))
-      ∙ states_as most counts (limit - count) states (below most limit count h))
+    (ap (λ left. states_over (kept_counts most counts) left states) (left_as most limit (count_of (kept_counts most counts) nodes) count h (count_as most counts nodes))
+    ∙ states_as most counts (limit - count) states (below most limit count h))
 
 graph_as : (limits : Limits) (counts : Named ℕ) (states : List (List Node)) → graph_over limits (kept_counts (suc limits.all) counts) states ≡ graph_over limits counts states
 graph_as limits counts states = ap (λ line. lesser (any_state_over limits.state states) line) (states_as (suc limits.all) counts limits.all states (omega arith))
@@ -128,7 +128,7 @@ kept_is limits before [] = refl
 kept_is limits before (function ∷ functions) =
     ap (λ line. lesser line (kept_over limits (with_kept_function limits (kept (suc limits.all) before) function) functions)) (graph_as limits before.counts (states_of before.parameters function))
     ∙ ap (λ line. lesser (graph_over limits before.counts (states_of before.parameters function)) line)
-      (ap (λ next. kept_over limits next functions) (function_as limits before function) ∙ kept_is limits (with_function before function) functions)
+    (ap (λ next. kept_over limits next functions) (function_as limits before function) ∙ kept_is limits (with_function before function) functions)
 
 pub kept_is_exact : (limits : Limits) (functions : List FunctionTree) → kept_over limits (record { parameters = []; counts = [] }) functions ≡ functions_over limits (record { parameters = []; counts = [] }) functions
 kept_is_exact limits functions = kept_is limits (record { parameters = []; counts = [] }) functions

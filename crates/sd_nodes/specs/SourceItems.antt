@@ -86,7 +86,6 @@ consumed line body items =
     if has_connector body then and_item (single line None (connected Read body) (connected Write body)) no_item else items
 
 module _ (functions : Named Parameters) where
-
   -- a call reads and writes what is given for such parameters
   abbrev pub call_of : (line : ℕ) → Name → List (Name × List Dimension) → Item
   call_of line name arguments =

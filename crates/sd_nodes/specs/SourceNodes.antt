@@ -29,7 +29,6 @@ abbrev pub own_of : FunctionTree → List Name
 own_of function = with_all_declared (arguments_of function) function.body
 
 module _ (functions : Named Parameters) where
-
   -- these containers with those of a graph's own that are read, in items and conditions, or written
   abbrev mutual
     pub with_used : (own : List Name) → Access → (known : List Name) → StatementTree → List Name

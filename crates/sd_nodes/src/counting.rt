@@ -35,11 +35,7 @@ pub fn pass(counts: &Table<u32>, left: &mut u64, nodes: &[Node]) -> Option<u32>
 }
 
 /// As `pass`, for the nodes of states, one after another.
-pub fn pass_states(
-    counts: &Table<u32>,
-    left: &mut u64,
-    states: &[Sequence<Node>],
-) -> Option<u32>
+pub fn pass_states(counts: &Table<u32>, left: &mut u64, states: &[Sequence<Node>]) -> Option<u32>
     ensures line { result ≡ over.states_over counts.now left.old states.now }
     ensures left { result ≡ None → left.new ≡ left.old - over.count_in_all counts.now states.now }
 {
@@ -55,11 +51,7 @@ pub fn pass_states(
 /// The line of the node with which a graph's nodes in all are more than a limit, and how many they
 /// are, counted no further than one more than the limit.
 #[tactic(auto, using(crate::proofs::KeptLemmas::count_over, crate::proofs::KeptLemmas::count_below))]
-pub fn pass_graph(
-    counts: &Table<u32>,
-    limit: u32,
-    states: &[Sequence<Node>],
-) -> (Option<u32>, u32)
+pub fn pass_graph(counts: &Table<u32>, limit: u32, states: &[Sequence<Node>]) -> (Option<u32>, u32)
     requires { limit + 1 < 2 ^ 32 }
     ensures line { result.0 ≡ over.states_over counts.now limit states.now }
     ensures count { result.1 ≡ min (suc limit) (over.count_in_all counts.now states.now) }

@@ -36,11 +36,7 @@ pub fn note_all_declared(
 }
 
 #[cycle(declared)]
-fn note_declared(
-    alloc: Global,
-    statement: &Statement,
-    names: &mut NameSet,
-) -> Result<(), NoMemory>
+fn note_declared(alloc: Global, statement: &Statement, names: &mut NameSet) -> Result<(), NoMemory>
     ensures { OnOk result (names.new ≡ with_declared names.old (statement_of statement.now)) }
 {
     match statement {

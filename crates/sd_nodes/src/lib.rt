@@ -1,4 +1,9 @@
 //! The limits on the nodes of a source's graphs.
+//!
+//! `first_over` gives the least line at which a state of a function, or a function's graph with the
+//! graphs that it calls, has a node more than it may, exactly as `NodeLimits.antt` defines it. The nodes
+//! (`Nodes.antt`) are told by the items of a list and what each reads and writes (`Items.antt`), and the
+//! items by the source's statements (`SourceItems.antt`). Only memory can be wanting.
 #![tactic(auto)]
 
 mod access;
@@ -18,6 +23,4 @@ mod states;
 mod table;
 mod used;
 
-pub use access::Access;
-pub use limits::{Limits, first_over};
-pub use node::Node;
+pub use limits::first_over;

@@ -44,11 +44,7 @@ pub fn first_over(alloc: Global, program: &Program) -> Result<Option<u32>, NoMem
 }
 
 /// The least line at which one of these functions passes a limit.
-fn over_in(
-    alloc: Global,
-    limits: Limits,
-    functions: &[Function],
-) -> Result<Option<u32>, NoMemory>
+fn over_in(alloc: Global, limits: Limits, functions: &[Function]) -> Result<Option<u32>, NoMemory>
     requires { limits.all + 1 < 2 ^ 32 }
     ensures { IfOk result (λ line. line ≡ kept_over limits (record { parameters = []; counts = [] }) (map function_of functions.now)) }
 {
@@ -113,3 +109,6 @@ fn any_state_over(alloc: Global, limit: u32, states: &[Sequence<Node>]) -> Optio
     }
     least
 }
+
+#[cfg(test)]
+mod tests;

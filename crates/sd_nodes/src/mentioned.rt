@@ -29,7 +29,10 @@ pub fn note_mentioned(
 {
     match statement {
         Statement::Assign {
-            name, add, value, ..
+            name,
+            add,
+            value,
+            ..
         } => note_assigned(alloc, own, access, *add && !in_scope, name, value, names),
         Statement::Copy { to, from, .. } | Statement::Reduce { to, from, .. } => {
             note_moved(alloc, own, access, from, to, names)
@@ -47,7 +50,9 @@ pub fn note_mentioned(
             }
         }
         Statement::Call {
-            name, arguments, ..
+            name,
+            arguments,
+            ..
         } => note_call(alloc, functions, own, access, name, arguments, names),
         Statement::Argument { .. }
         | Statement::Local { .. }

@@ -47,7 +47,9 @@ impl NameSet {
     pub fn note(&mut self, alloc: Global, name: &str) -> Result<(), NoMemory>
         ensures { OnOk result (self.new ≡ with_name self.old name.now) }
     {
-        self.names.insert(String::from_str(alloc, name)?)?;
+        if !self.contains(name) {
+            self.names.insert(String::from_str(alloc, name)?)?;
+        }
         Ok(())
     }
 

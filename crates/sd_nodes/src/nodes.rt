@@ -40,8 +40,20 @@ pub fn add_read(
     ensures current { OnOk result (current.new ≡ with_mentioned own.now Read current.old (item_of functions.now in_scope (statement_of statement.now))) }
 {
     let before = current.len();
-    note_mentioned(alloc, functions, own, Access::Read, in_scope, statement, current)?;
-    add_plain(statement.line(), current.len().saturating_sub(before), nodes)
+    note_mentioned(
+        alloc,
+        functions,
+        own,
+        Access::Read,
+        in_scope,
+        statement,
+        current,
+    )?;
+    add_plain(
+        statement.line(),
+        current.len().saturating_sub(before),
+        nodes,
+    )
 }
 
 /// Adds the access nodes for what an item writes, which are then current.
@@ -58,8 +70,24 @@ pub fn add_written(
     ensures current { OnOk result (current.new ≡ with_mentioned own.now Write current.old (item_of functions.now in_scope (statement_of statement.now))) }
 {
     let mut written = NameSet::new(alloc);
-    note_mentioned(alloc, functions, own, Access::Write, in_scope, statement, &mut written)?;
-    note_mentioned(alloc, functions, own, Access::Write, in_scope, statement, current)?;
+    note_mentioned(
+        alloc,
+        functions,
+        own,
+        Access::Write,
+        in_scope,
+        statement,
+        &mut written,
+    )?;
+    note_mentioned(
+        alloc,
+        functions,
+        own,
+        Access::Write,
+        in_scope,
+        statement,
+        current,
+    )?;
     add_plain(statement.line(), written.len(), nodes)
 }
 
@@ -137,12 +165,7 @@ fn add_consuming(line: u32, nodes: &mut Vec<Node>) -> Result<(), NoMemory>
 }
 
 /// Adds a node that holds the graph of a function.
-fn add_called(
-    alloc: Global,
-    line: u32,
-    name: &str,
-    nodes: &mut Vec<Node>,
-) -> Result<(), NoMemory>
+fn add_called(alloc: Global, line: u32, name: &str, nodes: &mut Vec<Node>) -> Result<(), NoMemory>
     ensures { OnOk result (nodes.new.items ≡ nodes.old.items ++ record { line = line; called = Some name.now } ∷ []) }
 {
     let called = Some(Text::from(name.to_string(alloc)?));

@@ -23,9 +23,23 @@ pub fn parameters_of(
     let mut own = NameSet::new(alloc);
     note_all_declared(alloc, &function.arguments, &mut own)?;
     let mut reads = NameSet::new(alloc);
-    note_all_used(alloc, functions, &own, Access::Read, &function.body, &mut reads)?;
+    note_all_used(
+        alloc,
+        functions,
+        &own,
+        Access::Read,
+        &function.body,
+        &mut reads,
+    )?;
     let mut writes = NameSet::new(alloc);
-    note_all_used(alloc, functions, &own, Access::Write, &function.body, &mut writes)?;
+    note_all_used(
+        alloc,
+        functions,
+        &own,
+        Access::Write,
+        &function.body,
+        &mut writes,
+    )?;
     access_to_each(alloc, &reads, &writes, &function.arguments)
 }
 

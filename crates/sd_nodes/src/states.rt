@@ -76,8 +76,24 @@ fn nodes_of_state(
 {
     let mut current = NameSet::new(alloc);
     let mut nodes = Vec::new(alloc);
-    add_read(alloc, functions, own, false, statement, &mut current, &mut nodes)?;
+    add_read(
+        alloc,
+        functions,
+        own,
+        false,
+        statement,
+        &mut current,
+        &mut nodes,
+    )?;
     add_inner(alloc, functions, statement, &mut nodes)?;
-    add_written(alloc, functions, own, false, statement, &mut current, &mut nodes)?;
+    add_written(
+        alloc,
+        functions,
+        own,
+        false,
+        statement,
+        &mut current,
+        &mut nodes,
+    )?;
     Ok(Sequence::from(nodes))
 }

@@ -50,7 +50,10 @@ fn note_used(
             note_all_used(alloc, functions, own, access, body, names)
         }
         Statement::If {
-            when, body, other, ..
+            when,
+            body,
+            other,
+            ..
         } => {
             note_tested(alloc, own, access, when, names)?;
             note_all_used(alloc, functions, own, access, body, names)?;

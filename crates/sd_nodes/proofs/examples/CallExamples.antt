@@ -3,7 +3,8 @@ use Rattle.std.proofs.Common.{◌≡◌, ℕ, [], ◌∷◌, Some, None, refl, c
 use Rattle.sd_lex.specs.PlainTree.{FunctionTree}
 use Rattle.sd_nodes.specs.Names.{found}
 use Rattle.sd_nodes.specs.SourceNodes.{parameters_of}
-use Rattle.sd_nodes.specs.NodeLimits.{Functions, with_function, nodes_over}
+use Rattle.sd_nodes.specs.NodeLimits.{with_function, nodes_over}
+use Rattle.sd_nodes.specs.declared.functions.Functions.{Functions}
 use Rattle.sd_nodes.specs.declared.access.Access.TheVariants.{Read, Write}
 use Rattle.sd_nodes.specs.declared.limits.Limits.{Limits}
 use Rattle.sd_nodes.proofs.examples.ExampleParts.{moved, set_to_one, call_with, function_with, source_of}
