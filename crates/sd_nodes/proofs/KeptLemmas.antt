@@ -1,7 +1,7 @@
 -- Counts that are kept no further than one more than the limit tell the same lines.
-use Rattle.std.proofs.Common.{◌≡◌, ◌≢◌, ◌<◌, ◌≤◌, refl, ap, sym, ◌∙◌, ℕ, suc, ◌+◌, ◌-◌, min, nat_lt, Bool, true, false, List, [], ◌∷◌, map, arith, Option, Some, None, bytes_eq, if◌then◌else◌}
+use Rattle.std.proofs.Common.{◌≡◌, ◌<◌, refl, ap, ◌∙◌, ℕ, suc, ◌+◌, ◌-◌, min, nat_lt, Bool, List, [], ◌∷◌, map, arith, Option, Some, None, if◌then◌else◌}
 use Rattle.std.proofs.lemmas.Grind.{common_steps}
-use Rattle.std.specs.Prelude.{is_some, option_map}
+use Rattle.std.specs.Prelude.{is_some}
 use Rattle.sd_lex.specs.PlainTree.{FunctionTree}
 use Rattle.sd_nodes.specs.Items.{Name}
 use Rattle.sd_nodes.specs.Names.{Named, found, put}

@@ -1,5 +1,5 @@
 -- Names of tables and sets as contracts see them, and lists of names that are noted one after another.
-use Rattle.std.proofs.Common.{◌≡◌, refl, ap, ℕ, Bool, List, [], ◌∷◌, ◌++◌, map, ◌||◌, if◌then◌else◌, arith, String, string_bytes, bytes_eq, Some}
+use Rattle.std.proofs.Common.{◌≡◌, refl, ap, List, [], ◌∷◌, ◌++◌, map, ◌||◌, if◌then◌else◌, arith, String, string_bytes, bytes_eq, Some}
 use Rattle.std.specs.List.{list_any}
 use Rattle.std.specs.declared.alloc.Global.{Global}
 use Rattle.std.proofs.lemmas.Grind.{common_steps}

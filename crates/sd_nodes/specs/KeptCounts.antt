@@ -1,7 +1,7 @@
 -- The same limits, with no count kept beyond one more than the limit.
-use Rattle.std.specs.Prelude.{ℕ, suc, min, List, [], ◌∷◌, Option, None, map}
+use Rattle.std.specs.Prelude.{ℕ, suc, min, List, [], ◌∷◌, Option, None}
 use Rattle.sd_lex.specs.PlainTree.{FunctionTree}
-use Rattle.sd_nodes.specs.Names.{Named, put}
+use Rattle.sd_nodes.specs.Names.{put}
 use Rattle.sd_nodes.specs.NodeLimits.{count_in_all, graph_over, lesser}
 use Rattle.sd_nodes.specs.SourceNodes.{parameters_of, states_of}
 use Rattle.sd_nodes.specs.declared.functions.Functions.{Functions}

@@ -6,7 +6,6 @@ use Rattle.sd_nodes.specs.declared.functions.Functions.{Functions}
 use Rattle.sd_nodes.specs.declared.limits.Limits.{Limits}
 use Rattle.sd_nodes.specs.declared.node.Node.{Node}
 use Rattle.sd_nodes.specs.Names.{Named, found, put}
-use Rattle.sd_nodes.specs.SourceItems.{Parameters}
 use Rattle.sd_nodes.specs.SourceNodes.{parameters_of, states_of}
 
 -- the limits of the language

@@ -1,5 +1,5 @@
 -- The nodes of a list of items, made one after another.
-use Rattle.std.specs.Prelude.{ℕ, ◌-◌, List, [], ◌∷◌, ◌++◌, length, replicate, Option, Some, None}
+use Rattle.std.specs.Prelude.{ℕ, ◌-◌, List, [], ◌∷◌, ◌++◌, length, replicate, None}
 use Rattle.sd_nodes.specs.Items.{Name, Item, none, single, map_scope, consume_scope, Items, no_item, and_item}
 use Rattle.sd_nodes.specs.Names.{noted_own}
 use Rattle.sd_nodes.specs.declared.access.Access.{Access}

@@ -1,5 +1,5 @@
 -- The nodes of a function's graph, and what the function does with its parameters.
-use Rattle.std.specs.Prelude.{ℕ, List, [], ◌∷◌, ◌++◌, map, Option, Some, None, false, if◌then◌else◌}
+use Rattle.std.specs.Prelude.{List, [], ◌∷◌, ◌++◌, map, Option, Some, None, false, if◌then◌else◌}
 use Rattle.sd_lex.specs.PlainTree.{StatementTree, argument_array, local_array, local_stream, for_loop, while_loop, branch, Block, no_statement, and_statement, FunctionTree}
 use Rattle.sd_nodes.specs.Items.{Name}
 use Rattle.sd_nodes.specs.Names.{Named, is_among, noted, noted_own}
