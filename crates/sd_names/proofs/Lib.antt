@@ -1,0 +1,4 @@
+pub mod TableLemmas
+pub mod ExpressionLemmas
+pub mod AffineLemmas
+pub mod NameLemmas

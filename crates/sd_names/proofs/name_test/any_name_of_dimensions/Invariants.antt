@@ -1,0 +1,12 @@
+use Rattle.std.proofs.Common.{◌≡◌, drop}
+use Rattle.std.specs.List.{list_any}
+use Rattle.sd_lex.specs.TreeFold.{dimensions_of}
+use Rattle.sd_names.specs.Expressions as expressions
+use Rattle.sd_names.specs.Expressions.{expressions_of_dimensions}
+use Rattle.sd_names.proofs.name_test.any_name_of_dimensions.Given as goal
+
+-- the dimensions that are left decide
+abbrev pub invariant-loop-dimension : goal.invariant-loop-dimension
+invariant-loop-dimension g l =
+    list_any (expressions.any_name (g.T.NameTest.of_alone l.test) (g.T.NameTest.of_subscripted l.test)) (expressions_of_dimensions (dimensions_of (drop l.dimension-index l.dimensions)))
+    ≡ list_any (expressions.any_name (g.T.NameTest.of_alone l.test) (g.T.NameTest.of_subscripted l.test)) (expressions_of_dimensions (dimensions_of l.dimensions))
