@@ -1,0 +1,12 @@
+pub mod Names
+pub mod Affines
+pub mod Bounds
+pub mod IsAffine
+pub mod Small
+pub mod Every
+pub mod Place
+pub mod Known
+pub mod Declared
+pub mod Calls
+pub mod Limits
+pub mod WellFormed

@@ -1,0 +1,107 @@
+-- The limits that need no sizes.
+use Rattle.std.specs.Prelude.{ℕ, ◌+◌, ◌<◌, ◌≤◌, ◌^◌, max, ℤ, pos, length, Option, Some, None, Bool, true, ⊤, ◌≡◌}
+use Rattle.std.specs.List.{AllByRecursion}
+use Rattle.sd_lex.specs.PlainTree.{Expression, number, named, element_at, one, two, choice, Dimension, index, span, StatementTree, argument_array, local_array, assign, copy, map_scope, tasklet, consume_scope, call, for_loop, while_loop, branch, input, output, tasklet_branch, Block, no_statement, and_statement, FunctionTree}
+use Rattle.sd_lex.specs.StatementKind.{has_connector}
+use Rattle.sd_program.specs.Place.{Place, Around, program, length_of}
+use Rattle.sd_program.specs.Declared.{containers_in_all, states_in_all}
+
+-- ---- of one statement
+
+-- a step is at least 1 and below 2^40
+abbrev pub IsStep : Option ℤ → Type 0
+IsStep None = ⊤
+IsStep (Some step) = (n : ℕ) × ((step ≡ pos n) × ((1 ≤ n) × (n < 2 ^ 40)))
+
+abbrev pub HasStep : Dimension → Type 0
+HasStep (index at) = ⊤
+HasStep (span begin end step) = IsStep step
+
+abbrev pub HasSteps : StatementTree → Type 0
+HasSteps (copy line to to_dimensions from from_dimensions) = AllByRecursion HasStep to_dimensions × AllByRecursion HasStep from_dimensions
+HasSteps (map_scope line parameters ranges body) = AllByRecursion HasStep ranges
+HasSteps (call line name arguments) = AllByRecursion (λ argument. AllByRecursion HasStep argument.1) arguments
+HasSteps (for_loop line name begin end step body) = IsStep step
+HasSteps (input line connector memlet) = AllByRecursion HasStep memlet.dimensions
+HasSteps (output line connector memlet) = AllByRecursion HasStep memlet.dimensions
+HasSteps statement = ⊤
+
+-- at most four dimensions of a container, and at most eight parameters of a map, which has one range for each
+abbrev pub HasFewDimensions : StatementTree → Type 0
+HasFewDimensions (argument_array line name bits extents) = length_of extents ≤ 4
+HasFewDimensions (local_array line name extents bits) = length_of extents ≤ 4
+HasFewDimensions statement = ⊤
+
+abbrev pub HasFewParameters : StatementTree → Type 0
+HasFewParameters (map_scope line parameters ranges body) = (length parameters ≡ length ranges) × (length parameters ≤ 8)
+HasFewParameters statement = ⊤
+
+-- ---- of one tasklet
+
+-- how many elements an expression reads
+abbrev pub elements_in : Expression → ℕ
+elements_in (number value) = 0
+elements_in (named name) = 0
+elements_in (element_at name at) = 1
+elements_in (one sign of) = elements_in of
+elements_in (two sign left right) = elements_in left + elements_in right
+elements_in (choice value when other) = elements_in value + elements_in when + elements_in other
+
+-- how many connectors and how many lines a block of a tasklet has; `else` is none
+abbrev pub connectors_in : Block → ℕ
+connectors_in no_statement = 0
+connectors_in (and_statement (input line connector memlet) rest) = connectors_in rest + 1
+connectors_in (and_statement (output line connector memlet) rest) = connectors_in rest + 1
+connectors_in (and_statement statement rest) = connectors_in rest
+
+abbrev mutual
+  pub lines_of : StatementTree → ℕ
+  lines_of (tasklet_branch line when body other) = 1 + (lines_in body + lines_in other)
+  lines_of statement = 1
+
+  pub lines_in : Block → ℕ
+  lines_in no_statement = 0
+  lines_in (and_statement first rest) = lines_of first + lines_in rest
+
+-- `+=` in a program reads its target; in a scope it does not
+abbrev pub own_element : Around → (add : Bool) → ℕ
+own_element program true = 1
+own_element around add = 0
+
+-- at most 64 connectors: each element that is read, and the output; an `if` or `while` reads its condition as a tasklet
+abbrev pub HasFewConnectors : Place → StatementTree → Type 0
+HasFewConnectors place (assign line name at add value) = elements_in value + (own_element place.around add + 1) ≤ 64
+HasFewConnectors place (while_loop line when body) = elements_in when + 1 ≤ 64
+HasFewConnectors place (branch line when body other) = elements_in when + 1 ≤ 64
+HasFewConnectors place (tasklet line body) = connectors_in body ≤ 64
+HasFewConnectors place (consume_scope line from size name element worker body) = has_connector body ≡ true → connectors_in body + 1 ≤ 64
+HasFewConnectors place statement = ⊤
+
+-- at most 1,024 lines
+abbrev pub HasFewLines : StatementTree → Type 0
+HasFewLines (tasklet line body) = lines_in body ≤ 1024
+HasFewLines (consume_scope line from size name element worker body) = has_connector body ≡ true → lines_in body ≤ 1024
+HasFewLines statement = ⊤
+
+-- ---- of one program
+
+abbrev mutual
+  -- how many scopes and loops are about the innermost statement below this one
+  pub height_of : StatementTree → ℕ
+  height_of (map_scope line parameters ranges body) = 1 + height_in body
+  height_of (consume_scope line from size name element worker body) = 1 + height_in body
+  height_of (for_loop line name begin end step body) = 1 + height_in body
+  height_of (while_loop line when body) = 1 + height_in body
+  height_of (branch line when body other) = max (height_in body) (height_in other)
+  height_of statement = 0
+
+  pub height_in : Block → ℕ
+  height_in no_statement = 0
+  height_in (and_statement first rest) = max (height_of first) (height_in rest)
+
+abbrev pub containers_of : FunctionTree → ℕ
+containers_of function = containers_in_all function.arguments + containers_in_all function.body
+
+-- a program begins with an empty state
+abbrev pub states_of : FunctionTree → ℕ
+states_of function = 1 + states_in_all function.body
