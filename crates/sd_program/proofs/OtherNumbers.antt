@@ -57,7 +57,7 @@ no_terms numbers (two sign left right) affine none =
 no_terms numbers (choice value when other) affine none = refl
 
 -- where the right side has no terms the product is with its constant
-product-right : (a b : Affine) → b.terms ≡ [] → product_of a.terms a b ≡ affine_product b.constant a
+pub product-right : (a b : Affine) → b.terms ≡ [] → product_of a.terms a b ≡ affine_product b.constant a
 product-right a b none = by_terms a.terms refl where
   by_terms : (terms : List (ℕ × ℤ)) → a.terms ≡ terms → product_of terms a b ≡ affine_product b.constant a
   by_terms [] is =
@@ -68,7 +68,7 @@ product-right a b none = by_terms a.terms refl where
   by_terms (term ∷ terms) is = refl
 
 -- where the left side has none, with its constant
-product-left : (a b : Affine) → a.terms ≡ [] → product_of a.terms a b ≡ affine_product a.constant b
+pub product-left : (a b : Affine) → a.terms ≡ [] → product_of a.terms a b ≡ affine_product a.constant b
 product-left a b none = rw none refl
 
 module _ (number' : ℕ → Option ℕ) where

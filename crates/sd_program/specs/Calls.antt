@@ -3,21 +3,16 @@ use Rattle.std.specs.Prelude.{◌≡◌, ℕ, ◌+◌, ◌≤◌, max, List, [],
 use Rattle.sd_lex.specs.PlainTree.{StatementTree, map_scope, consume_scope, call, for_loop, while_loop, branch, Block, no_statement, and_statement, FunctionTree}
 use Rattle.sd_program.specs.Names.{Named, in_force}
 use Rattle.sd_program.specs.Declared.{containers_in_all}
-use Rattle.sd_program.specs.Every.{EveryIn}
+use Rattle.sd_program.specs.Place.{Place}
 
 -- programs, the latest first, with how many arguments each has
 abbrev pub argument_counts : List FunctionTree → Named ℕ
 argument_counts functions = map (λ function. (function.name, containers_in_all function.arguments)) functions
 
--- a call is of one of these programs, the latest of its name, and has as many arguments
-abbrev pub CallsOneOf : List FunctionTree → StatementTree → Type 0
-CallsOneOf programs (call line name arguments) = in_force (argument_counts programs) name ≡ Some (length arguments)
-CallsOneOf programs statement = ⊤
-
--- each program, the latest first, calls only those before it
-abbrev pub CallUpwards : List FunctionTree → Type 0
-CallUpwards [] = ⊤
-CallUpwards (function ∷ before) = EveryIn (CallsOneOf before) function.body × CallUpwards before
+-- a call is of one of the programs above, the latest of its name, and has as many arguments
+abbrev pub IsCallable : Place → StatementTree → Type 0
+IsCallable place (call line name arguments) = in_force (argument_counts place.programs) name ≡ Some (length arguments)
+IsCallable place statement = ⊤
 
 -- the longest chain of calls that a statement makes, where these programs make chains of these lengths
 abbrev mutual

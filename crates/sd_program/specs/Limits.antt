@@ -1,9 +1,9 @@
 -- The limits that need no sizes.
-use Rattle.std.specs.Prelude.{ℕ, ◌+◌, ◌<◌, ◌≤◌, ◌^◌, max, ℤ, pos, length, Option, Some, None, Bool, true, ⊤, ◌≡◌}
+use Rattle.std.specs.Prelude.{ℕ, ◌+◌, ◌<◌, ◌≤◌, ◌^◌, ℤ, pos, length, Option, Some, None, Bool, true, ⊤, ◌≡◌}
 use Rattle.std.specs.List.{AllByRecursion}
 use Rattle.sd_lex.specs.PlainTree.{Expression, number, named, element_at, one, two, choice, Dimension, index, span, StatementTree, argument_array, local_array, assign, copy, map_scope, tasklet, consume_scope, call, for_loop, while_loop, branch, input, output, tasklet_branch, Block, no_statement, and_statement, FunctionTree}
 use Rattle.sd_lex.specs.StatementKind.{has_connector}
-use Rattle.sd_program.specs.Place.{Place, Around, program, length_of}
+use Rattle.sd_program.specs.Place.{Place, Around, program, length_of, is_task}
 use Rattle.sd_program.specs.Declared.{containers_in_all, states_in_all}
 
 -- ---- of one statement
@@ -68,36 +68,35 @@ abbrev pub own_element : Around → (add : Bool) → ℕ
 own_element program true = 1
 own_element around add = 0
 
--- at most 64 connectors: each element that is read, and the output; an `if` or `while` reads its condition as a tasklet
-abbrev pub HasFewConnectors : Place → StatementTree → Type 0
-HasFewConnectors place (assign line name at add value) = elements_in value + (own_element place.around add + 1) ≤ 64
-HasFewConnectors place (while_loop line when body) = elements_in when + 1 ≤ 64
-HasFewConnectors place (branch line when body other) = elements_in when + 1 ≤ 64
-HasFewConnectors place (tasklet line body) = connectors_in body ≤ 64
-HasFewConnectors place (consume_scope line from size name element worker body) = has_connector body ≡ true → connectors_in body + 1 ≤ 64
-HasFewConnectors place statement = ⊤
+-- an element statement and a condition have at most 64 connectors: each element that is read, and the output
+abbrev pub HasFewReads : Place → StatementTree → Type 0
+HasFewReads place (assign line name at add value) = elements_in value + (own_element place.around add + 1) ≤ 64
+HasFewReads place (while_loop line when body) = elements_in when + 1 ≤ 64
+HasFewReads place (branch line when body other) = elements_in when + 1 ≤ 64
+HasFewReads place statement = ⊤
+
+-- a tasklet has at most 64 connectors; the element of a consume scope is one
+abbrev pub HasFewConnectors : StatementTree → Type 0
+HasFewConnectors (tasklet line body) = connectors_in body ≤ 64
+HasFewConnectors (consume_scope line from size name element worker body) = is_task body ≡ true → connectors_in body + 1 ≤ 64
+HasFewConnectors statement = ⊤
+
+-- a consume scope whose block is one of a tasklet has a connector
+abbrev pub HasConnector : StatementTree → Type 0
+HasConnector (consume_scope line from size name element worker body) = is_task body ≡ true → has_connector body ≡ true
+HasConnector statement = ⊤
 
 -- at most 1,024 lines
 abbrev pub HasFewLines : StatementTree → Type 0
 HasFewLines (tasklet line body) = lines_in body ≤ 1024
-HasFewLines (consume_scope line from size name element worker body) = has_connector body ≡ true → lines_in body ≤ 1024
+HasFewLines (consume_scope line from size name element worker body) = is_task body ≡ true → lines_in body ≤ 1024
 HasFewLines statement = ⊤
 
 -- ---- of one program
 
-abbrev mutual
-  -- how many scopes and loops are about the innermost statement below this one
-  pub height_of : StatementTree → ℕ
-  height_of (map_scope line parameters ranges body) = 1 + height_in body
-  height_of (consume_scope line from size name element worker body) = 1 + height_in body
-  height_of (for_loop line name begin end step body) = 1 + height_in body
-  height_of (while_loop line when body) = 1 + height_in body
-  height_of (branch line when body other) = max (height_in body) (height_in other)
-  height_of statement = 0
-
-  pub height_in : Block → ℕ
-  height_in no_statement = 0
-  height_in (and_statement first rest) = max (height_of first) (height_in rest)
+-- at most seven scopes and loops about a statement
+abbrev pub HasFewAbout : Place → StatementTree → Type 0
+HasFewAbout place statement = place.depth ≤ 7
 
 abbrev pub containers_of : FunctionTree → ℕ
 containers_of function = containers_in_all function.arguments + containers_in_all function.body

@@ -1,7 +1,6 @@
 -- What is in force where a statement stands.
-use Rattle.std.specs.Prelude.{ℕ, ◌+◌, [], ◌∷◌, Bool, true, false, ⊤}
-use Rattle.sd_lex.specs.PlainTree.{StatementTree, argument_array, local_array, local_stream, map_scope, tasklet, consume_scope, for_loop, while_loop, branch, tasklet_branch, Expressions, no_expression, and_expression, Block, no_statement, and_statement, FunctionTree}
-use Rattle.sd_lex.specs.StatementKind.{has_connector}
+use Rattle.std.specs.Prelude.{ℕ, ◌+◌, List, [], ◌∷◌, reverse, Bool, true, false, ⊤}
+use Rattle.sd_lex.specs.PlainTree.{StatementTree, argument_array, local_array, local_stream, map_scope, tasklet, consume_scope, for_loop, while_loop, branch, input, output, set, set_at, tasklet_branch, Expressions, no_expression, and_expression, Block, no_statement, and_statement, FunctionTree, ProgramTree}
 use Rattle.sd_program.specs.Names.{Name, Named}
 
 -- what a container is: an array of so many dimensions, or a stream
@@ -16,9 +15,11 @@ pub data Around : Type 0 where
   task : Around
   signature : Around
 
--- the kind of block, and the containers in force
+-- the programs above, the latest first, the kind of block, how many scopes and loops are about the statement, and the containers in force
 pub record Place : Type 0 where
+  pub programs : List FunctionTree
   pub around : Around
+  pub depth : ℕ
   pub containers : Named Holder
 
 abbrev pub length_of : Expressions → ℕ
@@ -39,42 +40,83 @@ abbrev mutual
   behind (for_loop line name begin end step body) containers = behind_all body containers
   behind (while_loop line when body) containers = behind_all body containers
   behind (branch line when body other) containers = behind_all other (behind_all body containers)
+  behind (tasklet_branch line when body other) containers = behind_all other (behind_all body containers)
   behind statement containers = containers
 
   pub behind_all : Block → Named Holder → Named Holder
   behind_all no_statement containers = containers
   behind_all (and_statement first rest) containers = behind_all rest (behind first containers)
 
--- the place in a block of a consume scope: in a body its element is an array with one element
-abbrev pub in_consume : (is_tasklet : Bool) → (element : Name) → Named Holder → Place
-in_consume true element containers = record { around = task; containers = containers }
-in_consume false element containers = record { around = scope; containers = (element, of_dimensions 1) ∷ containers }
+-- the place behind a statement, and behind a block
+abbrev pub past : StatementTree → Place → Place
+past statement place = record { programs = place.programs; around = place.around; depth = place.depth; containers = behind statement place.containers }
+
+abbrev pub past_all : Block → Place → Place
+past_all block place = record { programs = place.programs; around = place.around; depth = place.depth; containers = behind_all block place.containers }
+
+-- the place in the block of a map, a tasklet or a loop
+abbrev pub in_map : Place → Place
+in_map place = record { programs = place.programs; around = scope; depth = place.depth + 1; containers = place.containers }
+
+abbrev pub in_tasklet : Place → Place
+in_tasklet place = record { programs = place.programs; around = task; depth = place.depth; containers = place.containers }
+
+abbrev pub in_loop : Place → Place
+in_loop place = record { programs = place.programs; around = place.around; depth = place.depth + 1; containers = place.containers }
+
+-- a block is one of a tasklet where it begins with a line of one
+abbrev pub begins_task : StatementTree → Bool
+begins_task (input line connector memlet) = true
+begins_task (output line connector memlet) = true
+begins_task (set line name value) = true
+begins_task (set_at line name at value) = true
+begins_task (tasklet_branch line when body other) = true
+begins_task statement = false
+
+abbrev pub is_task : Block → Bool
+is_task no_statement = false
+is_task (and_statement first rest) = begins_task first
+
+-- the place in the block of a consume scope: in a body its element is an array with one element
+abbrev pub in_consume : (is_task : Bool) → (element : Name) → Place → Place
+in_consume true element place = record { programs = place.programs; around = task; depth = place.depth + 1; containers = place.containers }
+in_consume false element place = record { programs = place.programs; around = scope; depth = place.depth + 1; containers = (element, of_dimensions 1) ∷ place.containers }
+
+-- the places of the first argument and of the first statement of a function, where these programs are above it
+abbrev pub in_signature : List FunctionTree → Place
+in_signature programs = record { programs = programs; around = signature; depth = 0; containers = [] }
+
+abbrev pub in_function : List FunctionTree → (arguments : Block) → Place
+in_function programs arguments = record { programs = programs; around = program; depth = 0; containers = behind_all arguments [] }
 
 module _ (Holds : Place → StatementTree → Type 0) where
   abbrev mutual
     -- of a statement in its place, and of those in the blocks below it in theirs
     pub EveryAt : Place → StatementTree → Type 0
-    EveryAt place (map_scope line parameters ranges body) =
-        Holds place (map_scope line parameters ranges body) × EveryFrom (record { around = scope; containers = place.containers }) body
-    EveryAt place (tasklet line body) = Holds place (tasklet line body) × EveryFrom (record { around = task; containers = place.containers }) body
+    EveryAt place (map_scope line parameters ranges body) = Holds place (map_scope line parameters ranges body) × EveryFrom (in_map place) body
+    EveryAt place (tasklet line body) = Holds place (tasklet line body) × EveryFrom (in_tasklet place) body
     EveryAt place (consume_scope line from size name element worker body) =
-        Holds place (consume_scope line from size name element worker body) × EveryFrom (in_consume (has_connector body) element place.containers) body
-    EveryAt place (for_loop line name begin end step body) = Holds place (for_loop line name begin end step body) × EveryFrom place body
-    EveryAt place (while_loop line when body) = Holds place (while_loop line when body) × EveryFrom place body
-    EveryAt place (branch line when body other) =
-        Holds place (branch line when body other)
-        × (EveryFrom place body × EveryFrom (record { around = place.around; containers = behind_all body place.containers }) other)
-    EveryAt place (tasklet_branch line when body other) = Holds place (tasklet_branch line when body other) × (EveryFrom place body × EveryFrom place other)
+        Holds place (consume_scope line from size name element worker body) × EveryFrom (in_consume (is_task body) element place) body
+    EveryAt place (for_loop line name begin end step body) = Holds place (for_loop line name begin end step body) × EveryFrom (in_loop place) body
+    EveryAt place (while_loop line when body) = Holds place (while_loop line when body) × EveryFrom (in_loop place) body
+    EveryAt place (branch line when body other) = Holds place (branch line when body other) × (EveryFrom place body × EveryFrom (past_all body place) other)
+    EveryAt place (tasklet_branch line when body other) =
+        Holds place (tasklet_branch line when body other) × (EveryFrom place body × EveryFrom (past_all body place) other)
     EveryAt place statement = Holds place statement
 
     -- of the statements of a block that begins at this place
     pub EveryFrom : Place → Block → Type 0
     EveryFrom place no_statement = ⊤
-    EveryFrom place (and_statement first rest) =
-        EveryAt place first × EveryFrom (record { around = place.around; containers = behind first place.containers }) rest
+    EveryFrom place (and_statement first rest) = EveryAt place first × EveryFrom (past first place) rest
 
-  -- of the arguments and statements of a function
-  abbrev pub EveryOfFunction : FunctionTree → Type 0
-  EveryOfFunction function =
-      EveryFrom (record { around = signature; containers = [] }) function.arguments
-      × EveryFrom (record { around = program; containers = behind_all function.arguments [] }) function.body
+  -- of the arguments and statements of a function, and of those of the functions above it
+  abbrev pub EveryOfFunction : (above : List FunctionTree) → FunctionTree → Type 0
+  EveryOfFunction above function = EveryFrom (in_signature above) function.arguments × EveryFrom (in_function above function.arguments) function.body
+
+  abbrev pub EveryFunction : List FunctionTree → Type 0
+  EveryFunction [] = ⊤
+  EveryFunction (function ∷ above) = EveryOfFunction above function × EveryFunction above
+
+  -- of all functions of a source, each with those above it
+  abbrev pub EveryPlace : ProgramTree → Type 0
+  EveryPlace source = EveryFunction (reverse source.functions)

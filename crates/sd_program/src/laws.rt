@@ -1,4 +1,3 @@
-ghost use Rattle.sd_program.specs.WellFormed.{IsWellFormed};
 ghost use Rattle.sd_range.specs.declared.affine.Affine.{Affine};
 ghost use Rattle.sd_range.specs.Arithmetic.{IsRepresentable};
 ghost use Rattle.sd_program.specs.Small.{IsWithinLimits};
