@@ -1,0 +1,5 @@
+pub mod Held
+pub mod Counts
+pub mod Places
+pub mod Wholes
+pub mod GraphWholes
