@@ -1,0 +1,6 @@
+pub mod Counts
+pub mod Names
+pub mod BoundLists
+pub mod BoundTerms
+pub mod Tallied
+pub mod Counted

@@ -1,0 +1,19 @@
+//! Sizes in the place of a graph's size symbols.
+//!
+//! `bind` gives the graph with each size symbol replaced by its size, in each expression of it and
+//! of its nested graphs (`specs/BoundTree.antt`), or refuses: the first symbol without a size, the
+//! first whose size is outside its limits, or the first container over a limit
+//! (`specs/Binding.antt`). By `laws` the bound graph does what the graph does with these sizes.
+#![tactic(auto)]
+
+mod binding;
+mod code;
+mod error;
+mod expression;
+mod limits;
+mod sizes;
+mod tree;
+
+pub use binding::bind;
+pub use error::BindError;
+pub use sizes::Sizes;
