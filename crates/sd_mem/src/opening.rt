@@ -159,3 +159,6 @@ fn opening_holdings(
     }
     Ok(holdings)
 }
+
+#[cfg(test)]
+mod tests;

@@ -26,3 +26,6 @@ impl Memory {
         self.holdings[container as usize].take()
     }
 }
+
+#[cfg(test)]
+mod tests;

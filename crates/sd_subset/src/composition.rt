@@ -99,3 +99,6 @@ fn sums(alloc: Global, begin: &Affine, others: &[Affine]) -> Result<Vec<Affine>,
     }
     Ok(sums)
 }
+
+#[cfg(test)]
+mod tests;

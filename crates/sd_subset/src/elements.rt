@@ -96,3 +96,6 @@ impl Elements {
         self.points.restart(env);
     }
 }
+
+#[cfg(test)]
+mod tests;

@@ -4,3 +4,4 @@ pub mod BoundLists
 pub mod BoundTerms
 pub mod Tallied
 pub mod Counted
+pub mod SizedLaws

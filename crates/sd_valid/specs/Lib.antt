@@ -5,3 +5,4 @@ pub mod BoundTree
 pub mod Limits
 pub mod Binding
 pub mod Counting
+pub mod SizedValues

@@ -10,10 +10,15 @@ mod binding;
 mod code;
 mod error;
 mod expression;
+mod laws;
 mod limits;
 mod sizes;
 mod tree;
 
 pub use binding::bind;
 pub use error::BindError;
+pub use laws::{
+    a_bound_expression_names_no_size_symbol, a_bound_expression_stays_small,
+    what_is_bound_has_its_values_at_the_sizes,
+};
 pub use sizes::Sizes;
