@@ -5,3 +5,4 @@ pub mod BoundTerms
 pub mod Tallied
 pub mod Counted
 pub mod SizedLaws
+pub mod BoundMeaning

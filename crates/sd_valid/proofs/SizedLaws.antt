@@ -1,5 +1,5 @@
 -- What is bound has, at whatever values, the values that it has where the size symbols have their sizes.
-use Rattle.std.proofs.Common.{◌≡◌, ℕ, zero, suc, ◌+◌, ◌<◌, ◌≤◌, ℤ, pos, ◌+ℤ◌, ◌*ℤ◌, List, [], ◌∷◌, ◌++◌, length, map, drop, slice_index_or, Bool, true, false, not, nat_lt, if◌then◌else◌, inl, inr, refl, ap, sym, ◌∙◌, arith, ◌^◌, unsigned_abs}
+use Rattle.std.proofs.Common.{◌≡◌, ℕ, zero, suc, ◌<◌, ◌≤◌, ℤ, pos, ◌+ℤ◌, ◌*ℤ◌, List, [], ◌∷◌, ◌++◌, length, map, drop, true, false, nat_lt, inl, inr, refl, ap, sym, ◌∙◌, arith, ◌^◌, unsigned_abs}
 use Rattle.std.specs.Int.{int_min}
 use Rattle.std.specs.List.{All, AllByRecursion, fold}
 use Rattle.std.proofs.lemmas.Int.{ints}
@@ -26,7 +26,7 @@ nothing zero = refl
 nothing (suc count) = refl
 
 -- a size symbol has its size
-size_value : (sizes values : List ℤ) (variable : ℕ) → variable < length sizes → variable_value (sized sizes values) variable ≡ variable_value sizes variable
+pub size_value : (sizes values : List ℤ) (variable : ℕ) → variable < length sizes → variable_value (sized sizes values) variable ≡ variable_value sizes variable
 size_value [] values variable below = absurd (omega arith)
 size_value (size ∷ sizes) [] zero below = refl
 size_value (size ∷ sizes) (value ∷ values) zero below = refl
@@ -35,7 +35,7 @@ size_value (size ∷ sizes) [] (suc variable) below =
 size_value (size ∷ sizes) (value ∷ values) (suc variable) below = size_value sizes values variable (omega arith)
 
 -- another variable has its value
-other_value : (sizes values : List ℤ) (variable : ℕ) → length sizes ≤ variable → variable_value (sized sizes values) variable ≡ variable_value values variable
+pub other_value : (sizes values : List ℤ) (variable : ℕ) → length sizes ≤ variable → variable_value (sized sizes values) variable ≡ variable_value values variable
 other_value [] values variable above = refl
 other_value (size ∷ sizes) [] zero above = absurd (omega arith)
 other_value (size ∷ sizes) (value ∷ values) zero above = absurd (omega arith)

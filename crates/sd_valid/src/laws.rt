@@ -1,7 +1,8 @@
 //! What binding keeps, in words of its own: each law is a function that does nothing.
 ghost use Rattle.std.specs.Prelude.{◌≡◌, ◌<◌, ◌≤◌, ◌^◌, ℕ, ℤ, List, map, length, unsigned_abs};
 ghost use Rattle.std.specs.List.{All};
-ghost use Rattle.sd_range.specs.Affine.{affine_value};
+ghost use Rattle.sd_num.specs.Wrapped.{wrapped};
+ghost use Rattle.sd_range.specs.Affine.{affine_value, variable_value};
 ghost use Rattle.sd_range.specs.Range.{range_values};
 ghost use Rattle.sd_range.specs.Weight.{weight_of};
 ghost use Rattle.sd_range.specs.Points.{points, ranges_of};
@@ -11,6 +12,9 @@ ghost use Rattle.sd_range.specs.declared.range.Range.{Range};
 ghost use Rattle.sd_range.specs.declared.subset.Subset.{Subset};
 ghost use Rattle.sd_graph.specs.Context.{index_at, span_counts};
 ghost use Rattle.sd_valid.specs.BoundExpression.{bound_affine, bound_param, bound_range, bound_subset};
+ghost use Rattle.sd_graph.specs.PlainTree.{TaskletTree};
+ghost use Rattle.sd_graph.specs.TaskletMeaning.{meaning_of};
+ghost use Rattle.sd_valid.specs.BoundCode.{bound_tasklet};
 ghost use Rattle.sd_valid.specs.SizedValues.{sized};
 
 /// What is bound has, at whatever values of the variables, what it has where the size symbols
@@ -43,4 +47,13 @@ pub fn a_bound_expression_stays_small()
 /// After binding no expression names a size symbol.
 pub fn a_bound_expression_names_no_size_symbol()
     ensures { (sizes : List ℤ) (a : Affine) → All (λ term. length sizes ≤ term.0) (bound_affine sizes a).terms }
+{}
+
+/// Bound code means, at whatever values of the variables, what the code means where the size
+/// symbols have their sizes, which are elements.
+pub fn bound_code_means_what_it_means_at_the_sizes()
+    ensures { (sizes values : List ℤ) (code : TaskletTree) (inputs : List (List ℤ)) (extents : List (List ℕ))
+        → ((variable : ℕ) → wrapped (variable_value sizes variable) ≡ variable_value sizes variable)
+        → meaning_of (bound_tasklet sizes code) (record { values = inputs; extents = extents; variables = map (λ variable. wrapped (variable_value values variable)) code.variables })
+        ≡ meaning_of code (record { values = inputs; extents = extents; variables = map (λ variable. wrapped (variable_value (sized sizes values) variable)) code.variables }) }
 {}
