@@ -1,0 +1,60 @@
+ghost use Rattle.std.specs.Prelude.{◌≡◌, Some, [], ◌∷◌, option_map, OnOk};
+ghost use Rattle.sd_json.specs.NestedLists.{joined};
+
+use sd_list::{NoMemory, Sequence};
+use std::alloc::Global;
+use std::marker::Model;
+
+/// The numbers of a value from left to right, as long as each of its leaves is a whole number.
+#[derive(Drop)]
+pub(crate) struct Numbers {
+    list: Vec<i64>,
+    whole: bool,
+}
+
+impl Model for Numbers {
+    ghost use Rattle.std.specs.Prelude.{ℤ, List, Option, Some, None, if◌then◌else◌};
+
+    ghost Value = { Option (List ℤ) };
+
+    ghost view = { λ numbers. if numbers.whole then Some numbers.list.items else None };
+}
+
+impl Numbers {
+    /// None yet.
+    pub(crate) fn new(alloc: Global) -> Numbers
+        ensures { result ≡ Some [] }
+    {
+        Numbers {
+            list: Vec::new(alloc),
+            whole: true,
+        }
+    }
+
+    /// One leaf more, which is a whole number or none.
+    #[inline(always)]
+    pub(crate) fn add(&mut self, leaf: Option<i64>) -> Result<(), NoMemory>
+        ensures { OnOk result (self.new ≡ joined self.old (option_map (λ number. number ∷ []) leaf)) }
+    {
+        let Some(number) = leaf else {
+            self.whole = false;
+            return Ok(());
+        };
+        if self.whole {
+            self.list.push(number)?;
+        }
+        Ok(())
+    }
+
+    /// The numbers as a list.
+    pub(crate) fn into_list(self) -> Option<Sequence<i64>>
+        ensures { result ≡ self }
+    {
+        let Numbers { list, whole } = self;
+        if whole {
+            Some(Sequence::from(list))
+        } else {
+            None
+        }
+    }
+}
