@@ -6,3 +6,4 @@ pub mod Full
 pub mod Converting
 pub mod Walking
 pub mod WholeText
+pub mod Prefixes

@@ -5,3 +5,5 @@ pub mod Names
 pub mod ArraysReading
 pub mod Entries
 pub mod Walk
+pub mod GivenMemory
+pub mod AnswerText

@@ -1,8 +1,16 @@
-ghost use Rattle.std.specs.Prelude.{◌≡◌, All};
+ghost use Rattle.std.specs.Prelude.{◌≡◌, ◌≢◌, Ok, Err, All, map, IfOk, IfErr};
+ghost use Rattle.sd_graph.specs.GraphMemory.{IsMemoryOf};
+ghost use Rattle.sd_graph.specs.TreeFold.{graph_tree};
 ghost use Rattle.sd_json.specs.Given.{Contents, IsFull};
+ghost use Rattle.sd_json.specs.GivenMemory.{memory_given, HasArguments};
 
 use crate::array::Array;
-use sd_list::{Sequence, Text};
+use crate::error::InputError;
+use crate::fitting::wrong_shape;
+use sd_graph::Bound;
+use sd_list::{NoMemory, Sequence, Text};
+use sd_mem::Memory;
+use std::alloc::Global;
 use std::marker::Model;
 
 /// What an arrays file gives to a graph: a value for each size symbol that it names, in source
@@ -33,4 +41,41 @@ impl Given {
     {
         Given { sizes, arrays }
     }
+
+    /// The memory that the bound graph opens with: its arguments with these arrays, which are moved
+    /// into it, zeros in its transients, and empty streams. Refused where the shape of an array is
+    /// neither the extents of its argument nor a prefix of them that ends in 0; the first such
+    /// argument is told.
+    pub fn into_memory(self, alloc: Global, bound: &Bound) -> Result<Memory, InputError>
+        ensures ok { IfOk result (λ memory. memory_given (graph_tree bound.now.graph) self.arrays ≡ Ok memory) }
+        ensures err { IfErr result (λ error. error ≢ InputError.Memory → memory_given (graph_tree bound.now.graph) self.arrays ≡ Err error) }
+        ensures whole { IfOk result (λ memory. HasArguments (graph_tree bound.now.graph) self.arrays → IsMemoryOf (graph_tree bound.now.graph) memory.contents) }
+    {
+        let Given { sizes, arrays } = self;
+        drop(sizes);
+        if let Some(name) = wrong_shape(&bound.graph.containers, arrays.as_slice()) {
+            return Err(InputError::WrongShape(copied(alloc, name.as_str())?));
+        }
+        Ok(Memory::opening(alloc, bound, elements(alloc, arrays)?)?)
+    }
+}
+
+/// A name as a text of its own.
+fn copied(alloc: Global, name: &str) -> Result<Text, NoMemory>
+    ensures { IfOk result (λ text. text ≡ name.now) }
+{
+    Ok(Text::from(name.to_string(alloc)?))
+}
+
+/// The elements of arrays, moved out of them.
+fn elements(alloc: Global, arrays: Sequence<Array>) -> Result<Vec<Sequence<i64>>, NoMemory>
+    ensures { IfOk result (λ lists. lists.items ≡ map (λ array. array.elements) arrays) }
+{
+    let mut lists = Vec::with_capacity(alloc, arrays.len())?;
+    for array in arrays.into_vec() {
+        let Array { shape, elements } = array;
+        drop(shape);
+        lists.push(elements)?;
+    }
+    Ok(lists)
 }

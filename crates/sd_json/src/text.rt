@@ -1,0 +1,91 @@
+ghost use Rattle.std.specs.Prelude.{◌≡◌, ℕ, ◌<◌, ◌∷◌, ◌++◌, map, unsigned_abs, string_bytes, IfOk, OnOk};
+ghost use Rattle.std.specs.List.{flat_map};
+ghost use Rattle.std.specs.Fmt.{signed_decimal};
+ghost use Rattle.sd_graph.specs.TreeFold.{graph_tree};
+ghost use Rattle.sd_graph.specs.InPlace.{arguments_of};
+ghost use Rattle.sd_mem.specs.Shaped.{contents_at, IsArray};
+ghost use Rattle.sd_json.specs.AnswerText.{extents_text};
+ghost use Rattle.sd_json.specs.AnswerText as definition;
+
+use crate::fitting::extent_value;
+use sd_graph::Bound;
+use sd_list::NoMemory;
+use sd_mem::Memory;
+use sd_range::Affine;
+use std::alloc::Global;
+
+/// Adds extents, which are constants, joined by commas.
+fn push_extents(line: &mut String, extents: &[Affine]) -> Result<(), NoMemory>
+    ensures { OnOk result (string_bytes line.new ≡ string_bytes line.old ++ extents_text (map (λ extent. unsigned_abs extent.constant) extents.now)) }
+{
+    let Some((extent, others)) = extents.split_first() else {
+        return Ok(());
+    };
+    write!(line, "{}", extent_value(extent))?;
+    for other in others {
+        write!(line, ",{}", extent_value(other))?;
+    }
+    Ok(())
+}
+
+/// Adds elements, each after a space.
+fn push_elements(line: &mut String, elements: &[i64]) -> Result<(), NoMemory>
+    ensures { OnOk result (string_bytes line.new ≡ string_bytes line.old ++ flat_map (λ element. 32 ∷ signed_decimal element) elements.now) }
+{
+    let mut buffer = itoa::Buffer::new();
+    for element in elements {
+        line.push_str(" ")?;
+        line.push_str(buffer.format(*element))?;
+    }
+    Ok(())
+}
+
+/// The line of an array.
+fn line_of(
+    alloc: Global,
+    name: &str,
+    extents: &[Affine],
+    elements: &[i64],
+) -> Result<String, NoMemory>
+    ensures { IfOk result (λ line. string_bytes line ≡ definition.line_of name.now (map (λ extent. unsigned_abs extent.constant) extents.now) elements.now) }
+{
+    let mut line = String::new(alloc);
+    line.push_str(name)?;
+    line.push_str("[")?;
+    push_extents(&mut line, extents)?;
+    line.push_str("] =")?;
+    push_elements(&mut line, elements)?;
+    line.push_str("\n")?;
+    Ok(line)
+}
+
+/// The line of one container of a memory: its name, its extents in brackets, and its elements in
+/// row order, with the newline at its end. The container is an array of the graph.
+pub fn array_line(
+    alloc: Global,
+    bound: &Bound,
+    memory: &Memory,
+    container: u32,
+) -> Result<String, NoMemory>
+    requires { IsArray (contents_at memory.now container) }
+    ensures { IfOk result (λ line. string_bytes line ≡ definition.container_line (graph_tree bound.now.graph) memory.now container) }
+{
+    let elements = memory.cells(container);
+    match bound.graph.containers.get_index(container as usize) {
+        Some((name, array)) => line_of(alloc, name.as_str(), array.extents.as_slice(), elements),
+        None => line_of(alloc, "", &[], elements),
+    }
+}
+
+/// A line for each argument of a graph, in the order of the signature, as `array_line` gives them.
+pub fn arrays_text(alloc: Global, bound: &Bound, memory: &Memory) -> Result<String, NoMemory>
+    requires { (argument : ℕ) → argument < arguments_of (graph_tree bound.now.graph) → IsArray (contents_at memory.now argument) }
+    ensures { IfOk result (λ text. string_bytes text ≡ definition.text_of_arrays (graph_tree bound.now.graph) memory.now) }
+{
+    let mut text = String::new(alloc);
+    for argument in 0..bound.graph.arguments {
+        let line = array_line(alloc, bound, memory, argument)?;
+        text.push_str(line.as_str())?;
+    }
+    Ok(text)
+}
