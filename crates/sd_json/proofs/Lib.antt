@@ -7,3 +7,4 @@ pub mod Converting
 pub mod Walking
 pub mod WholeText
 pub mod Prefixes
+pub mod DigitTexts

@@ -40,7 +40,12 @@ impl Numbers {
             self.whole = false;
             return Ok(());
         };
-        if self.whole {
+        if !self.whole {
+            return Ok(());
+        }
+        if self.list.len() < self.list.capacity() {
+            self.list.push_reserved(number);
+        } else {
             self.list.push(number)?;
         }
         Ok(())

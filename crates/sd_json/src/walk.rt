@@ -17,6 +17,7 @@ use std::alloc::Global;
 /// Reads a value with lists and objects at most so deep. Gives its shape, and adds its numbers to
 /// those before.
 #[cycle(walk)]
+#[inline(always)]
 pub(crate) fn read_value(
     alloc: Global,
     reader: &mut Reader<'_>,

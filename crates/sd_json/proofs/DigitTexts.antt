@@ -1,0 +1,35 @@
+-- Digits alone are a whole number.
+use Rattle.std.proofs.Common.{◌≡◌, ℕ, ◌+◌, ◌<◌, ◌≤◌, ◌^◌, ◌&&◌, ◌==◌, ℤ, pos, negsuc, List, [], ◌∷◌, ◌++◌, length, true, false, nat_lt, nat_le, Option, Some, option_map, refl, ap, sym, ◌∙◌, arith, append-nil, lt-ltb, le-leb, if◌then◌else◌}
+use Rattle.std.specs.Str.Parse.{AllDigits, IsNumeral, digits_value}
+use Rattle.fast_float.specs.Text.{Parts, scan, digits_of, text_of, IsWellFormed, with_sign}
+use Rattle.fast_float.proofs.Writing.{scan-text_of}
+use Rattle.serde_json.specs.Data.{unsigned, negative}
+use Rattle.serde_json.specs.Read.{number_from, is_integer}
+use Rattle.serde_json.specs.Find.{as_i64}
+
+-- the parts of a numeral of digits alone
+abbrev pub digit_parts : List ℕ → Parts
+digit_parts ds = record { whole = ds; point = false; fraction = []; exponent_negative = false; exponent = []; len = length (ds ++ []) }
+
+pub scan-digits : (ds : List ℕ) → IsNumeral 10 ds → scan ds ≡ digit_parts ds
+scan-digits ds h =
+    let formed : IsWellFormed (digit_parts ds) = record { whole_digits = h.1; fraction_digits = tt; exponent_digits = tt; no_point = λ _. refl; no_exponent = λ _. refl; len_is = refl } in
+    ap scan (sym (append-nil ds)) ∙ scan-text_of (digit_parts ds) formed
+
+pub digits-is_integer : (ds : List ℕ) → IsNumeral 10 ds → is_integer (scan ds) ≡ true
+digits-is_integer ds h = ap is_integer (scan-digits ds h) ∙ rw (lt-ltb _ _ h.0) refl
+
+pub digits-digits_of : (ds : List ℕ) → IsNumeral 10 ds → digits_of (scan ds) ≡ digits_value 10 ds
+digits-digits_of ds h = ap digits_of (scan-digits ds h) ∙ ap (digits_value 10) (append-nil ds)
+
+-- a number below 2^63
+pub small_number : (p : Parts) (n : ℕ) → is_integer p ≡ true → digits_of p ≡ n → n < 2 ^ 63 → Some (Some (pos n)) ≡ option_map as_i64 (number_from false p)
+small_number p n whole is small =
+    let fits : n < 2 ^ 64 = omega arith in
+    rw (whole, is, lt-ltb _ _ fits) (rw (lt-ltb _ _ small) refl)
+
+-- and below 0
+pub small_negative : (p : Parts) (n : ℕ) → is_integer p ≡ true → digits_of p ≡ n → 0 < n → n < 2 ^ 63 → Some (Some (with_sign true n)) ≡ option_map as_i64 (number_from true p)
+small_negative p n whole is some small =
+    let fits : n ≤ 2 ^ 63 = omega arith in
+    rw (whole, is, lt-ltb _ _ some, le-leb _ _ fits) refl
