@@ -1,5 +1,6 @@
 -- Digits alone are a whole number.
-use Rattle.std.proofs.Common.{◌≡◌, ℕ, ◌+◌, ◌<◌, ◌≤◌, ◌^◌, ◌&&◌, ◌==◌, ℤ, pos, negsuc, List, [], ◌∷◌, ◌++◌, length, true, false, nat_lt, nat_le, Option, Some, option_map, refl, ap, sym, ◌∙◌, arith, append-nil, lt-ltb, le-leb, if◌then◌else◌}
+use Rattle.std.proofs.Common.{◌≡◌, ℕ, ◌+◌, ◌*◌, ◌<◌, ◌≤◌, ◌^◌, ◌&&◌, ◌==◌, ℤ, pos, negsuc, List, [], ◌∷◌, ◌++◌, length, true, false, nat_lt, nat_le, Option, Some, None, IfSome, option_map, refl, ap, sym, ◌∙◌, arith, append-nil, get_or, lt-ltb, le-leb, if◌then◌else◌}
+use Rattle.std.specs.Char.{digit_value}
 use Rattle.std.specs.Str.Parse.{AllDigits, IsNumeral, digits_value}
 use Rattle.fast_float.specs.Text.{Parts, scan, digits_of, text_of, IsWellFormed, with_sign}
 use Rattle.fast_float.proofs.Writing.{scan-text_of}
@@ -33,3 +34,19 @@ pub small_negative : (p : Parts) (n : ℕ) → is_integer p ≡ true → digits_
 small_negative p n whole is some small =
     let fits : n ≤ 2 ^ 63 = omega arith in
     rw (whole, is, lt-ltb _ _ some, le-leb _ _ fits) refl
+
+-- a list of one item
+pub one_item : (items : List ℕ) → length items ≡ 1 → items ≡ get_or items 0 0 ∷ []
+one_item [] one = absurd (omega arith)
+one_item (item ∷ []) one = refl
+one_item (item ∷ other ∷ items) one = absurd (omega arith)
+
+pub some_weaker : {A : Type 0} (found : Option A) (P Q : A → Type 0) → ((x : A) → P x → Q x) → IfSome found P → IfSome found Q
+some_weaker None P Q weaker is = tt
+some_weaker (Some x) P Q weaker is = weaker x is
+
+pub one_digit : (byte : ℕ) → digits_value 10 (byte ∷ []) ≡ digit_value byte
+one_digit byte = plus (digit_value byte)
+  where
+    plus : (d : ℕ) → 0 * 10 + d ≡ d
+    plus d = omega arith

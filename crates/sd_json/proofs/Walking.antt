@@ -154,3 +154,19 @@ other_kept depth before token r (inr (inl truth)) =
     ap (λ t. parse_map (value_kept before) (converted of_json (json.value depth (token_of t ∷ r)))) truth.1 ∙ ap (λ read. parse_map (value_kept before) (converted of_json read)) (value_is depth _)
 other_kept depth before token r (inr (inr null)) =
     ap (λ t. parse_map (value_kept before) (converted of_json (json.value depth (token_of t ∷ r)))) null ∙ ap (λ read. parse_map (value_kept before) (converted of_json read)) (value_is depth _)
+
+-- what ends something, a name or a bad token begins no value
+pub closed_refused : (depth : ℕ) (token : AToken) (r : List Token) → (token ≡ declared.EndObject) ⊎ ((token ≡ declared.EndArray) ⊎ (((name : Bor (List ℕ)) × (token ≡ declared.Key name)) ⊎ (token ≡ declared.Bad))) →
+    converted of_json (json.value depth (token_of token ∷ r)) ≡ None
+closed_refused depth token r (inl is) = ap (λ t. converted of_json (json.value depth (token_of t ∷ r))) is ∙ ap (converted of_json) (value_is depth _)
+closed_refused depth token r (inr (inl is)) = ap (λ t. converted of_json (json.value depth (token_of t ∷ r))) is ∙ ap (converted of_json) (value_is depth _)
+closed_refused depth token r (inr (inr (inl name))) = ap (λ t. converted of_json (json.value depth (token_of t ∷ r))) name.1 ∙ ap (converted of_json) (value_is depth _)
+closed_refused depth token r (inr (inr (inr is))) = ap (λ t. converted of_json (json.value depth (token_of t ∷ r))) is ∙ ap (converted of_json) (value_is depth _)
+
+-- no value is read of nothing
+pub nothing_refused : (depth : ℕ) (ts : List Token) → ts ≡ [] → converted of_json (json.value depth ts) ≡ None
+nothing_refused depth ts none = ap (λ all. converted of_json (json.value depth all)) none ∙ ap (converted of_json) (value_is depth [])
+
+-- a number is read by its text
+pub number_read : (depth : ℕ) (token : AToken) (text : Bor (List ℕ)) (r : List Token) → token ≡ declared.Number text → json.value depth (token_of token ∷ r) ≡ Some (json.number text.now, r)
+number_read depth token text r is = ap (λ t. json.value depth (token_of t ∷ r)) is ∙ value_is depth _

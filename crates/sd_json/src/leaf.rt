@@ -1,4 +1,5 @@
 ghost use Rattle.std.specs.Prelude.{◌≡◌, ◌==◌, ◌<◌, ◌^◌, length, slice_index, option_map, true, false, IsTrue, IfSome};
+ghost use Rattle.std.specs.Char.{digit_value};
 ghost use Rattle.fast_float.specs.Text.{scan, digits_of};
 ghost use Rattle.serde_json.specs.Read.{number_of, number_from, float_of, is_integer};
 ghost use Rattle.serde_json.specs.Find.{as_i64};
@@ -41,13 +42,28 @@ fn other_with_sign(bytes: &[u8]) -> Option<Option<i64>>
     }
 }
 
-/// The number that digits alone write, where it fits 64 bits.
+/// The number that one digit is.
+#[inline(always)]
+fn digit(byte: u8) -> Option<u64>
+    ensures { IfSome result (λ number. (digit_value byte < 10) × (number ≡ digit_value byte)) }
+{
+    match byte {
+        b'0'..=b'9' => Some(u64::from(byte - b'0')),
+        _ => None,
+    }
+}
+
+/// The number that digits alone write, where it fits 64 bits. One digit, as an array may have
+/// many of them, takes a shorter way.
 #[inline(always)]
 fn digits(bytes: &[u8]) -> Option<u64>
     ensures { IfSome result (λ number. (is_integer (scan bytes.now) ≡ true) × (digits_of (scan bytes.now) ≡ number)) }
 {
     if bytes.is_empty() || bytes[0] == b'+' {
         return None;
+    }
+    if bytes.len() == 1 {
+        return digit(bytes[0]);
     }
     match parse_u64(bytes) {
         Ok(number) => Some(number),

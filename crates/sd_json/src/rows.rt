@@ -1,4 +1,4 @@
-ghost use Rattle.std.specs.Prelude.{◌≡◌, IfOk, OnOk};
+ghost use Rattle.std.specs.Prelude.{◌≡◌, Some, [], IfOk, OnOk};
 ghost use Rattle.sd_json.specs.Walk.{no_rows, have_one_shape, rows_with, shape_of_rows};
 
 use sd_list::{NoMemory, Sequence};
@@ -23,6 +23,17 @@ fn are_one(first: &Option<Sequence<u64>>, second: &Option<Sequence<u64>>) -> boo
     }
 }
 
+/// Whether it is the shape of a leaf.
+#[inline(always)]
+fn is_leaf(shape: &Option<Sequence<u64>>) -> bool
+    ensures { result ≡ have_one_shape shape.now (Some []) }
+{
+    match shape {
+        Some(shape) => shape.is_empty(),
+        None => false,
+    }
+}
+
 impl Rows {
     /// No item yet.
     pub(crate) fn new() -> Rows
@@ -32,6 +43,21 @@ impl Rows {
             count: 0,
             shape: None,
         }
+    }
+
+    /// One item more, which is a leaf.
+    #[inline(always)]
+    pub(crate) fn add_leaf(&mut self, alloc: Global) -> Result<(), NoMemory>
+        ensures { OnOk result (self.new ≡ rows_with self.old (Some [])) }
+    {
+        let count = self.count.checked_add(1).ok_or(NoMemory)?;
+        if self.count == 0 {
+            self.shape = Some(Sequence::new(alloc));
+        } else if !is_leaf(&self.shape) {
+            self.shape = None;
+        }
+        self.count = count;
+        Ok(())
     }
 
     /// One item more, with its shape.

@@ -5,14 +5,17 @@ use Rattle.serde_json.specs.Read.{of_items, of_members, converted}
 use Rattle.sd_json.specs.Walk.{items_kept, items_kept_from}
 use Rattle.sd_json.proofs.walk.+walk.Given as goal
 
-abbrev pub decreases-read_value : goal.decreases-read_value
-decreases-read_value l = 2 * l.depth
+abbrev pub decreases-read_from : goal.decreases-read_from
+decreases-read_from l = 3 * l.depth
+
+abbrev pub decreases-read_item : goal.decreases-read_item
+decreases-read_item l = 3 * l.depth + 1
 
 abbrev pub decreases-read_items : goal.decreases-read_items
-decreases-read_items l = 2 * l.depth + 1
+decreases-read_items l = 3 * l.depth + 2
 
 abbrev pub decreases-pass_members : goal.decreases-pass_members
-decreases-pass_members l = 2 * l.depth + 1
+decreases-pass_members l = 3 * l.depth + 2
 
 -- what is kept of the whole list is what is kept of the items that are left, behind those read
 abbrev pub invariant-read_items-items : goal.invariant-read_items-items
