@@ -24,7 +24,7 @@ both_numbers (Some here) None numbers e = cc
 both_numbers (Some here) (Some more) numbers e = (here, more, refl, refl, sym (same_Some _ _ e))
 
 -- the shape of the first item, and that all others have it
-both_shapes : (first : Option (List ℕ)) (others : Items) (shape : List ℕ) → option_and_then (λ s. cond (all_have s others) (Some (suc (count_of others) ∷ s)) None) first ≡ Some shape →
+pub both_shapes : (first : Option (List ℕ)) (others : Items) (shape : List ℕ) → option_and_then (λ s. cond (all_have s others) (Some (suc (count_of others) ∷ s)) None) first ≡ Some shape →
     (inner : List ℕ) × (first ≡ Some inner) × (all_have inner others ≡ true) × (shape ≡ suc (count_of others) ∷ inner)
 both_shapes None others shape e = cc
 both_shapes (Some inner) others shape e = by (all_have inner others) refl e
@@ -34,11 +34,11 @@ both_shapes (Some inner) others shape e = by (all_have inner others) refl e
     by true all is = (inner, refl, all, sym (same_Some _ _ is))
     by false all is = cc
 
-and_both : (first second : Bool) → (first && second) ≡ true → (first ≡ true) × (second ≡ true)
+pub and_both : (first second : Bool) → (first && second) ≡ true → (first ≡ true) × (second ≡ true)
 and_both true second all = (refl, all)
 and_both false second all = cc
 
-is_this_shape : (found : Option (List ℕ)) (shape : List ℕ) → is_shape found shape ≡ true → found ≡ Some shape
+pub is_this_shape : (found : Option (List ℕ)) (shape : List ℕ) → is_shape found shape ≡ true → found ≡ Some shape
 is_this_shape None shape is = cc
 is_this_shape (Some other) shape is = ap Some (same_text other shape (sym is))
 

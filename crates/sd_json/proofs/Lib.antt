@@ -8,3 +8,5 @@ pub mod Walking
 pub mod WholeText
 pub mod Prefixes
 pub mod DigitTexts
+pub mod Shapes
+pub mod Arguments

@@ -10,6 +10,7 @@ use crate::fitting::wrong_shape;
 use sd_graph::Bound;
 use sd_list::{NoMemory, Sequence, Text};
 use sd_mem::Memory;
+use sd_valid::Sizes;
 use std::alloc::Global;
 use std::marker::Model;
 
@@ -40,6 +41,20 @@ impl Given {
         ensures arrays { result.arrays ≡ arrays }
     {
         Given { sizes, arrays }
+    }
+
+    /// The sizes that are given, each with the name of its symbol. A symbol that the file does not
+    /// name has none.
+    pub fn sizes(&self, alloc: Global) -> Result<Sizes, NoMemory>
+        ensures { IfOk result (λ sizes. sizes.values ≡ self.now.sizes) }
+    {
+        let mut values = Vec::with_capacity(alloc, self.sizes.len())?;
+        for (name, size) in self.sizes.as_slice() {
+            values.push((name.copy_of(alloc)?, *size))?;
+        }
+        Ok(Sizes {
+            values: Sequence::from(values),
+        })
     }
 
     /// The memory that the bound graph opens with: its arguments with these arrays, which are moved
