@@ -1,0 +1,21 @@
+use Rattle.std.proofs.Common.{rules, ◌∙◌, ap, FitsSigned}
+use Rattle.std.specs.Int.{w64}
+use Rattle.std.proofs.lemmas.Int.{to_z-of_z}
+use Rattle.sd_graph.specs.TreeFold.{value_tree, value_trees}
+use Rattle.sd_graph.specs.TaskletMeaning as meaning
+use Rattle.sd_tasklet.specs.Given.{given}
+use Rattle.sd_tasklet.specs.Kept.{filled}
+use Rattle.sd_tasklet.proofs.KeptLemmas.{told_as_meant, behind_filled}
+use Rattle.sd_tasklet.proofs.progress.assign.Goals as goal
+
+pub returns-clause-meaning : goal.returns-clause-meaning
+returns-clause-meaning c =
+    let fits : FitsSigned w64 c.in_ok-value.value = search rules in
+    rw (to_z-of_z w64 c.in_ok-value.value fits)
+    (told_as_meant (given c.args.inputs.now) c.args.locals.now c.args.connector (value_trees c.args.at.now) (value_tree c.args.value.now) c.in_ok-place.place c.in_ok-value.value c.filled.result
+    c.in_ok-place.ensures.place c.in_ok-place.ensures.inside c.in_ok-value.ensures (c.filled.ensures ∙ ap filled c.as_slice.ensures))
+
+pub returns-clause-filled : goal.returns-clause-filled
+returns-clause-filled c =
+    rw (c.filled.ensures ∙ ap filled c.as_slice.ensures)
+    (behind_filled (meaning.extents_of_connector (given c.args.inputs.now) c.args.connector) c.in_ok-place.place c.in_ok-place.ensures.inside)
