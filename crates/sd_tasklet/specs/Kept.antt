@@ -5,7 +5,7 @@ use Rattle.sd_graph.specs.TaskletMeaning as meaning
 use Rattle.sd_tasklet.specs.declared.effect.Effect.{Effect}
 use Rattle.sd_tasklet.specs.declared.effect.Effects.{Effects}
 
--- the numbers of an index, and zeros behind them up to four
+-- the sizes of the numbers of an index, and zeros behind them up to four
 abbrev pub filled : List ℤ → List ℕ
 filled at = map unsigned_abs at ++ replicate (4 - length at) 0
 

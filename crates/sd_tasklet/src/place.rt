@@ -11,7 +11,7 @@ fn is_below(number: i64, extent: u64) -> bool
     number >= 0 && (number as u64) < extent
 }
 
-/// An index is inside these extents.
+/// An index is inside these extents: it has a number for each, from 0 to the extent less one.
 pub fn is_inside(extents: &[u64], at: &[i64]) -> bool
     ensures { result ≡ subset.inside extents.now at.now }
 {
@@ -39,10 +39,9 @@ pub fn row_number(extents: &[u64], at: &[i64]) -> usize
     row as usize
 }
 
-/// The numbers of an index that is inside, and zeros behind them up to four.
-pub fn filled(extents: &[u64], at: &[i64]) -> [u64; 4]
-    requires few { length extents.now ≤ 4 }
-    requires inside { subset.inside extents.now at.now ≡ true }
+/// The sizes of the numbers of an index, and zeros behind them up to four.
+pub fn filled(at: &[i64]) -> [u64; 4]
+    requires { length at.now ≤ 4 }
     ensures { result ≡ kept.filled at.now }
 {
     let mut index = [0; 4];

@@ -43,7 +43,7 @@ fn assign(
     let value = value_of(alloc, value, inputs, locals)?;
     Ok(Effect {
         connector,
-        at: filled(inputs.extents_of(connector), place.as_slice()),
+        at: filled(place.as_slice()),
         value,
     })
 }

@@ -1,12 +1,19 @@
-use Rattle.std.proofs.Common.{rules, ◌∙◌, ap, FitsSigned}
+use Rattle.std.proofs.Common.{rules, ◌≡◌, ◌≤◌, ◌∙◌, ap, length, FitsSigned, arith}
 use Rattle.std.specs.Int.{w64}
 use Rattle.std.proofs.lemmas.Int.{to_z-of_z}
 use Rattle.sd_graph.specs.TreeFold.{value_tree, value_trees}
 use Rattle.sd_graph.specs.TaskletMeaning as meaning
 use Rattle.sd_tasklet.specs.Given.{given}
 use Rattle.sd_tasklet.specs.Kept.{filled}
+use Rattle.sd_tasklet.proofs.Places.{inside_count}
 use Rattle.sd_tasklet.proofs.KeptLemmas.{told_as_meant, behind_filled}
 use Rattle.sd_tasklet.proofs.progress.assign.Goals as goal
+
+pub filled-requires : goal.filled-requires
+filled-requires c =
+    let few = c.requires.dimensions c.args.connector in
+    let many = inside_count (meaning.extents_of_connector (given c.args.inputs.now) c.args.connector) c.in_ok-place.place c.in_ok-place.ensures.inside in
+    rw c.as_slice.ensures (omega (arith, few, many))
 
 pub returns-clause-meaning : goal.returns-clause-meaning
 returns-clause-meaning c =
