@@ -1,0 +1,103 @@
+-- The containers and variables that a program declares, in the order of the text.
+use Rattle.std.specs.Prelude.{ℕ, zero, suc, ◌+◌, pos, List, [], ◌∷◌, ◌++◌, length, map, Bool, true, false, cond, bytes_eq, decimal}
+use Rattle.std.specs.List.{list_any}
+use Rattle.sd_lex.specs.PlainTree.{StatementTree, argument_array, local_array, local_stream, map_scope, consume_scope, for_loop, while_loop, branch, Block, no_statement, and_statement}
+use Rattle.sd_lex.specs.StatementKind.{has_connector}
+use Rattle.sd_graph.specs.declared.container.Container.{Container}
+use Rattle.sd_graph.specs.declared.container.ContainerKind.{ContainerKind}
+use Rattle.sd_graph.specs.declared.container.ContainerKind.TheVariants.{Argument, Transient, Private, Stream, PrivateStream}
+use Rattle.sd_range.specs.declared.affine.Affine.{Affine}
+use Rattle.sd_elab.specs.Names.{Name, Named}
+use Rattle.sd_elab.specs.Affines.{affine_number, extents_of}
+
+-- ---- variables
+
+-- after these names, those of a statement's variables
+abbrev mutual
+  pub variable_names : StatementTree → List Name → List Name
+  variable_names (map_scope line parameters ranges body) names = variable_names_all body (names ++ parameters)
+  variable_names (consume_scope line stream size name element worker body) names = variable_names_all body names
+  variable_names (for_loop line name begin end step body) names = variable_names_all body (names ++ name ∷ [])
+  variable_names (while_loop line when body) names = variable_names_all body names
+  variable_names (branch line when body other) names = variable_names_all other (variable_names_all body names)
+  variable_names statement names = names
+
+  pub variable_names_all : Block → List Name → List Name
+  variable_names_all no_statement names = names
+  variable_names_all (and_statement first rest) names = variable_names_all rest (variable_names first names)
+
+-- ---- names of containers
+
+-- after these names, those of the containers that a statement declares; the element of a consume scope that is one tasklet is none
+abbrev mutual
+  pub declared_names : StatementTree → List Name → List Name
+  declared_names (argument_array line name bits extents) names = names ++ name ∷ []
+  declared_names (local_array line name extents bits) names = names ++ name ∷ []
+  declared_names (local_stream line name bits size) names = names ++ name ∷ []
+  declared_names (map_scope line parameters ranges body) names = declared_names_all body names
+  declared_names (consume_scope line stream size name element worker body) names = cond (has_connector body) names (declared_names_all body (names ++ element ∷ []))
+  declared_names (for_loop line name begin end step body) names = declared_names_all body names
+  declared_names (while_loop line when body) names = declared_names_all body names
+  declared_names (branch line when body other) names = declared_names_all other (declared_names_all body names)
+  declared_names statement names = names
+
+  pub declared_names_all : Block → List Name → List Name
+  declared_names_all no_statement names = names
+  declared_names_all (and_statement first rest) names = declared_names_all rest (declared_names first names)
+
+-- `name$k`
+abbrev pub name_with_number : Name → ℕ → Name
+name_with_number name number = name ++ 36 ∷ decimal number
+
+-- the first of `name$k` that is not in use, from this k on; with one try more than there are names in use, one is free
+abbrev pub first_free : (tries : ℕ) → (number : ℕ) → (used : List Name) → Name → Name
+first_free zero number used name = name_with_number name number
+first_free (suc tries) number used name =
+    let free : Name = name_with_number name number in
+    cond (list_any (bytes_eq free) used) (first_free tries (number + 1) used name) free
+
+-- the name itself where it is not in use, else `name$k` with the least k from 1 on
+abbrev pub fresh_name : (used : List Name) → Name → Name
+fresh_name used name = cond (list_any (bytes_eq name) used) (first_free (length used) 1 used name) name
+
+-- ---- containers
+
+abbrev pub Containers : Type 0
+Containers = List (Name × Container)
+
+-- one more container, the last one
+abbrev pub followed_by : Containers → Name → List Affine → ContainerKind → Containers
+followed_by containers name extents kind = containers ++ (name, record { extents = extents; kind = kind }) ∷ []
+
+abbrev pub array_kind : (in_scope : Bool) → ContainerKind
+array_kind true = Private
+array_kind false = Transient
+
+abbrev pub stream_kind : (in_scope : Bool) → ContainerKind
+stream_kind true = PrivateStream
+stream_kind false = Stream
+
+-- the name of an element's container: that of one tasklet may be in use, by a container declared anywhere or by an element before it
+abbrev pub element_name : (declared : List Name) → Containers → (is_task : Bool) → Name → Name
+element_name declared containers true name = fresh_name (declared ++ map (λ entry. entry.0) containers) name
+element_name declared containers false name = name
+
+-- the size symbols, and the names of all containers that the program declares
+module _ (symbols : Named ℕ) (declared : List Name) where
+  -- after these containers, those that a statement declares
+  abbrev mutual
+    pub containers_with : StatementTree → (in_scope : Bool) → Containers → Containers
+    containers_with (argument_array line name bits extents) in_scope containers = followed_by containers name (extents_of symbols extents) Argument
+    containers_with (local_array line name extents bits) in_scope containers = followed_by containers name (extents_of symbols extents) (array_kind in_scope)
+    containers_with (local_stream line name bits size) in_scope containers = followed_by containers name [] (stream_kind in_scope)
+    containers_with (map_scope line parameters ranges body) in_scope containers = containers_with_all body true containers
+    containers_with (consume_scope line stream size name element worker body) in_scope containers =
+        containers_with_all body true (followed_by containers (element_name declared containers (has_connector body) element) (affine_number (pos 1) ∷ []) Private)
+    containers_with (for_loop line name begin end step body) in_scope containers = containers_with_all body in_scope containers
+    containers_with (while_loop line when body) in_scope containers = containers_with_all body in_scope containers
+    containers_with (branch line when body other) in_scope containers = containers_with_all other in_scope (containers_with_all body in_scope containers)
+    containers_with statement in_scope containers = containers
+
+    pub containers_with_all : Block → (in_scope : Bool) → Containers → Containers
+    containers_with_all no_statement in_scope containers = containers
+    containers_with_all (and_statement first rest) in_scope containers = containers_with_all rest in_scope (containers_with first in_scope containers)

@@ -1,0 +1,62 @@
+-- The graph of a program.
+use Rattle.std.specs.Prelude.{ℕ, ◌+◌, List, [], ◌∷◌, length, false, unwrap_or}
+use Rattle.sd_lex.specs.PlainTree.{argument_array, Block, no_statement, and_statement, FunctionTree, ProgramTree}
+use Rattle.sd_graph.specs.PlainTree.{no_item, no_state, GraphTree, graph}
+use Rattle.sd_graph.specs.TreeFold.{states_listed}
+use Rattle.sd_elab.specs.Names.{Name, Named, in_force, numbered}
+use Rattle.sd_elab.specs.Table.{Table, with_container, with_variables}
+use Rattle.sd_elab.specs.Counts.{containers_in_all}
+use Rattle.sd_elab.specs.Declarations.{variable_names_all, declared_names_all, Containers, containers_with_all}
+use Rattle.sd_elab.specs.Standing.{Standing}
+use Rattle.sd_elab.specs.States.{chained_all}
+
+-- the arguments are in force, the first with this number
+abbrev pub table_of_arguments : Block → (next : ℕ) → Table → Table
+table_of_arguments no_statement next table = table
+table_of_arguments (and_statement (argument_array line name bits extents) rest) next table = table_of_arguments rest (next + 1) (with_container name next table)
+table_of_arguments (and_statement statement rest) next table = table_of_arguments rest next table
+
+-- the size symbols are in force, as the first variables
+abbrev pub table_of_symbols : (symbols : List Name) → Containers → Table
+table_of_symbols symbols containers = with_variables (numbered symbols 0) (record { containers = []; variables = []; all = containers })
+
+-- all containers of a program, the arguments first
+abbrev pub containers_of_function : (symbols : List Name) → FunctionTree → Containers
+containers_of_function symbols function =
+    let known : Named ℕ = (table_of_symbols symbols []).variables in
+    let declared : List Name = declared_names_all function.body (declared_names_all function.arguments []) in
+    containers_with_all known declared function.body false (containers_with_all known declared function.arguments false [])
+
+-- the graph of one program, where calls are of these graphs: state 0 is empty, and the last state has no exit
+abbrev pub function_graph : (symbols : List Name) → (Name → GraphTree) → FunctionTree → GraphTree
+function_graph symbols graphs function =
+    let containers : Containers = containers_of_function symbols function in
+    let arguments : ℕ = containers_in_all function.arguments in
+    let start : Standing = record {
+      state = 1;
+      container = arguments;
+      variable = length symbols;
+      table = table_of_arguments function.arguments 0 (table_of_symbols symbols containers);
+    } in
+    graph function.name containers arguments (variable_names_all function.body symbols) (length symbols)
+    (states_listed (chained_all graphs function.body start no_item []))
+
+abbrev pub no_graph : GraphTree
+no_graph = graph [] [] 0 [] 0 no_state
+
+-- the latest of these graphs with a name
+abbrev pub graph_named : Named GraphTree → Name → GraphTree
+graph_named graphs name = unwrap_or (in_force graphs name) no_graph
+
+-- the graphs of programs, each of which calls those before it; the latest first
+abbrev pub graphs_with : (symbols : List Name) → Named GraphTree → List FunctionTree → Named GraphTree
+graphs_with symbols before [] = before
+graphs_with symbols before (function ∷ functions) = graphs_with symbols ((function.name, function_graph symbols (graph_named before) function) ∷ before) functions
+
+abbrev pub latest : Named GraphTree → GraphTree
+latest [] = no_graph
+latest (entry ∷ entries) = entry.1
+
+-- the graph of a source: that of its last program
+abbrev pub graph_of : ProgramTree → GraphTree
+graph_of program = latest (graphs_with program.symbols [] program.functions)

@@ -1,0 +1,2 @@
+//! The graph of a program.
+#![tactic(auto)]
