@@ -1,1 +1,3 @@
+pub mod AffineLemmas
+pub mod ScopeLemmas
 pub mod examples

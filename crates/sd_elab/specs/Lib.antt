@@ -16,3 +16,6 @@ pub mod Exits
 pub mod Standing
 pub mod States
 pub mod Elaboration
+pub mod Stack
+pub mod TableOf
+pub mod Small

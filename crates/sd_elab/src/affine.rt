@@ -1,0 +1,72 @@
+ghost use Rattle.std.specs.Prelude.{◌≡◌, IfOk};
+ghost use Rattle.sd_range.specs.Arithmetic.{IsRepresentable};
+ghost use Rattle.sd_lex.specs.TreeFold.{expression_of, expressions_of};
+ghost use Rattle.sd_elab.specs.Affines.{affine_of, affines_of, product_of};
+ghost use Rattle.sd_elab.specs.Small.{IsSmall, AreSmall};
+
+use crate::scope::Scope;
+use sd_lex::{Expr, OneSign, TwoSign};
+use sd_list::NoMemory;
+use sd_range::Affine;
+use std::alloc::Global;
+
+/// The product of two expressions, one of which has no variable.
+fn product(alloc: Global, left: &Affine, right: &Affine) -> Result<Affine, NoMemory>
+    requires { IsRepresentable (product_of left.now.terms left.now right.now) }
+    ensures { IfOk result (λ product. product ≡ product_of left.now.terms left.now right.now) }
+{
+    if left.terms.as_slice().is_empty() {
+        right.times(alloc, left.constant)
+    } else {
+        left.times(alloc, right.constant)
+    }
+}
+
+/// An affine expression by the numbers of its variables.
+pub(crate) fn affine(
+    alloc: Global,
+    variables: &Scope,
+    expression: &Expr,
+) -> Result<Affine, NoMemory>
+    requires { IsSmall (expression_of expression.now) }
+    ensures { IfOk result (λ affine. affine ≡ affine_of variables.now (expression_of expression.now)) }
+{
+    match expression {
+        Expr::Number(value) => Ok(Affine::constant(alloc, i128::from(*value))),
+        Expr::Name(name) => match variables.find(name.as_str()) {
+            Some(variable) => Affine::variable(alloc, variable),
+            None => Ok(Affine::constant(alloc, 0)),
+        },
+        Expr::One {
+            sign: OneSign::Neg,
+            of,
+        } => affine(alloc, variables, of)?.times(alloc, -1),
+        Expr::Two { sign, left, right } => {
+            let left = affine(alloc, variables, left)?;
+            let right = affine(alloc, variables, right)?;
+            match sign {
+                TwoSign::Add => left.plus(alloc, &right),
+                TwoSign::Sub => left.minus(alloc, &right),
+                TwoSign::Mul => product(alloc, &left, &right),
+                _ => Ok(Affine::constant(alloc, 0)),
+            }
+        }
+        _ => Ok(Affine::constant(alloc, 0)),
+    }
+}
+
+/// Several affine expressions.
+pub(crate) fn affines(
+    alloc: Global,
+    variables: &Scope,
+    expressions: &[Expr],
+) -> Result<Vec<Affine>, NoMemory>
+    requires { AreSmall (expressions_of expressions.now) }
+    ensures { IfOk result (λ all. all.items ≡ affines_of variables.now (expressions_of expressions.now)) }
+{
+    let mut all = Vec::with_capacity(alloc, expressions.len())?;
+    for expression in expressions {
+        all.push(affine(alloc, variables, expression)?)?;
+    }
+    Ok(all)
+}

@@ -1,0 +1,70 @@
+ghost use Rattle.std.specs.Prelude.{◌≡◌, [], ◌∷◌, string_bytes, OnOk};
+ghost use Rattle.sd_elab.specs.Names.{in_force, number_or};
+ghost use Rattle.sd_elab.specs.Stack.{stacked};
+
+use sd_list::NoMemory;
+use std::alloc::Global;
+use std::marker::Model;
+
+/// Names in force with their numbers; the newest of a name counts.
+#[derive(Drop)]
+pub(crate) struct Scope {
+    entries: Vec<(String, u32)>,
+}
+
+impl Model for Scope {
+    ghost use Rattle.std.specs.Prelude.{ℕ};
+    ghost use Rattle.sd_elab.specs.Names.{Named};
+    ghost use Rattle.sd_elab.specs.Stack.{stacked};
+
+    ghost Value = { Named ℕ };
+
+    ghost view = { λ scope. stacked scope.entries.items };
+}
+
+impl Scope {
+    /// No name.
+    pub(crate) fn new(alloc: Global) -> Scope
+        ensures { result ≡ [] }
+    {
+        Scope {
+            entries: Vec::new(alloc),
+        }
+    }
+
+    /// One more name, the newest.
+    #[tactic(auto, using(crate::proofs::ScopeLemmas::stacked_grown))]
+    pub(crate) fn push(&mut self, name: String, number: u32) -> Result<(), NoMemory>
+        ensures { OnOk result (self.new ≡ (string_bytes name, number) ∷ self.old) }
+    {
+        self.entries.push((name, number))?;
+        Ok(())
+    }
+
+    /// The number of a name.
+    pub(crate) fn find(&self, name: &str) -> Option<u32>
+        ensures { result ≡ in_force self.now name.now }
+    {
+        newest(&self.entries, name)
+    }
+
+    /// The number of a name, or another where it is not in force.
+    pub(crate) fn number_or(&self, other: u32, name: &str) -> u32
+        ensures { result ≡ number_or other self.now name.now }
+    {
+        self.find(name).unwrap_or(other)
+    }
+}
+
+/// The number of the last entry with a name.
+fn newest(entries: &[(String, u32)], name: &str) -> Option<u32>
+    ensures { result ≡ in_force (stacked entries.now) name.now }
+{
+    let mut answer = None;
+    for (other, number) in entries {
+        if name == other.as_str() {
+            answer = Some(*number);
+        }
+    }
+    answer
+}
