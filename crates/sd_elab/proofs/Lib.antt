@@ -1,3 +1,4 @@
 pub mod AffineLemmas
 pub mod ScopeLemmas
+pub mod SmallLemmas
 pub mod examples

@@ -1,7 +1,7 @@
 -- Stacks of names that grow.
 use Rattle.std.proofs.Common.{◌≡◌, ◌∙◌, ℕ, List, [], ◌∷◌, ◌++◌, refl, ap, String, string_bytes, bytes_eq, cond, Some}
 use Rattle.std.specs.declared.alloc.Global.{Global}
-use Rattle.sd_elab.specs.Names.{in_force}
+use Rattle.sd_program.specs.Names.{in_force}
 use Rattle.sd_elab.specs.Stack.{stacked}
 
 -- one more name is the newest

@@ -7,8 +7,9 @@ use Rattle.sd_graph.specs.declared.container.Container.{Container}
 use Rattle.sd_graph.specs.declared.container.ContainerKind.{ContainerKind}
 use Rattle.sd_graph.specs.declared.container.ContainerKind.TheVariants.{Argument, Transient, Private, Stream, PrivateStream}
 use Rattle.sd_range.specs.declared.affine.Affine.{Affine}
-use Rattle.sd_elab.specs.Names.{Name, Named}
-use Rattle.sd_elab.specs.Affines.{affine_number, extents_of}
+use Rattle.sd_program.specs.Names.{Name, Named}
+use Rattle.sd_program.specs.Affines.{affine_number}
+use Rattle.sd_elab.specs.Ranges.{extents_of}
 
 -- ---- variables
 

@@ -7,7 +7,7 @@ use Rattle.sd_num.specs.declared.resolution.Resolution.TheVariants.{Sum}
 use Rattle.sd_graph.specs.PlainTree as plain
 use Rattle.sd_graph.specs.PlainTree.{ValueTree, TaskletTree, GuardTree, KindTree}
 use Rattle.sd_graph.specs.declared.link.Link.{Link}
-use Rattle.sd_elab.specs.Names.{Name, Named, in_force}
+use Rattle.sd_program.specs.Names.{Name, Named, in_force}
 use Rattle.sd_elab.specs.Table.{Table}
 use Rattle.sd_elab.specs.Links.{element_link, port_of, ports_of}
 use Rattle.sd_elab.specs.Operators.{one_sign, two_sign}

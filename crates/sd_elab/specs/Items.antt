@@ -9,11 +9,13 @@ use Rattle.sd_graph.specs.PlainTree.{ItemTrees, GraphTree}
 use Rattle.sd_graph.specs.TreeParts.{containers_of}
 use Rattle.sd_graph.specs.declared.container.Container.{Container}
 use Rattle.sd_graph.specs.declared.link.Link.{Link}
-use Rattle.sd_elab.specs.Names.{Name, numbered}
-use Rattle.sd_elab.specs.Affines.{parameters_of}
+use Rattle.sd_program.specs.Names.{Name}
+use Rattle.sd_elab.specs.Names.{numbered}
+use Rattle.sd_elab.specs.Ranges.{parameters_of}
 use Rattle.sd_elab.specs.Table.{Table, with_container, with_variables, container_number}
 use Rattle.sd_elab.specs.Links.{link_to, subset_link, resolution_of}
-use Rattle.sd_elab.specs.Counts.{containers_in, variables_in}
+use Rattle.sd_program.specs.Declared.{containers_in}
+use Rattle.sd_elab.specs.Counts.{variables_in}
 use Rattle.sd_elab.specs.NamesBehind.{own_of, table_behind}
 use Rattle.sd_elab.specs.ElementCode.{element_task}
 use Rattle.sd_elab.specs.TaskletItem.{tasklet_item, task_with, inputs_of, outputs_of}

@@ -1,5 +1,5 @@
 pub mod Names
-pub mod Affines
+pub mod Ranges
 pub mod Table
 pub mod Subsets
 pub mod Links
@@ -18,4 +18,4 @@ pub mod States
 pub mod Elaboration
 pub mod Stack
 pub mod TableOf
-pub mod Small
+pub mod Exact

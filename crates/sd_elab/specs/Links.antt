@@ -9,8 +9,8 @@ use Rattle.sd_range.specs.declared.subset.Dim.{Dim}
 use Rattle.sd_range.specs.declared.subset.Dim.TheVariants.{Index}
 use Rattle.sd_graph.specs.declared.link.Link.{Link}
 use Rattle.sd_graph.specs.declared.tasklet.Port.{Port}
-use Rattle.sd_elab.specs.Names.{Name}
-use Rattle.sd_elab.specs.Affines.{affines_of}
+use Rattle.sd_program.specs.Names.{Name}
+use Rattle.sd_program.specs.Affines.{affines_of}
 use Rattle.sd_elab.specs.Table.{Table, container_number, extents_at}
 use Rattle.sd_elab.specs.Subsets.{subset_of, connector_subset, ranges_among}
 

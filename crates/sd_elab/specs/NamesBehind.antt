@@ -2,7 +2,7 @@
 use Rattle.std.specs.Prelude.{ℕ, ◌+◌, List, [], ◌∷◌}
 use Rattle.sd_lex.specs.PlainTree.{StatementTree, local_array, local_stream, for_loop, while_loop, branch, Block, no_statement, and_statement}
 use Rattle.sd_elab.specs.Table.{Table, with_container}
-use Rattle.sd_elab.specs.Counts.{containers_in, containers_in_all}
+use Rattle.sd_program.specs.Declared.{containers_in, containers_in_all}
 
 -- before these numbers, that of the container which a statement declares itself
 abbrev pub own_before : StatementTree → (next : ℕ) → List ℕ → List ℕ

@@ -1,7 +1,7 @@
 -- A stack of names, as names in force: the last one is the newest.
 use Rattle.std.specs.Prelude.{ℕ, List, [], ◌∷◌, ◌++◌, String, string_bytes}
 use Rattle.std.specs.declared.alloc.Global.{Global}
-use Rattle.sd_elab.specs.Names.{Named}
+use Rattle.sd_program.specs.Names.{Named}
 
 abbrev pub stacked : List (String Global × ℕ) → Named ℕ
 stacked [] = []

@@ -1,30 +1,12 @@
 -- Where the elaboration of a program's block stands.
 use Rattle.std.specs.Prelude.{ℕ, ◌+◌, [], ◌∷◌}
 use Rattle.sd_lex.specs.PlainTree.{StatementTree, argument_array, local_array, local_stream, for_loop, while_loop, branch, Block, no_statement, and_statement}
-use Rattle.sd_elab.specs.Names.{Name}
+use Rattle.sd_program.specs.Names.{Name}
+use Rattle.sd_program.specs.Declared.{states_in, states_in_all}
 use Rattle.sd_elab.specs.Table.{Table, with_variables}
-use Rattle.sd_elab.specs.Counts.{containers_in, containers_in_all, variables_in, variables_in_all}
+use Rattle.sd_program.specs.Declared.{containers_in, containers_in_all}
+use Rattle.sd_elab.specs.Counts.{variables_in, variables_in_all}
 use Rattle.sd_elab.specs.NamesBehind.{table_behind_state, table_behind_all}
-
--- how many states a statement makes
-abbrev mutual
-  pub states_in : StatementTree → ℕ
-  states_in (argument_array line name bits extents) = 0
-  states_in (local_array line name extents bits) = 0
-  states_in (local_stream line name bits size) = 0
-  states_in (branch line when body other) = 1 + states_in_all body + states_in_other other
-  states_in (while_loop line when body) = 2 + states_in_all body + 1
-  states_in (for_loop line name begin end step body) = 2 + states_in_all body + 1
-  states_in statement = 1
-
-  pub states_in_all : Block → ℕ
-  states_in_all no_statement = 0
-  states_in_all (and_statement first rest) = states_in first + states_in_all rest
-
-  -- those of an `else`, and the state behind both blocks
-  pub states_in_other : Block → ℕ
-  states_in_other no_statement = 1
-  states_in_other (and_statement first rest) = 1 + (states_in first + states_in_all rest) + 1
 
 -- the numbers of the state, container and variable that come next, and what is in force
 pub record Standing : Type 0 where

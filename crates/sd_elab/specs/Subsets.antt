@@ -6,8 +6,9 @@ use Rattle.sd_range.specs.Arithmetic.{affine_zero}
 use Rattle.sd_range.specs.declared.affine.Affine.{Affine}
 use Rattle.sd_range.specs.declared.subset.Dim.{Dim}
 use Rattle.sd_range.specs.declared.subset.Dim.TheVariants.{Index, Span}
-use Rattle.sd_elab.specs.Names.{Named}
-use Rattle.sd_elab.specs.Affines.{affine_of, affine_or, range_between}
+use Rattle.sd_program.specs.Names.{Named}
+use Rattle.sd_program.specs.Affines.{affine_of}
+use Rattle.sd_elab.specs.Ranges.{affine_or, range_between}
 
 -- the whole of a container
 abbrev pub whole : List Affine → List Dim

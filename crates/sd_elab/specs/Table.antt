@@ -2,7 +2,8 @@
 use Rattle.std.specs.Prelude.{ℕ, zero, suc, List, [], ◌∷◌}
 use Rattle.sd_range.specs.declared.affine.Affine.{Affine}
 use Rattle.sd_graph.specs.declared.container.Container.{Container}
-use Rattle.sd_elab.specs.Names.{Name, Named, number_or}
+use Rattle.sd_program.specs.Names.{Name, Named}
+use Rattle.sd_elab.specs.Names.{number_or}
 
 pub record Table : Type 0 where
   -- the containers and the variables in force

@@ -3,7 +3,8 @@ use Rattle.std.specs.Prelude.{ℕ, ◌+◌, List, ◌∷◌, Option, Some, None,
 use Rattle.sd_lex.specs.PlainTree.{Expression, number, named, element_at, one, two, choice, Expressions, no_expression, and_expression, StatementTree, set, set_at, tasklet_branch, Block, no_statement, and_statement}
 use Rattle.sd_graph.specs.PlainTree as plain
 use Rattle.sd_graph.specs.PlainTree.{ValueTree, ValueTrees, ActTree, ActTrees}
-use Rattle.sd_elab.specs.Names.{Name, Named, in_force, number_or}
+use Rattle.sd_program.specs.Names.{Name, Named, in_force}
+use Rattle.sd_elab.specs.Names.{number_or}
 use Rattle.sd_elab.specs.Operators.{one_sign, two_sign}
 use Rattle.sd_elab.specs.UsedVariables.{with_variable, variable_value}
 

@@ -3,7 +3,8 @@ use Rattle.std.specs.Prelude.{ℕ, List, [], ◌∷◌, length, map}
 use Rattle.sd_lex.specs.PlainTree.{StatementTree, input, output, Block, no_statement, and_statement}
 use Rattle.sd_graph.specs.PlainTree.{KindTree, task}
 use Rattle.sd_graph.specs.declared.link.Link.{Link}
-use Rattle.sd_elab.specs.Names.{Named, numbered}
+use Rattle.sd_program.specs.Names.{Named}
+use Rattle.sd_elab.specs.Names.{numbered}
 use Rattle.sd_elab.specs.Table.{Table}
 use Rattle.sd_elab.specs.Links.{memlet_link, ports_of}
 use Rattle.sd_elab.specs.TaskletCode.{used_acts_all, next_behind_all, acts_of}

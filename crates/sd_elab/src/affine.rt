@@ -1,8 +1,10 @@
 ghost use Rattle.std.specs.Prelude.{◌≡◌, IfOk};
 ghost use Rattle.sd_range.specs.Arithmetic.{IsRepresentable};
 ghost use Rattle.sd_lex.specs.TreeFold.{expression_of, expressions_of};
-ghost use Rattle.sd_elab.specs.Affines.{affine_of, affines_of, product_of};
-ghost use Rattle.sd_elab.specs.Small.{IsSmall, AreSmall};
+ghost use Rattle.sd_program.specs.Affines.{affine_of, affines_of, affine_one, affine_two, product_of};
+ghost use Rattle.sd_program.specs.Bounds.{EachExpression};
+ghost use Rattle.sd_program.specs.Small.{IsSmall};
+ghost use Rattle.sd_elab.specs.Exact.{IsExact};
 
 use crate::scope::Scope;
 use sd_lex::{Expr, OneSign, TwoSign};
@@ -22,13 +24,38 @@ fn product(alloc: Global, left: &Affine, right: &Affine) -> Result<Affine, NoMem
     }
 }
 
-/// An affine expression by the numbers of its variables.
-pub(crate) fn affine(
+/// A sign before an affine expression.
+fn with_one_sign(alloc: Global, sign: OneSign, of: &Affine) -> Result<Affine, NoMemory>
+    requires { IsRepresentable (affine_one sign of.now) }
+    ensures { IfOk result (λ affine. affine ≡ affine_one sign of.now) }
+{
+    match sign {
+        OneSign::Neg => of.times(alloc, -1),
+        _ => Ok(Affine::constant(alloc, 0)),
+    }
+}
+
+/// A sign between two affine expressions.
+fn with_two_sign(
     alloc: Global,
-    variables: &Scope,
-    expression: &Expr,
+    sign: TwoSign,
+    left: &Affine,
+    right: &Affine,
 ) -> Result<Affine, NoMemory>
-    requires { IsSmall (expression_of expression.now) }
+    requires { IsRepresentable (affine_two sign left.now right.now) }
+    ensures { IfOk result (λ affine. affine ≡ affine_two sign left.now right.now) }
+{
+    match sign {
+        TwoSign::Add => left.plus(alloc, right),
+        TwoSign::Sub => left.minus(alloc, right),
+        TwoSign::Mul => product(alloc, left, right),
+        _ => Ok(Affine::constant(alloc, 0)),
+    }
+}
+
+/// An affine expression by the numbers of its variables, where each step of it fits.
+fn exact(alloc: Global, variables: &Scope, expression: &Expr) -> Result<Affine, NoMemory>
+    requires { IsExact (expression_of expression.now) }
     ensures { IfOk result (λ affine. affine ≡ affine_of variables.now (expression_of expression.now)) }
 {
     match expression {
@@ -37,22 +64,30 @@ pub(crate) fn affine(
             Some(variable) => Affine::variable(alloc, variable),
             None => Ok(Affine::constant(alloc, 0)),
         },
-        Expr::One {
-            sign: OneSign::Neg,
-            of,
-        } => affine(alloc, variables, of)?.times(alloc, -1),
-        Expr::Two { sign, left, right } => {
-            let left = affine(alloc, variables, left)?;
-            let right = affine(alloc, variables, right)?;
-            match sign {
-                TwoSign::Add => left.plus(alloc, &right),
-                TwoSign::Sub => left.minus(alloc, &right),
-                TwoSign::Mul => product(alloc, &left, &right),
-                _ => Ok(Affine::constant(alloc, 0)),
-            }
+        Expr::One { sign, of } => {
+            let of = exact(alloc, variables, of)?;
+            with_one_sign(alloc, *sign, &of)
         }
-        _ => Ok(Affine::constant(alloc, 0)),
+        Expr::Two { sign, left, right } => {
+            let left = exact(alloc, variables, left)?;
+            let right = exact(alloc, variables, right)?;
+            with_two_sign(alloc, *sign, &left, &right)
+        }
+        Expr::Element { .. } | Expr::Choice { .. } => Ok(Affine::constant(alloc, 0)),
     }
+}
+
+/// An affine expression by the numbers of its variables.
+#[tactic(auto, using(crate::proofs::SmallLemmas::exact_from_small))]
+pub(crate) fn affine(
+    alloc: Global,
+    variables: &Scope,
+    expression: &Expr,
+) -> Result<Affine, NoMemory>
+    requires { IsSmall (expression_of expression.now) }
+    ensures { IfOk result (λ affine. affine ≡ affine_of variables.now (expression_of expression.now)) }
+{
+    exact(alloc, variables, expression)
 }
 
 /// Several affine expressions.
@@ -61,7 +96,7 @@ pub(crate) fn affines(
     variables: &Scope,
     expressions: &[Expr],
 ) -> Result<Vec<Affine>, NoMemory>
-    requires { AreSmall (expressions_of expressions.now) }
+    requires { EachExpression IsSmall (expressions_of expressions.now) }
     ensures { IfOk result (λ all. all.items ≡ affines_of variables.now (expressions_of expressions.now)) }
 {
     let mut all = Vec::with_capacity(alloc, expressions.len())?;

@@ -2,7 +2,8 @@ ghost use Rattle.std.specs.Prelude.{◌≡◌, ◌+◌, string_bytes, IfOk, OnOk
 ghost use Rattle.sd_graph.specs.TreeFold.{value_tree};
 ghost use Rattle.sd_lex.specs.TreeFold.{expression_of};
 ghost use Rattle.sd_elab.specs.ElementCode as definition;
-ghost use Rattle.sd_elab.specs.Small.{HasSmallElements};
+ghost use Rattle.sd_program.specs.Bounds.{EachSubscript};
+ghost use Rattle.sd_program.specs.Small.{IsSmall};
 ghost use Rattle.sd_elab.specs.TableOf.{table_of};
 
 use crate::link::element_link;
@@ -30,7 +31,7 @@ pub(crate) fn push_links(
     links: &mut Vec<Link>,
     expression: &Expr,
 ) -> Result<(), NoMemory>
-    requires { HasSmallElements (expression_of expression.now) }
+    requires { EachSubscript IsSmall (expression_of expression.now) }
     ensures { OnOk result (links.new.items ≡ definition.links_with (table_of names.now) links.old.items (expression_of expression.now)) }
 {
     match expression {

@@ -7,4 +7,5 @@ mod link;
 mod names;
 mod operator;
 mod scope;
+mod task;
 mod used;

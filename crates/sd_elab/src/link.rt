@@ -1,9 +1,10 @@
 ghost use Rattle.std.specs.Prelude.{◌≡◌, map, string_bytes, IfOk};
 ghost use Rattle.sd_lex.specs.TreeFold.{expressions_of};
 ghost use Rattle.sd_range.specs.declared.subset.Dim.TheVariants.{Index};
-ghost use Rattle.sd_elab.specs.Affines.{affines_of};
+ghost use Rattle.sd_program.specs.Affines.{affines_of};
 ghost use Rattle.sd_elab.specs.Links as definition;
-ghost use Rattle.sd_elab.specs.Small.{AreSmall};
+ghost use Rattle.sd_program.specs.Bounds.{EachExpression};
+ghost use Rattle.sd_program.specs.Small.{IsSmall};
 ghost use Rattle.sd_elab.specs.Subsets as subsets;
 ghost use Rattle.sd_elab.specs.TableOf.{table_of};
 
@@ -19,7 +20,7 @@ use std::alloc::Global;
 
 /// Each expression as an index.
 fn indices(alloc: Global, variables: &Scope, at: &[Expr]) -> Result<Vec<Dim>, NoMemory>
-    requires { AreSmall (expressions_of at.now) }
+    requires { EachExpression IsSmall (expressions_of at.now) }
     ensures { IfOk result (λ dims. dims.items ≡ map Index (affines_of variables.now (expressions_of at.now))) }
 {
     let mut dims = Vec::with_capacity(alloc, at.len())?;
@@ -38,7 +39,7 @@ pub(crate) fn element_link(
     at: &[Expr],
     resolution: Option<Resolution>,
 ) -> Result<Link, NoMemory>
-    requires { AreSmall (expressions_of at.now) }
+    requires { EachExpression IsSmall (expressions_of at.now) }
     ensures { IfOk result (λ link. link ≡ definition.element_link (table_of names.now) (string_bytes connector) name.now (expressions_of at.now) resolution) }
 {
     let dims = indices(alloc, &names.variables, at)?;

@@ -1,5 +1,6 @@
 ghost use Rattle.std.specs.Prelude.{◌≡◌, [], ◌∷◌, string_bytes, OnOk};
-ghost use Rattle.sd_elab.specs.Names.{in_force, number_or};
+ghost use Rattle.sd_program.specs.Names.{in_force};
+ghost use Rattle.sd_elab.specs.Names.{number_or};
 ghost use Rattle.sd_elab.specs.Stack.{stacked};
 
 use sd_list::NoMemory;
@@ -14,7 +15,7 @@ pub(crate) struct Scope {
 
 impl Model for Scope {
     ghost use Rattle.std.specs.Prelude.{ℕ};
-    ghost use Rattle.sd_elab.specs.Names.{Named};
+    ghost use Rattle.sd_program.specs.Names.{Named};
     ghost use Rattle.sd_elab.specs.Stack.{stacked};
 
     ghost Value = { Named ℕ };

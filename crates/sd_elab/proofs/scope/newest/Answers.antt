@@ -1,7 +1,7 @@
 use Rattle.std.proofs.Common.{◌≡◌, ◌+◌, ◌∙◌, ap, sym, rules, cond, bytes_eq, string_bytes, Some, take, length, ℕ, String}
 use Rattle.std.specs.declared.alloc.Global.{Global}
 use Rattle.std.proofs.lemmas.List.{take_more}
-use Rattle.sd_elab.specs.Names.{in_force}
+use Rattle.sd_program.specs.Names.{in_force}
 use Rattle.sd_elab.specs.Stack.{stacked}
 use Rattle.sd_elab.proofs.ScopeLemmas.{in_force_grown}
 use Rattle.sd_elab.proofs.scope.newest.Goals as goal

@@ -1,5 +1,5 @@
 use Rattle.std.proofs.Common.{◌≡◌, take}
-use Rattle.sd_elab.specs.Names.{in_force}
+use Rattle.sd_program.specs.Names.{in_force}
 use Rattle.sd_elab.specs.Stack.{stacked}
 use Rattle.sd_elab.proofs.scope.newest.Given as goal
 
