@@ -1,4 +1,9 @@
 pub mod AffineLemmas
+pub mod BuildingLemmas
+pub mod CountLemmas
+pub mod ExtentLemmas
 pub mod ScopeLemmas
 pub mod SmallLemmas
+pub mod SubsetLemmas
+pub mod ThreadedLemmas
 pub mod examples

@@ -30,6 +30,6 @@ back_to state set = record { to = state; back = true; when = None; set = set }
 abbrev pub below : Table → (line : ℕ) → (name : Name) → (end : Expression) → GuardTree
 below table line name end = guard_of table line (two Less (named name) end)
 
--- a loop variable and its step, which is 1 where none is written
+-- a loop variable plus its step, which is 1 where none is written
 abbrev pub stepped_on : (variable : ℕ) → Option ℤ → Affine
-stepped_on variable step = affine_sum (affine_variable variable) (affine_number (unwrap_or step (pos 1)))
+stepped_on variable step = record { constant = unwrap_or step (pos 1); terms = (variable, pos 1) ∷ [] }

@@ -19,3 +19,6 @@ pub mod Elaboration
 pub mod Stack
 pub mod TableOf
 pub mod Exact
+pub mod SmallExtents
+pub mod Threaded
+pub mod BuildingOf

@@ -28,12 +28,12 @@ module _ (graphs : Name → GraphTree) where
     chained (while_loop line when body) at items rest =
         (items, plainly at.state ∷ [])
         ∷ (no_item, if_holds (guard_of at.table line when) (at.state + 1) ∷ plainly (at.state + 1 + 1 + states_in_all body) ∷ [])
-        ∷ chained_all body (state_behind (state_behind at)) no_item (back_to at.state [] ∷ []) ++ rest no_item
+        ∷ (chained_all body (state_behind (state_behind at)) no_item (back_to at.state [] ∷ []) ++ rest no_item)
     chained (for_loop line name begin end step body) at items rest =
         let inside : Standing = with_loop_variable name (state_behind (state_behind at)) in
         (items, setting at.state at.variable (affine_or affine_zero at.table.variables begin) ∷ [])
         ∷ (no_item, if_holds (below inside.table line name end) (at.state + 1) ∷ plainly (at.state + 1 + 1 + states_in_all body) ∷ [])
-        ∷ chained_all body inside no_item (back_to at.state ((at.variable, stepped_on at.variable step) ∷ []) ∷ []) ++ rest no_item
+        ∷ (chained_all body inside no_item (back_to at.state ((at.variable, stepped_on at.variable step) ∷ []) ∷ []) ++ rest no_item)
     chained statement at items rest =
         (items, plainly at.state ∷ []) ∷ rest (items_with graphs statement false at.table at.container at.variable no_item)
 
@@ -48,5 +48,5 @@ module _ (graphs : Name → GraphTree) where
     chained_other (and_statement statement others) at first rest =
         let join : ℕ = at.state + 1 + (states_in statement + states_in_all others) in
         first join
-        ++ chained statement (state_behind at) no_item (λ items. chained_all others (behind statement (state_behind at)) items (plainly join ∷ []))
-        ++ rest no_item
+        ++ (chained statement (state_behind at) no_item (λ items. chained_all others (behind statement (state_behind at)) items (plainly join ∷ []))
+        ++ rest no_item)

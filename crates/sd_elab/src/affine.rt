@@ -1,9 +1,9 @@
 ghost use Rattle.std.specs.Prelude.{◌≡◌, IfOk};
 ghost use Rattle.sd_range.specs.Arithmetic.{IsRepresentable};
 ghost use Rattle.sd_lex.specs.TreeFold.{expression_of, expressions_of};
-ghost use Rattle.sd_program.specs.Affines.{affine_of, affines_of, affine_one, affine_two, product_of};
+ghost use Rattle.sd_program.specs.Affines.{affine_number, affine_of, affines_of, affine_one, affine_two, product_of};
 ghost use Rattle.sd_program.specs.Bounds.{EachExpression};
-ghost use Rattle.sd_program.specs.Small.{IsSmall};
+ghost use Rattle.sd_program.specs.Small.{IsSmall, IsWithinLimits};
 ghost use Rattle.sd_elab.specs.Exact.{IsExact};
 
 use crate::scope::Scope;
@@ -11,6 +11,13 @@ use sd_lex::{Expr, OneSign, TwoSign};
 use sd_list::NoMemory;
 use sd_range::Affine;
 use std::alloc::Global;
+
+/// A number as an expression.
+pub(crate) fn number(alloc: Global, value: i128) -> Affine
+    ensures { result ≡ affine_number value }
+{
+    Affine::constant(alloc, value)
+}
 
 /// The product of two expressions, one of which has no variable.
 fn product(alloc: Global, left: &Affine, right: &Affine) -> Result<Affine, NoMemory>
@@ -78,14 +85,15 @@ fn exact(alloc: Global, variables: &Scope, expression: &Expr) -> Result<Affine, 
 }
 
 /// An affine expression by the numbers of its variables.
-#[tactic(auto, using(crate::proofs::SmallLemmas::exact_from_small))]
+#[tactic(auto, using(crate::proofs::SmallLemmas::exact_from_small, crate::proofs::SmallLemmas::within_from_small))]
 pub(crate) fn affine(
     alloc: Global,
     variables: &Scope,
     expression: &Expr,
 ) -> Result<Affine, NoMemory>
     requires { IsSmall (expression_of expression.now) }
-    ensures { IfOk result (λ affine. affine ≡ affine_of variables.now (expression_of expression.now)) }
+    ensures affine { IfOk result (λ affine. affine ≡ affine_of variables.now (expression_of expression.now)) }
+    ensures within { IfOk result (λ affine. IsWithinLimits affine) }
 {
     exact(alloc, variables, expression)
 }

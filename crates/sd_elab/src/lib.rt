@@ -2,10 +2,15 @@
 #![tactic(auto)]
 
 mod affine;
+mod building;
+mod count;
 mod element;
+mod exit;
 mod link;
 mod names;
 mod operator;
+mod range;
 mod scope;
+mod subset;
 mod task;
 mod used;

@@ -1,7 +1,7 @@
 ghost use Rattle.std.specs.Prelude.{◌≡◌, [], ◌∷◌, string_bytes, OnOk};
 ghost use Rattle.sd_program.specs.Names.{in_force};
 ghost use Rattle.sd_elab.specs.Names.{number_or};
-ghost use Rattle.sd_elab.specs.Stack.{stacked};
+ghost use Rattle.sd_elab.specs.Stack.{stacked, without_newest};
 
 use sd_list::NoMemory;
 use std::alloc::Global;
@@ -40,6 +40,14 @@ impl Scope {
     {
         self.entries.push((name, number))?;
         Ok(())
+    }
+
+    /// Without the newest name, if there is one.
+    #[tactic(auto, using(crate::proofs::ScopeLemmas::stacked_grown))]
+    pub(crate) fn pop(&mut self)
+        ensures { self.new ≡ without_newest self.old }
+    {
+        self.entries.pop();
     }
 
     /// The number of a name.

@@ -1,0 +1,62 @@
+-- The states of statements, made one after another: those that are finished, and the items of the current one.
+use Rattle.std.specs.Prelude.{ℕ, ◌+◌, List, [], ◌∷◌, ◌++◌, false}
+use Rattle.sd_lex.specs.PlainTree.{StatementTree, argument_array, local_array, local_stream, for_loop, while_loop, branch, Block, no_statement, and_statement}
+use Rattle.sd_range.specs.Arithmetic.{affine_zero}
+use Rattle.sd_graph.specs.PlainTree.{ItemTrees, no_item, ExitTree, GraphTree}
+use Rattle.sd_graph.specs.TreeFold.{PlainState}
+use Rattle.sd_program.specs.Names.{Name}
+use Rattle.sd_program.specs.Declared.{states_in, states_in_all}
+use Rattle.sd_elab.specs.Ranges.{affine_or}
+use Rattle.sd_elab.specs.ElementCode.{guard_of}
+use Rattle.sd_elab.specs.Items.{items_with}
+use Rattle.sd_elab.specs.Exits.{plainly, setting, if_holds, back_to, below, stepped_on}
+use Rattle.sd_elab.specs.Standing.{Standing, behind, behind_all, state_behind, with_loop_variable}
+
+pub record Threaded : Type 0 where
+  pub finished : List PlainState
+  pub items : ItemTrees
+
+-- the current state has these exits; the next one has no item
+abbrev pub closed : Threaded → List ExitTree → Threaded
+closed t exits = record { finished = t.finished ++ (t.items, exits) ∷ []; items = no_item }
+
+-- the current state has these items
+abbrev pub holding : Threaded → ItemTrees → Threaded
+holding t items = record { finished = t.finished; items = items }
+
+module _ (graphs : Name → GraphTree) where
+
+  abbrev mutual
+    pub threaded : StatementTree → Standing → Threaded → Threaded
+    threaded (argument_array line name bits extents) at t = t
+    threaded (local_array line name extents bits) at t = t
+    threaded (local_stream line name bits size) at t = t
+    threaded (branch line when body other) at t =
+        threaded_other other (behind_all body (state_behind at))
+        (threaded_all body (state_behind at) (closed t (if_holds (guard_of at.table line when) at.state ∷ plainly (at.state + 1 + states_in_all body) ∷ [])))
+    threaded (while_loop line when body) at t =
+        closed
+        (threaded_all body (state_behind (state_behind at))
+        (closed (closed t (plainly at.state ∷ [])) (if_holds (guard_of at.table line when) (at.state + 1) ∷ plainly (at.state + 1 + 1 + states_in_all body) ∷ [])))
+        (back_to at.state [] ∷ [])
+    threaded (for_loop line name begin end step body) at t =
+        let inside : Standing = with_loop_variable name (state_behind (state_behind at)) in
+        closed
+        (threaded_all body inside
+        (closed (closed t (setting at.state at.variable (affine_or affine_zero at.table.variables begin) ∷ []))
+        (if_holds (below inside.table line name end) (at.state + 1) ∷ plainly (at.state + 1 + 1 + states_in_all body) ∷ [])))
+        (back_to at.state ((at.variable, stepped_on at.variable step) ∷ []) ∷ [])
+    threaded statement at t = holding (closed t (plainly at.state ∷ [])) (items_with graphs statement false at.table at.container at.variable no_item)
+
+    pub threaded_all : Block → Standing → Threaded → Threaded
+    threaded_all no_statement at t = t
+    threaded_all (and_statement first rest) at t = threaded_all rest (behind first at) (threaded first at t)
+
+    -- behind the first block of an `if`
+    pub threaded_other : Block → Standing → Threaded → Threaded
+    threaded_other no_statement at t = closed t (plainly at.state ∷ [])
+    threaded_other (and_statement statement others) at t =
+        let join : ℕ = at.state + 1 + (states_in statement + states_in_all others) in
+        closed
+        (threaded_all others (behind statement (state_behind at)) (threaded statement (state_behind at) (closed t (plainly join ∷ []))))
+        (plainly join ∷ [])
