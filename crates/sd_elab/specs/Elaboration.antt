@@ -4,7 +4,6 @@ use Rattle.sd_lex.specs.PlainTree.{argument_array, Block, no_statement, and_stat
 use Rattle.sd_graph.specs.PlainTree.{no_item, no_state, GraphTree, graph}
 use Rattle.sd_graph.specs.TreeFold.{states_listed}
 use Rattle.sd_program.specs.Names.{Name, Named, in_force}
-use Rattle.sd_elab.specs.Names.{numbered}
 use Rattle.sd_elab.specs.Table.{Table, with_container, with_variables}
 use Rattle.sd_program.specs.Declared.{containers_in_all}
 use Rattle.sd_elab.specs.Declarations.{variable_names_all, declared_names_all, Containers, containers_with_all}
@@ -19,7 +18,7 @@ table_of_arguments (and_statement statement rest) next table = table_of_argument
 
 -- the size symbols are in force, as the first variables
 abbrev pub table_of_symbols : (symbols : List Name) → Containers → Table
-table_of_symbols symbols containers = with_variables (numbered symbols 0) (record { containers = []; variables = []; all = containers })
+table_of_symbols symbols containers = with_variables symbols 0 (record { containers = []; variables = []; all = containers })
 
 -- all containers of a program, the arguments first
 abbrev pub containers_of_function : (symbols : List Name) → FunctionTree → Containers

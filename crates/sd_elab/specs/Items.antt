@@ -10,7 +10,6 @@ use Rattle.sd_graph.specs.TreeParts.{containers_of}
 use Rattle.sd_graph.specs.declared.container.Container.{Container}
 use Rattle.sd_graph.specs.declared.link.Link.{Link}
 use Rattle.sd_program.specs.Names.{Name}
-use Rattle.sd_elab.specs.Names.{numbered}
 use Rattle.sd_elab.specs.Ranges.{parameters_of}
 use Rattle.sd_elab.specs.Table.{Table, with_container, with_variables, container_number}
 use Rattle.sd_elab.specs.Links.{link_to, subset_link, resolution_of}
@@ -43,7 +42,7 @@ module _ (graphs : Name → GraphTree) where
     items_with (map_scope line parameters ranges body) in_scope table container variable rest =
         plain.and_item line
         (plain.map_scope (parameters_of table.variables ranges variable) (own_of body container)
-        (items_of_body body (with_variables (numbered parameters variable) table) container (variable + length parameters)))
+        (items_of_body body (with_variables parameters variable table) container (variable + length parameters)))
         rest
     items_with (tasklet line body) in_scope table container variable rest = plain.and_item line (tasklet_item table body) rest
     items_with (consume_scope line stream size name element worker body) in_scope table container variable rest =

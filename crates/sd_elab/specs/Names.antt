@@ -6,7 +6,7 @@ use Rattle.sd_program.specs.Names.{Name, Named, in_force}
 abbrev pub number_or : ℕ → Named ℕ → Name → ℕ
 number_or other names name = unwrap_or (in_force names name) other
 
--- names with their numbers, the first with this one
-abbrev pub numbered : List Name → ℕ → Named ℕ
-numbered [] next = []
-numbered (name ∷ names) next = (name, next) ∷ numbered names (next + 1)
+-- more names in force, the last one the newest; the first has this number
+abbrev pub with_numbered : List Name → (next : ℕ) → Named ℕ → Named ℕ
+with_numbered [] next known = known
+with_numbered (name ∷ names) next known = with_numbered names (next + 1) ((name, next) ∷ known)

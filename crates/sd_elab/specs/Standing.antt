@@ -40,4 +40,4 @@ state_behind at = record { state = at.state + 1; container = at.container; varia
 -- one more variable, in force by this name
 abbrev pub with_loop_variable : Name → Standing → Standing
 with_loop_variable name at =
-    record { state = at.state; container = at.container; variable = at.variable + 1; table = with_variables ((name, at.variable) ∷ []) at.table }
+    record { state = at.state; container = at.container; variable = at.variable + 1; table = with_variables (name ∷ []) at.variable at.table }

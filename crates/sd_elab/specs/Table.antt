@@ -3,7 +3,7 @@ use Rattle.std.specs.Prelude.{ℕ, zero, suc, List, [], ◌∷◌}
 use Rattle.sd_range.specs.declared.affine.Affine.{Affine}
 use Rattle.sd_graph.specs.declared.container.Container.{Container}
 use Rattle.sd_program.specs.Names.{Name, Named}
-use Rattle.sd_elab.specs.Names.{number_or}
+use Rattle.sd_elab.specs.Names.{number_or, with_numbered}
 
 pub record Table : Type 0 where
   -- the containers and the variables in force
@@ -16,10 +16,9 @@ pub record Table : Type 0 where
 abbrev pub with_container : Name → ℕ → Table → Table
 with_container name container table = record { containers = (name, container) ∷ table.containers; variables = table.variables; all = table.all }
 
--- more variables are in force, the last one the newest
-abbrev pub with_variables : Named ℕ → Table → Table
-with_variables [] table = table
-with_variables (entry ∷ entries) table = with_variables entries (record { containers = table.containers; variables = entry ∷ table.variables; all = table.all })
+-- more variables are in force, the first with this number
+abbrev pub with_variables : List Name → (next : ℕ) → Table → Table
+with_variables names next table = record { containers = table.containers; variables = with_numbered names next table.variables; all = table.all }
 
 -- the number of a container
 abbrev pub container_number : Table → Name → ℕ

@@ -4,7 +4,7 @@ use Rattle.sd_lex.specs.PlainTree.{StatementTree, input, output, Block, no_state
 use Rattle.sd_graph.specs.PlainTree.{KindTree, task}
 use Rattle.sd_graph.specs.declared.link.Link.{Link}
 use Rattle.sd_program.specs.Names.{Named}
-use Rattle.sd_elab.specs.Names.{numbered}
+use Rattle.sd_elab.specs.Names.{with_numbered}
 use Rattle.sd_elab.specs.Table.{Table}
 use Rattle.sd_elab.specs.Links.{memlet_link, ports_of}
 use Rattle.sd_elab.specs.TaskletCode.{used_acts_all, next_behind_all, acts_of}
@@ -27,9 +27,9 @@ abbrev pub outputs_of : Table → Block → List Link
 outputs_of table no_statement = []
 outputs_of table (and_statement first rest) = output_before table first (outputs_of table rest)
 
--- connectors by name, the first with this number
+-- connectors as names in force, the first with this number
 abbrev pub connectors_from : (next : ℕ) → List Link → Named ℕ
-connectors_from next links = numbered (map (λ link. link.connector) links) next
+connectors_from next links = with_numbered (map (λ link. link.connector) links) next []
 
 -- a tasklet with these links: its inputs are numbered first, then its outputs
 abbrev pub task_with : Table → (ins outs : List Link) → Block → KindTree

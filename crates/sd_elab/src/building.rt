@@ -1,19 +1,28 @@
-ghost use Rattle.std.specs.Prelude.{◌≡◌, ◌+◌, [], ◌∷◌, map, IfOk, OnOk};
+ghost use Rattle.std.specs.Prelude.{◌≡◌, ◌+◌, [], ◌∷◌, map, option_map, IfOk, OnOk};
 ghost use Rattle.sd_graph.specs.PlainTree.{and_item, no_item};
-ghost use Rattle.sd_graph.specs.TreeFold.{exit_tree, kind_tree};
+ghost use Rattle.sd_graph.specs.TreeFold.{exit_tree, guard_tree, kind_tree};
 ghost use Rattle.sd_graph.specs.TreeParts.{with_item};
-ghost use Rattle.sd_lex.specs.TreeFold.{block_of};
+ghost use Rattle.sd_lex.specs.TreeFold.{block_of, expression_of};
+ghost use Rattle.sd_program.specs.Bounds.{EachSubscript, IfWritten};
 ghost use Rattle.sd_program.specs.Declared.{states_in_all};
+ghost use Rattle.sd_program.specs.Small.{IsSmall};
+ghost use Rattle.sd_range.specs.Arithmetic.{affine_zero};
 ghost use Rattle.sd_elab.specs.BuildingOf.{threaded_of, standing_of, declared, without_loop_variable};
+ghost use Rattle.sd_elab.specs.ElementCode.{guard_of};
 ghost use Rattle.sd_elab.specs.Exits as exits;
+ghost use Rattle.sd_elab.specs.Ranges.{affine_or};
 ghost use Rattle.sd_elab.specs.Standing.{state_behind, with_loop_variable};
+ghost use Rattle.sd_elab.specs.TableOf.{table_of};
 ghost use Rattle.sd_elab.specs.Threaded.{closed, holding};
 
+use crate::affine::number;
 use crate::count::{more, states_in_all};
-use crate::exit::{back_to, plainly};
+use crate::exit::{back_to, if_holds, plainly, setting, step_back};
 use crate::names::Names;
-use sd_graph::{Exit, Item, ItemKind, State};
-use sd_lex::Statement;
+use crate::range::affine_or;
+use crate::task::{guard, guard_below};
+use sd_graph::{Exit, Guard, Item, ItemKind, State};
+use sd_lex::{Expr, Statement};
 use sd_list::NoMemory;
 use std::alloc::Global;
 
@@ -128,5 +137,88 @@ impl Building {
         let join = more(more(self.state, 1)?, states_in_all(other)?)?;
         self.close_to(alloc, join)?;
         Ok(join)
+    }
+
+    /// The current state goes on to a block where a condition holds, else behind the block.
+    fn close_if(
+        &mut self,
+        alloc: Global,
+        guard: Guard,
+        body: &[Statement],
+    ) -> Result<(), NoMemory>
+        ensures threaded { OnOk result (threaded_of self.new ≡ closed (threaded_of self.old) (exits.if_holds (guard_tree guard) (standing_of self.old).state ∷ exits.plainly ((standing_of self.old).state + 1 + states_in_all (block_of body.now)) ∷ [])) }
+        ensures standing { OnOk result (standing_of self.new ≡ state_behind (standing_of self.old)) }
+    {
+        let first = self.state;
+        let behind = more(more(first, 1)?, states_in_all(body)?)?;
+        self.close(
+            alloc,
+            vec![in alloc; if_holds(alloc, guard, first), plainly(alloc, behind)]?,
+        )
+    }
+
+    /// The same, where an expression is not 0.
+    pub(crate) fn branch_to(
+        &mut self,
+        alloc: Global,
+        line: u32,
+        when: &Expr,
+        body: &[Statement],
+    ) -> Result<(), NoMemory>
+        requires { EachSubscript IsSmall (expression_of when.now) }
+        ensures threaded { OnOk result (threaded_of self.new ≡ closed (threaded_of self.old) (exits.if_holds (guard_of (table_of self.old.names) line (expression_of when.now)) (standing_of self.old).state ∷ exits.plainly ((standing_of self.old).state + 1 + states_in_all (block_of body.now)) ∷ [])) }
+        ensures standing { OnOk result (standing_of self.new ≡ state_behind (standing_of self.old)) }
+    {
+        let guard = guard(alloc, &self.names, line, when)?;
+        self.close_if(alloc, guard, body)
+    }
+
+    /// The same, where a loop variable is below an end.
+    pub(crate) fn loop_to(
+        &mut self,
+        alloc: Global,
+        line: u32,
+        name: &str,
+        end: &Expr,
+        body: &[Statement],
+    ) -> Result<(), NoMemory>
+        requires { EachSubscript IsSmall (expression_of end.now) }
+        ensures threaded { OnOk result (threaded_of self.new ≡ closed (threaded_of self.old) (exits.if_holds (exits.below (table_of self.old.names) line name.now (expression_of end.now)) (standing_of self.old).state ∷ exits.plainly ((standing_of self.old).state + 1 + states_in_all (block_of body.now)) ∷ [])) }
+        ensures standing { OnOk result (standing_of self.new ≡ state_behind (standing_of self.old)) }
+    {
+        let guard = guard_below(alloc, &self.names, line, name, end)?;
+        self.close_if(alloc, guard, body)
+    }
+
+    /// The current state goes on to a loop, and gives its variable the begin.
+    #[tactic(auto, using(crate::proofs::SmallLemmas::zero_within))]
+    pub(crate) fn begin_loop(
+        &mut self,
+        alloc: Global,
+        begin: &Option<Expr>,
+    ) -> Result<(), NoMemory>
+        requires { IfWritten IsSmall (option_map expression_of begin.now) }
+        ensures threaded { OnOk result (threaded_of self.new ≡ closed (threaded_of self.old) (exits.setting (standing_of self.old).state (standing_of self.old).variable (affine_or affine_zero (standing_of self.old).table.variables (option_map expression_of begin.now)) ∷ [])) }
+        ensures standing { OnOk result (standing_of self.new ≡ state_behind (standing_of self.old)) }
+    {
+        let zero = number(alloc, 0);
+        let begin = affine_or(alloc, &zero, &self.names.variables, begin)?;
+        let exit = setting(alloc, self.state, self.variable, begin)?;
+        self.close(alloc, vec![in alloc; exit]?)
+    }
+
+    /// The current state closes a loop and steps its variable on.
+    pub(crate) fn end_loop(
+        &mut self,
+        alloc: Global,
+        to: u32,
+        variable: u32,
+        step: Option<i64>,
+    ) -> Result<(), NoMemory>
+        ensures threaded { OnOk result (threaded_of self.new ≡ closed (threaded_of self.old) (exits.back_to to ((variable, exits.stepped_on variable step) ∷ []) ∷ [])) }
+        ensures standing { OnOk result (standing_of self.new ≡ state_behind (standing_of self.old)) }
+    {
+        let exit = step_back(alloc, to, variable, step)?;
+        self.close(alloc, vec![in alloc; exit]?)
     }
 }

@@ -14,3 +14,4 @@ mod scope;
 mod subset;
 mod task;
 mod used;
+mod variable_names;

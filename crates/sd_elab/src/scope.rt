@@ -1,6 +1,6 @@
-ghost use Rattle.std.specs.Prelude.{◌≡◌, [], ◌∷◌, string_bytes, OnOk};
+ghost use Rattle.std.specs.Prelude.{◌≡◌, [], ◌∷◌, map, string_bytes, OnOk};
 ghost use Rattle.sd_program.specs.Names.{in_force};
-ghost use Rattle.sd_elab.specs.Names.{number_or};
+ghost use Rattle.sd_elab.specs.Names.{number_or, with_numbered};
 ghost use Rattle.sd_elab.specs.Stack.{stacked, without_newest};
 
 use sd_list::NoMemory;
@@ -39,6 +39,23 @@ impl Scope {
         ensures { OnOk result (self.new ≡ (string_bytes name, number) ∷ self.old) }
     {
         self.entries.push((name, number))?;
+        Ok(())
+    }
+
+    /// More names, the last one the newest; the first has this number.
+    pub(crate) fn push_all(
+        &mut self,
+        alloc: Global,
+        names: &[String],
+        first: u32,
+    ) -> Result<(), NoMemory>
+        ensures { OnOk result (self.new ≡ with_numbered (map string_bytes names.now) first self.old) }
+    {
+        let mut next = first;
+        for name in names {
+            self.push(String::from_str(alloc, name.as_str())?, next)?;
+            next = next.checked_add(1).ok_or(NoMemory)?;
+        }
         Ok(())
     }
 
