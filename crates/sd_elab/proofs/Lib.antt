@@ -1,7 +1,9 @@
 pub mod AffineLemmas
 pub mod BuildingLemmas
+pub mod CodeLemmas
 pub mod CountLemmas
 pub mod ExtentLemmas
+pub mod ListLemmas
 pub mod ScopeLemmas
 pub mod SmallLemmas
 pub mod SubsetLemmas

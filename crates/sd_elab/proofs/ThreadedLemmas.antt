@@ -1,5 +1,5 @@
 -- The states made one after another are the chain that follows the current state.
-use Rattle.std.proofs.Common.{◌≡◌, ◌∙◌, ℕ, ◌+◌, List, [], ◌∷◌, ◌++◌, refl, ap, sym, append_assoc, pos}
+use Rattle.std.proofs.Common.{◌≡◌, ◌∙◌, ℕ, ◌+◌, List, [], ◌∷◌, ◌++◌, refl, ap, append_assoc}
 use Rattle.sd_lex.specs.PlainTree.{StatementTree, argument_array, local_array, local_stream, assign, copy, reduce, map_scope, tasklet, consume_scope, call, for_loop, while_loop, branch, input, output, set, set_at, tasklet_branch, Block, no_statement, and_statement}
 use Rattle.sd_range.specs.Arithmetic.{affine_zero}
 use Rattle.sd_graph.specs.PlainTree.{ItemTrees, no_item, ExitTree, GraphTree}
@@ -11,14 +11,13 @@ use Rattle.sd_elab.specs.ElementCode.{guard_of}
 use Rattle.sd_elab.specs.Exits.{plainly, setting, if_holds, back_to, below, stepped_on}
 use Rattle.sd_elab.specs.Standing.{Standing, behind, behind_all, state_behind, with_loop_variable}
 use Rattle.sd_elab.specs.States.{chained, chained_all, chained_other}
-use Rattle.sd_elab.specs.Threaded.{Threaded, closed, holding, threaded, threaded_all, threaded_other}
+use Rattle.sd_elab.specs.Threaded.{Threaded, closed, threaded, threaded_all, threaded_other}
 
 -- what was made so far, then one member more and the rest
 grouped : (before : List PlainState) (state : PlainState) (rest : List PlainState) → (before ++ state ∷ []) ++ rest ≡ before ++ state ∷ rest
 grouped before state rest = append_assoc before (state ∷ []) rest
 
 module _ (graphs : Name → GraphTree) where
-
   mutual
     pub one_chained : (statement : StatementTree) (at : Standing) (t : Threaded) (rest : ItemTrees → List PlainState) →
         (threaded graphs statement at t).finished ++ rest (threaded graphs statement at t).items ≡ t.finished ++ chained graphs statement at t.items rest

@@ -1,7 +1,7 @@
 -- What the code has made so far.
-use Rattle.std.specs.Prelude.{◌+◌, List, [], ◌∷◌, map}
+use Rattle.std.specs.Prelude.{◌+◌, map}
 use Rattle.sd_graph.specs.TreeFold.{state_tree, item_trees}
-use Rattle.sd_program.specs.Names.{Name, Named}
+use Rattle.sd_program.specs.Names.{Name}
 use Rattle.sd_elab.specs.Stack.{without_newest}
 use Rattle.sd_elab.specs.Table.{with_container}
 use Rattle.sd_elab.specs.Standing.{Standing}

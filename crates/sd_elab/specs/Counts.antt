@@ -1,6 +1,6 @@
 -- How many variables a statement declares, in the blocks below it too.
 use Rattle.std.specs.Prelude.{ℕ, ◌+◌, length}
-use Rattle.sd_lex.specs.PlainTree.{StatementTree, argument_array, local_array, local_stream, map_scope, consume_scope, for_loop, while_loop, branch, Block, no_statement, and_statement}
+use Rattle.sd_lex.specs.PlainTree.{StatementTree, map_scope, consume_scope, for_loop, while_loop, branch, Block, no_statement, and_statement}
 
 -- the parameters of maps, and loop variables
 abbrev mutual

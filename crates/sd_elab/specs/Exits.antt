@@ -2,11 +2,9 @@
 use Rattle.std.specs.Prelude.{ℕ, ℤ, pos, List, [], ◌∷◌, Option, Some, None, true, false, unwrap_or}
 use Rattle.sd_lex.specs.PlainTree.{Expression, named, two}
 use Rattle.sd_lex.specs.declared.syntax.operator.TwoSign.TheVariants.{Less}
-use Rattle.sd_range.specs.Arithmetic.{affine_sum}
 use Rattle.sd_range.specs.declared.affine.Affine.{Affine}
 use Rattle.sd_graph.specs.PlainTree.{GuardTree, ExitTree}
 use Rattle.sd_program.specs.Names.{Name}
-use Rattle.sd_program.specs.Affines.{affine_number, affine_variable}
 use Rattle.sd_elab.specs.Table.{Table}
 use Rattle.sd_elab.specs.ElementCode.{guard_of}
 

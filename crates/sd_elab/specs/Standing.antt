@@ -1,6 +1,6 @@
 -- Where the elaboration of a program's block stands.
 use Rattle.std.specs.Prelude.{ℕ, ◌+◌, [], ◌∷◌}
-use Rattle.sd_lex.specs.PlainTree.{StatementTree, argument_array, local_array, local_stream, for_loop, while_loop, branch, Block, no_statement, and_statement}
+use Rattle.sd_lex.specs.PlainTree.{StatementTree, Block}
 use Rattle.sd_program.specs.Names.{Name}
 use Rattle.sd_program.specs.Declared.{states_in, states_in_all}
 use Rattle.sd_elab.specs.Table.{Table, with_variables}

@@ -25,6 +25,11 @@ abbrev pub assigned : (connector : Option ℕ) → (local : ℕ) → ValueTree �
 assigned (Some connector) local value = plain.assign connector plain.no_value value
 assigned None local value = plain.set_local local value
 
+-- the code of a line, if it has any, before that of the lines behind it
+abbrev pub followed_by : Option ActTree → ActTrees → ActTrees
+followed_by None rest = rest
+followed_by (Some act) rest = plain.and_act act rest
+
 -- the variables in force, and the tasklet's inputs and outputs
 module _ (variables ins outs : Named ℕ) where
   -- a name is that of an output connector or of a local in force
@@ -92,14 +97,15 @@ module _ (variables ins outs : Named ℕ) where
       task_values locals (and_expression first rest) = plain.and_value (task_value locals first) (task_values locals rest)
 
     abbrev mutual
-      -- the code of a line, before this
-      pub acts_with : StatementTree → Named ℕ → (next : ℕ) → ActTrees → ActTrees
-      acts_with (set line name value) locals next rest = plain.and_act (assigned (in_force outs name) (number_or next locals name) (task_value locals value)) rest
-      acts_with (set_at line name at value) locals next rest = plain.and_act (plain.assign (number_or 0 outs name) (task_values locals at) (task_value locals value)) rest
-      acts_with (tasklet_branch line when body other) locals next rest =
-          plain.and_act (plain.branch (task_value locals when) (acts_of body locals next) (acts_of other locals (next_behind_all body locals next))) rest
-      acts_with statement locals next rest = rest
+      -- the code of a line; a line that declares a connector has none
+      pub act_of : StatementTree → Named ℕ → (next : ℕ) → Option ActTree
+      act_of (set line name value) locals next = Some (assigned (in_force outs name) (number_or next locals name) (task_value locals value))
+      act_of (set_at line name at value) locals next = Some (plain.assign (number_or 0 outs name) (task_values locals at) (task_value locals value))
+      act_of (tasklet_branch line when body other) locals next =
+          Some (plain.branch (task_value locals when) (acts_of body locals next) (acts_of other locals (next_behind_all body locals next)))
+      act_of statement locals next = None
 
+      -- the code of a block
       pub acts_of : Block → Named ℕ → (next : ℕ) → ActTrees
       acts_of no_statement locals next = plain.no_act
-      acts_of (and_statement first rest) locals next = acts_with first locals next (acts_of rest (locals_behind first locals next) (next_behind first locals next))
+      acts_of (and_statement first rest) locals next = followed_by (act_of first locals next) (acts_of rest (locals_behind first locals next) (next_behind first locals next))

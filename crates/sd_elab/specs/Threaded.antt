@@ -25,7 +25,6 @@ abbrev pub holding : Threaded → ItemTrees → Threaded
 holding t items = record { finished = t.finished; items = items }
 
 module _ (graphs : Name → GraphTree) where
-
   abbrev mutual
     pub threaded : StatementTree → Standing → Threaded → Threaded
     threaded (argument_array line name bits extents) at t = t

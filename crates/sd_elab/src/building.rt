@@ -125,11 +125,7 @@ impl Building {
     }
 
     /// The last state of a block goes on behind the `else` that follows; the number of that state.
-    pub(crate) fn else_to(
-        &mut self,
-        alloc: Global,
-        other: &[Statement],
-    ) -> Result<u32, NoMemory>
+    pub(crate) fn else_to(&mut self, alloc: Global, other: &[Statement]) -> Result<u32, NoMemory>
         ensures join { IfOk result (λ join. join ≡ (standing_of self.old).state + 1 + states_in_all (block_of other.now)) }
         ensures threaded { OnOk result (threaded_of self.new ≡ closed (threaded_of self.old) (exits.plainly ((standing_of self.old).state + 1 + states_in_all (block_of other.now)) ∷ [])) }
         ensures standing { OnOk result (standing_of self.new ≡ state_behind (standing_of self.old)) }
@@ -140,12 +136,7 @@ impl Building {
     }
 
     /// The current state goes on to a block where a condition holds, else behind the block.
-    fn close_if(
-        &mut self,
-        alloc: Global,
-        guard: Guard,
-        body: &[Statement],
-    ) -> Result<(), NoMemory>
+    fn close_if(&mut self, alloc: Global, guard: Guard, body: &[Statement]) -> Result<(), NoMemory>
         ensures threaded { OnOk result (threaded_of self.new ≡ closed (threaded_of self.old) (exits.if_holds (guard_tree guard) (standing_of self.old).state ∷ exits.plainly ((standing_of self.old).state + 1 + states_in_all (block_of body.now)) ∷ [])) }
         ensures standing { OnOk result (standing_of self.new ≡ state_behind (standing_of self.old)) }
     {
@@ -192,11 +183,7 @@ impl Building {
 
     /// The current state goes on to a loop, and gives its variable the begin.
     #[tactic(auto, using(crate::proofs::SmallLemmas::zero_within))]
-    pub(crate) fn begin_loop(
-        &mut self,
-        alloc: Global,
-        begin: &Option<Expr>,
-    ) -> Result<(), NoMemory>
+    pub(crate) fn begin_loop(&mut self, alloc: Global, begin: &Option<Expr>) -> Result<(), NoMemory>
         requires { IfWritten IsSmall (option_map expression_of begin.now) }
         ensures threaded { OnOk result (threaded_of self.new ≡ closed (threaded_of self.old) (exits.setting (standing_of self.old).state (standing_of self.old).variable (affine_or affine_zero (standing_of self.old).table.variables (option_map expression_of begin.now)) ∷ [])) }
         ensures standing { OnOk result (standing_of self.new ≡ state_behind (standing_of self.old)) }

@@ -38,14 +38,7 @@ pub(crate) fn push_links(
         Expr::Number(_) | Expr::Name(_) => Ok(()),
         Expr::Element { name, at } => {
             let connector = input_name(alloc, links.len())?;
-            links.push(element_link(
-                alloc,
-                names,
-                connector,
-                name.as_str(),
-                at,
-                None,
-            )?)?;
+            links.push(element_link(alloc, names, connector, name.as_str(), at, None)?)?;
             Ok(())
         }
         Expr::One { of, .. } => push_links(alloc, names, links, of),

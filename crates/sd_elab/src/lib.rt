@@ -1,4 +1,9 @@
 //! The graph of a program.
+//!
+//! `graph_of` (`Elaboration.antt`) is the graph of a plain syntax tree, one rule for each form. The
+//! code has its parts so far, each exactly as it is defined: names in force, affine expressions, ranges,
+//! subsets, links, the code of elements and of a tasklet's expressions, transitions, and the states of
+//! loops and branches (`Threaded.antt`, which is shown to be `States.antt`). No call makes a whole graph yet.
 #![tactic(auto)]
 
 mod affine;
@@ -13,5 +18,7 @@ mod range;
 mod scope;
 mod subset;
 mod task;
+mod tasklet_names;
+mod tasklet_value;
 mod used;
 mod variable_names;

@@ -39,4 +39,3 @@ pub(crate) fn two_sign(sign: sd_lex::TwoSign) -> TwoSign
         sd_lex::TwoSign::Max => TwoSign::Max,
     }
 }
-

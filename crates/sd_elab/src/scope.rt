@@ -1,7 +1,7 @@
-ghost use Rattle.std.specs.Prelude.{◌≡◌, [], ◌∷◌, map, string_bytes, OnOk};
+ghost use Rattle.std.specs.Prelude.{◌≡◌, [], ◌∷◌, length, map, string_bytes, OnOk};
 ghost use Rattle.sd_program.specs.Names.{in_force};
 ghost use Rattle.sd_elab.specs.Names.{number_or, with_numbered};
-ghost use Rattle.sd_elab.specs.Stack.{stacked, without_newest};
+ghost use Rattle.sd_elab.specs.Stack.{stacked, without_newest, oldest};
 
 use sd_list::NoMemory;
 use std::alloc::Global;
@@ -57,6 +57,22 @@ impl Scope {
             next = next.checked_add(1).ok_or(NoMemory)?;
         }
         Ok(())
+    }
+
+    /// How many names there are, those that a newer one hides too.
+    #[tactic(auto, using(crate::proofs::ScopeLemmas::stacked_length))]
+    pub(crate) fn len(&self) -> usize
+        ensures { result ≡ length self.now }
+    {
+        self.entries.len()
+    }
+
+    /// The oldest names alone, so many.
+    #[tactic(auto, using(crate::proofs::ScopeLemmas::stacked_oldest))]
+    pub(crate) fn truncate(&mut self, count: usize)
+        ensures { self.new ≡ oldest count self.old }
+    {
+        self.entries.truncate(count);
     }
 
     /// Without the newest name, if there is one.

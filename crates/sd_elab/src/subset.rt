@@ -20,12 +20,7 @@ pub(crate) fn whole(alloc: Global, extents: &[Affine]) -> Result<Vec<Dim>, NoMem
 {
     let mut dims = Vec::with_capacity(alloc, extents.len())?;
     for extent in extents {
-        dims.push(Dim::Span(range_between(
-            alloc,
-            number(alloc, 0),
-            extent,
-            None,
-        )?))?;
+        dims.push(Dim::Span(range_between(alloc, number(alloc, 0), extent, None)?))?;
     }
     Ok(dims)
 }
@@ -43,12 +38,7 @@ fn first_element(alloc: Global, extents: &[Affine]) -> Result<Vec<Dim>, NoMemory
 
 /// One dimension: an end that is left out is the extent.
 #[tactic(auto, using(crate::proofs::SmallLemmas::zero_within))]
-fn dim(
-    alloc: Global,
-    variables: &Scope,
-    slot: &Slot,
-    extent: &Affine,
-) -> Result<Dim, NoMemory>
+fn dim(alloc: Global, variables: &Scope, slot: &Slot, extent: &Affine) -> Result<Dim, NoMemory>
     requires small { EachEnd IsSmall (dimension_of slot.now) }
     requires within { IsWithinLimits extent.now }
     ensures { IfOk result (λ dim. dim ≡ definition.dim_of variables.now (dimension_of slot.now) extent.now) }

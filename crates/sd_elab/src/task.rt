@@ -33,17 +33,21 @@ fn given_out(
     let connector = u32::try_from(links.len()).map_err(|_| NoMemory)?;
     Ok(Tasklet {
         ins: ports(alloc, links)?,
-        outs: vec![in alloc; Port {
-            connector: Text::from(String::from_str(alloc, "_out")?),
-            dims: 0,
-        }]?,
+        outs: vec![in alloc;
+            Port {
+                connector: Text::from(String::from_str(alloc, "_out")?),
+                dims: 0,
+            },
+        ]?,
         variables: used.as_slice().to_vec(alloc)?,
         locals: 0,
-        body: vec![in alloc; Act::Out {
-            connector,
-            at: Vec::new(alloc),
-            value,
-        }]?,
+        body: vec![in alloc;
+            Act::Out {
+                connector,
+                at: Vec::new(alloc),
+                value,
+            },
+        ]?,
     })
 }
 
@@ -166,14 +170,7 @@ fn sum_assignment(
     ensures { IfOk result (λ kind. kind_tree kind ≡ definition.assignment (table_of names.now) name.now (expressions_of at.now) None (two TwoSign.Add (element_at name.now (expressions_of at.now)) (expression_of value.now))) }
 {
     let mut ins = Vec::new(alloc);
-    ins.push(element_link(
-        alloc,
-        names,
-        input_name(alloc, 0)?,
-        name,
-        at,
-        None,
-    )?)?;
+    ins.push(element_link(alloc, names, input_name(alloc, 0)?, name, at, None)?)?;
     push_links(alloc, names, &mut ins, value)?;
     let mut used = IndexSet::new(alloc);
     push_used(&names.variables, &mut used, value)?;

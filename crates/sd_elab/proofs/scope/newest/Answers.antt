@@ -17,9 +17,9 @@ loop-other-preserved c =
     let name = c.args.name.now in
     let test : c.eq.result ≡ bytes_eq name (string_bytes item.0) = c.eq.ensures ∙ ap (λ text. bytes_eq name text) c.as_str.ensures.value in
     let whole : in_force (stacked (take (c.loop-other.other-index + 1) entries)) name ≡ cond c.eq.result (Some item.1) rest =
-      grown ∙ ap (λ (e : String Global × ℕ). cond (bytes_eq name (string_bytes e.0)) (Some e.1) (in_force (stacked (take c.loop-other.other-index entries)) name)) (sym c.loop-other-item.is)
-      ∙ ap (λ test. cond test (Some item.1) (in_force (stacked (take c.loop-other.other-index entries)) name)) (sym test) ∙ ap (λ other. cond c.eq.result (Some item.1) other) (sym c.loop-other.invariant) in
+    grown ∙ ap (λ (e : String Global × ℕ). cond (bytes_eq name (string_bytes e.0)) (Some e.1) (in_force (stacked (take c.loop-other.other-index entries)) name)) (sym c.loop-other-item.is)
+    ∙ ap (λ test. cond test (Some item.1) (in_force (stacked (take c.loop-other.other-index entries)) name)) (sym test) ∙ ap (λ other. cond c.eq.result (Some item.1) other) (sym c.loop-other.invariant) in
     elim c.if-eq.branch [
-      then-eq w ↦ w.answer-is ∙ sym (whole ∙ ap (λ test. cond test (Some item.1) rest) w.if-eq.true)
-    | else-eq w ↦ w.answer-is ∙ sym (whole ∙ ap (λ test. cond test (Some item.1) rest) w.if-eq.false)
+      | then-eq w ↦ w.answer-is ∙ sym (whole ∙ ap (λ test. cond test (Some item.1) rest) w.if-eq.true)
+      | else-eq w ↦ w.answer-is ∙ sym (whole ∙ ap (λ test. cond test (Some item.1) rest) w.if-eq.false)
     ]

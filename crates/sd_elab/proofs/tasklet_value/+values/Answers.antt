@@ -1,0 +1,14 @@
+use Rattle.std.proofs.Common.{rules, ◌≤◌, ◌∙◌, ap, length}
+use Rattle.sd_graph.specs.TreeFold.{values_listed}
+use Rattle.sd_lex.specs.TreeFold.{expression_of}
+use Rattle.sd_elab.specs.TaskletCode.{task_value}
+use Rattle.sd_elab.proofs.CodeLemmas.{values_mapped}
+use Rattle.sd_elab.proofs.ListLemmas.{all_mapped}
+use Rattle.sd_elab.proofs.tasklet_value.+values.Goals as goal
+
+pub values-returns : goal.values-returns
+values-returns t c =
+    let names = c.args.names.now in
+    let done : length c.args.expressions.now ≤ c.loop-expression.expression-index = search rules in
+    ap values_listed (all_mapped (λ e. task_value c.args.variables.now names.ins names.outs c.args.used.now.keys names.locals (expression_of e)) _ c.args.expressions.now c.loop-expression.expression-index done c.loop-expression.invariant)
+    ∙ values_mapped c.args.variables.now names.ins names.outs c.args.used.now.keys names.locals c.args.expressions.now
