@@ -4,6 +4,7 @@ pub mod CodeLemmas
 pub mod CountLemmas
 pub mod ExtentLemmas
 pub mod ListLemmas
+pub mod LocalLemmas
 pub mod ScopeLemmas
 pub mod SmallLemmas
 pub mod SubsetLemmas

@@ -19,6 +19,7 @@ mod scope;
 mod subset;
 mod task;
 mod tasklet_names;
+mod tasklet_used;
 mod tasklet_value;
 mod used;
 mod variable_names;

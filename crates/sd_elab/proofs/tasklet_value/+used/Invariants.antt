@@ -5,5 +5,5 @@ use Rattle.sd_elab.proofs.tasklet_value.+used.Given as goal
 
 abbrev pub invariant-push_all_used-loop-expression : goal.invariant-push_all_used-loop-expression
 invariant-push_all_used-loop-expression l =
-    used_values l.variables l.names.ins l.names.outs l.names.locals (expressions_of (drop l.expression-index l.expressions)) l.used.keys
-    ≡ used_values l.variables l.names.ins l.names.outs l.names.locals (expressions_of l.expressions) l.initial.used.keys
+    used_values l.variables l.connectors.ins l.connectors.outs l.locals (expressions_of (drop l.expression-index l.expressions)) l.used.keys
+    ≡ used_values l.variables l.connectors.ins l.connectors.outs l.locals (expressions_of l.expressions) l.initial.used.keys

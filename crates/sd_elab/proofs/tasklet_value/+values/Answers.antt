@@ -8,7 +8,8 @@ use Rattle.sd_elab.proofs.tasklet_value.+values.Goals as goal
 
 pub values-returns : goal.values-returns
 values-returns t c =
-    let names = c.args.names.now in
+    let connectors = c.args.connectors.now in
+    let locals = c.args.locals.now in
     let done : length c.args.expressions.now ≤ c.loop-expression.expression-index = search rules in
-    ap values_listed (all_mapped (λ e. task_value c.args.variables.now names.ins names.outs c.args.used.now.keys names.locals (expression_of e)) _ c.args.expressions.now c.loop-expression.expression-index done c.loop-expression.invariant)
-    ∙ values_mapped c.args.variables.now names.ins names.outs c.args.used.now.keys names.locals c.args.expressions.now
+    ap values_listed (all_mapped (λ e. task_value c.args.variables.now connectors.ins connectors.outs c.args.used.now.keys locals (expression_of e)) _ c.args.expressions.now c.loop-expression.expression-index done c.loop-expression.invariant)
+    ∙ values_mapped c.args.variables.now connectors.ins connectors.outs c.args.used.now.keys locals c.args.expressions.now

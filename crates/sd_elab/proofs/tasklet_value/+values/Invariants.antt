@@ -6,5 +6,5 @@ use Rattle.sd_elab.proofs.tasklet_value.+values.Given as goal
 
 abbrev pub invariant-values-loop-expression : goal.invariant-values-loop-expression
 invariant-values-loop-expression l =
-    map value_tree l.values.items ++ map (λ e. task_value l.variables l.names.ins l.names.outs l.used.keys l.names.locals (expression_of e)) (drop l.expression-index l.expressions)
-    ≡ map (λ e. task_value l.variables l.names.ins l.names.outs l.used.keys l.names.locals (expression_of e)) l.expressions
+    map value_tree l.values.items ++ map (λ e. task_value l.variables l.connectors.ins l.connectors.outs l.used.keys l.locals (expression_of e)) (drop l.expression-index l.expressions)
+    ≡ map (λ e. task_value l.variables l.connectors.ins l.connectors.outs l.used.keys l.locals (expression_of e)) l.expressions
