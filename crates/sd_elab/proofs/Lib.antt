@@ -1,12 +1,4 @@
-pub mod AffineLemmas
 pub mod BuildingLemmas
-pub mod CodeLemmas
 pub mod CountLemmas
-pub mod ExtentLemmas
-pub mod ListLemmas
-pub mod LocalLemmas
-pub mod ScopeLemmas
-pub mod SmallLemmas
-pub mod SubsetLemmas
 pub mod ThreadedLemmas
 pub mod examples

@@ -2,11 +2,11 @@
 use Rattle.std.specs.Prelude.{◌+◌, map}
 use Rattle.sd_graph.specs.TreeFold.{state_tree, item_trees}
 use Rattle.sd_program.specs.Names.{Name}
-use Rattle.sd_elab.specs.Stack.{without_newest}
-use Rattle.sd_elab.specs.Table.{with_container}
+use Rattle.sd_task.specs.Stack.{without_newest}
+use Rattle.sd_task.specs.Table.{with_container}
 use Rattle.sd_elab.specs.Standing.{Standing}
 use Rattle.sd_elab.specs.Threaded.{Threaded}
-use Rattle.sd_elab.specs.TableOf.{table_of}
+use Rattle.sd_task.specs.TableOf.{table_of}
 use Rattle.sd_elab.specs.declared.building.Building.{Building}
 
 abbrev pub threaded_of : Building → Threaded

@@ -4,7 +4,7 @@ use Rattle.sd_lex.specs.PlainTree.{argument_array, Block, no_statement, and_stat
 use Rattle.sd_graph.specs.PlainTree.{no_item, no_state, GraphTree, graph}
 use Rattle.sd_graph.specs.TreeFold.{states_listed}
 use Rattle.sd_program.specs.Names.{Name, Named, in_force}
-use Rattle.sd_elab.specs.Table.{Table, with_container, with_variables}
+use Rattle.sd_task.specs.Table.{Table, with_container, with_variables}
 use Rattle.sd_program.specs.Declared.{containers_in_all}
 use Rattle.sd_elab.specs.Declarations.{variable_names_all, declared_names_all, Containers, containers_with_all}
 use Rattle.sd_elab.specs.Standing.{Standing}

@@ -1,12 +1,7 @@
 -- The transitions that statements make.
 use Rattle.std.specs.Prelude.{ℕ, ℤ, pos, List, [], ◌∷◌, Option, Some, None, true, false, unwrap_or}
-use Rattle.sd_lex.specs.PlainTree.{Expression, named, two}
-use Rattle.sd_lex.specs.declared.syntax.operator.TwoSign.TheVariants.{Less}
 use Rattle.sd_range.specs.declared.affine.Affine.{Affine}
 use Rattle.sd_graph.specs.PlainTree.{GuardTree, ExitTree}
-use Rattle.sd_program.specs.Names.{Name}
-use Rattle.sd_elab.specs.Table.{Table}
-use Rattle.sd_elab.specs.ElementCode.{guard_of}
 
 -- plainly to a state
 abbrev pub plainly : ℕ → ExitTree
@@ -23,10 +18,6 @@ if_holds guard state = record { to = state; back = false; when = Some guard; set
 -- back to a state, with a turn
 abbrev pub back_to : ℕ → List (ℕ × Affine) → ExitTree
 back_to state set = record { to = state; back = true; when = None; set = set }
-
--- the condition of a `for` loop: its variable is below its end
-abbrev pub below : Table → (line : ℕ) → (name : Name) → (end : Expression) → GuardTree
-below table line name end = guard_of table line (two Less (named name) end)
 
 -- a loop variable plus its step, which is 1 where none is written
 abbrev pub stepped_on : (variable : ℕ) → Option ℤ → Affine

@@ -1,13 +1,3 @@
-pub mod Names
-pub mod Ranges
-pub mod Table
-pub mod Subsets
-pub mod Links
-pub mod Operators
-pub mod UsedVariables
-pub mod ElementCode
-pub mod TaskletCode
-pub mod TaskletItem
 pub mod Counts
 pub mod Declarations
 pub mod NamesBehind
@@ -16,9 +6,5 @@ pub mod Exits
 pub mod Standing
 pub mod States
 pub mod Elaboration
-pub mod Stack
-pub mod TableOf
-pub mod Exact
-pub mod SmallExtents
 pub mod Threaded
 pub mod BuildingOf

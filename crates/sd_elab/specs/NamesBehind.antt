@@ -1,7 +1,7 @@
 -- The containers in force behind a statement, and those of a scope.
 use Rattle.std.specs.Prelude.{ℕ, ◌+◌, List, [], ◌∷◌}
 use Rattle.sd_lex.specs.PlainTree.{StatementTree, local_array, local_stream, for_loop, while_loop, branch, Block, no_statement, and_statement}
-use Rattle.sd_elab.specs.Table.{Table, with_container}
+use Rattle.sd_task.specs.Table.{Table, with_container}
 use Rattle.sd_program.specs.Declared.{containers_in, containers_in_all}
 
 -- before these numbers, that of the container which a statement declares itself

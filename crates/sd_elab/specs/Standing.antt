@@ -3,7 +3,7 @@ use Rattle.std.specs.Prelude.{ℕ, ◌+◌, [], ◌∷◌}
 use Rattle.sd_lex.specs.PlainTree.{StatementTree, Block}
 use Rattle.sd_program.specs.Names.{Name}
 use Rattle.sd_program.specs.Declared.{states_in, states_in_all}
-use Rattle.sd_elab.specs.Table.{Table, with_variables}
+use Rattle.sd_task.specs.Table.{Table, with_variables}
 use Rattle.sd_program.specs.Declared.{containers_in, containers_in_all}
 use Rattle.sd_elab.specs.Counts.{variables_in, variables_in_all}
 use Rattle.sd_elab.specs.NamesBehind.{table_behind_state, table_behind_all}

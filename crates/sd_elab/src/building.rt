@@ -8,22 +8,19 @@ ghost use Rattle.sd_program.specs.Declared.{states_in_all};
 ghost use Rattle.sd_program.specs.Small.{IsSmall};
 ghost use Rattle.sd_range.specs.Arithmetic.{affine_zero};
 ghost use Rattle.sd_elab.specs.BuildingOf.{threaded_of, standing_of, declared, without_loop_variable};
-ghost use Rattle.sd_elab.specs.ElementCode.{guard_of};
+ghost use Rattle.sd_task.specs.ElementCode.{guard_of, below};
 ghost use Rattle.sd_elab.specs.Exits as exits;
-ghost use Rattle.sd_elab.specs.Ranges.{affine_or};
+ghost use Rattle.sd_task.specs.Ranges.{affine_or};
 ghost use Rattle.sd_elab.specs.Standing.{state_behind, with_loop_variable};
-ghost use Rattle.sd_elab.specs.TableOf.{table_of};
+ghost use Rattle.sd_task.specs.TableOf.{table_of};
 ghost use Rattle.sd_elab.specs.Threaded.{closed, holding};
 
-use crate::affine::number;
-use crate::count::{more, states_in_all};
+use crate::count::states_in_all;
 use crate::exit::{back_to, if_holds, plainly, setting, step_back};
-use crate::names::Names;
-use crate::range::affine_or;
-use crate::task::{guard, guard_below};
 use sd_graph::{Exit, Guard, Item, ItemKind, State};
 use sd_lex::{Expr, Statement};
 use sd_list::NoMemory;
+use sd_task::{affine_or, guard, guard_below, more, number, Names};
 use std::alloc::Global;
 
 /// The states that are finished, and the items of the current one.
@@ -174,7 +171,7 @@ impl Building {
         body: &[Statement],
     ) -> Result<(), NoMemory>
         requires { EachSubscript IsSmall (expression_of end.now) }
-        ensures threaded { OnOk result (threaded_of self.new ≡ closed (threaded_of self.old) (exits.if_holds (exits.below (table_of self.old.names) line name.now (expression_of end.now)) (standing_of self.old).state ∷ exits.plainly ((standing_of self.old).state + 1 + states_in_all (block_of body.now)) ∷ [])) }
+        ensures threaded { OnOk result (threaded_of self.new ≡ closed (threaded_of self.old) (exits.if_holds (below (table_of self.old.names) line name.now (expression_of end.now)) (standing_of self.old).state ∷ exits.plainly ((standing_of self.old).state + 1 + states_in_all (block_of body.now)) ∷ [])) }
         ensures standing { OnOk result (standing_of self.new ≡ state_behind (standing_of self.old)) }
     {
         let guard = guard_below(alloc, &self.names, line, name, end)?;
@@ -182,7 +179,7 @@ impl Building {
     }
 
     /// The current state goes on to a loop, and gives its variable the begin.
-    #[tactic(auto, using(crate::proofs::SmallLemmas::zero_within))]
+    #[tactic(auto, using(sd_task::proofs::SmallLemmas::zero_within))]
     pub(crate) fn begin_loop(&mut self, alloc: Global, begin: &Option<Expr>) -> Result<(), NoMemory>
         requires { IfWritten IsSmall (option_map expression_of begin.now) }
         ensures threaded { OnOk result (threaded_of self.new ≡ closed (threaded_of self.old) (exits.setting (standing_of self.old).state (standing_of self.old).variable (affine_or affine_zero (standing_of self.old).table.variables (option_map expression_of begin.now)) ∷ [])) }

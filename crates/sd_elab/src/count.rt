@@ -1,16 +1,10 @@
-ghost use Rattle.std.specs.Prelude.{◌≡◌, ◌+◌, IfOk};
+ghost use Rattle.std.specs.Prelude.{◌≡◌, IfOk};
 ghost use Rattle.sd_lex.specs.TreeFold.{statement_of, block_of};
 ghost use Rattle.sd_program.specs.Declared as declared;
 
 use sd_lex::Statement;
 use sd_list::NoMemory;
-
-/// The number so many behind another. Numbers have 32 bits, and no program has as many of anything.
-pub(crate) fn more(number: u32, by: u32) -> Result<u32, NoMemory>
-    ensures { IfOk result (λ sum. sum ≡ number + by) }
-{
-    number.checked_add(by).ok_or(NoMemory)
-}
+use sd_task::more;
 
 /// How many states a statement makes.
 #[cycle(counts)]

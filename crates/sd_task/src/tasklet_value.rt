@@ -1,0 +1,177 @@
+ghost use Rattle.std.specs.Prelude.{◌≡◌, IfOk, OnOk};
+ghost use Rattle.sd_graph.specs.TreeFold.{value_tree, value_trees};
+ghost use Rattle.sd_lex.specs.TreeFold.{expression_of, expressions_of};
+ghost use Rattle.sd_program.specs.Names.{in_force};
+ghost use Rattle.sd_task.specs.TaskletCode as definition;
+ghost use Rattle.sd_task.specs.UsedVariables.{variable_value};
+
+use crate::operator::{one_sign, two_sign};
+use crate::scope::Scope;
+use crate::tasklet_names::Connectors;
+use crate::used::{push_variable, variable_value};
+use indexmap::IndexSet;
+use sd_graph::Value;
+use sd_lex::Expr;
+use sd_list::NoMemory;
+use std::alloc::Global;
+
+/// Adds the variable for which a name stands, if it stands for one.
+fn push_used_name(
+    variables: &Scope,
+    connectors: &Connectors,
+    locals: &Scope,
+    used: &mut IndexSet<u32>,
+    name: &str,
+) -> Result<(), NoMemory>
+    ensures { OnOk result (used.new.keys ≡ definition.named_variable (in_force connectors.now.ins name.now) (in_force locals.now name.now) (in_force variables.now name.now) used.old.keys) }
+{
+    if connectors.ins.find(name).is_some() || locals.find(name).is_some() {
+        return Ok(());
+    }
+    push_variable(used, variables.find(name))
+}
+
+/// Adds the variables that an expression uses.
+#[cycle(used)]
+pub(crate) fn push_used(
+    variables: &Scope,
+    connectors: &Connectors,
+    locals: &Scope,
+    used: &mut IndexSet<u32>,
+    expression: &Expr,
+) -> Result<(), NoMemory>
+    ensures { OnOk result (used.new.keys ≡ definition.used_value variables.now connectors.now.ins connectors.now.outs locals.now (expression_of expression.now) used.old.keys) }
+{
+    match expression {
+        Expr::Number(_) => Ok(()),
+        Expr::Name(name) => push_used_name(variables, connectors, locals, used, name.as_str()),
+        Expr::Element { at, .. } => push_all_used(variables, connectors, locals, used, at),
+        Expr::One { of, .. } => push_used(variables, connectors, locals, used, of),
+        Expr::Two { left, right, .. } => {
+            push_used(variables, connectors, locals, used, left)?;
+            push_used(variables, connectors, locals, used, right)
+        }
+        Expr::Choice { value, when, other } => {
+            push_used(variables, connectors, locals, used, value)?;
+            push_used(variables, connectors, locals, used, when)?;
+            push_used(variables, connectors, locals, used, other)
+        }
+    }
+}
+
+/// Adds the variables that several expressions use.
+#[cycle(used)]
+pub(crate) fn push_all_used(
+    variables: &Scope,
+    connectors: &Connectors,
+    locals: &Scope,
+    used: &mut IndexSet<u32>,
+    expressions: &[Expr],
+) -> Result<(), NoMemory>
+    ensures { OnOk result (used.new.keys ≡ definition.used_values variables.now connectors.now.ins connectors.now.outs locals.now (expressions_of expressions.now) used.old.keys) }
+{
+    for expression in expressions {
+        push_used(variables, connectors, locals, used, expression)?;
+    }
+    Ok(())
+}
+
+/// What a name stands for: an input connector, else a local, else a variable.
+fn named_value(
+    alloc: Global,
+    variables: &Scope,
+    connectors: &Connectors,
+    locals: &Scope,
+    used: &IndexSet<u32>,
+    name: &str,
+) -> Result<Value, NoMemory>
+    ensures { IfOk result (λ value. value_tree value ≡ definition.named_value (in_force connectors.now.ins name.now) (in_force locals.now name.now) (variable_value used.now.keys (in_force variables.now name.now))) }
+{
+    if let Some(connector) = connectors.ins.find(name) {
+        return Ok(Value::Input {
+            connector,
+            at: Vec::new(alloc),
+        });
+    }
+    match locals.find(name) {
+        Some(number) => Ok(Value::Local(number)),
+        None => variable_value(used, variables.find(name)),
+    }
+}
+
+/// The code of an expression.
+#[cycle(values)]
+pub(crate) fn value(
+    alloc: Global,
+    variables: &Scope,
+    connectors: &Connectors,
+    locals: &Scope,
+    used: &IndexSet<u32>,
+    expression: &Expr,
+) -> Result<Value, NoMemory>
+    ensures { IfOk result (λ value. value_tree value ≡ definition.task_value variables.now connectors.now.ins connectors.now.outs used.now.keys locals.now (expression_of expression.now)) }
+{
+    match expression {
+        Expr::Number(value) => Ok(Value::Number(*value)),
+        Expr::Name(name) => named_value(alloc, variables, connectors, locals, used, name.as_str()),
+        Expr::Element { name, at } => Ok(Value::Input {
+            connector: connectors.ins.number_or(0, name.as_str()),
+            at: values(alloc, variables, connectors, locals, used, at)?,
+        }),
+        Expr::One { sign, of } => Ok(Value::One {
+            sign: one_sign(*sign),
+            of: Box::new(
+                alloc,
+                value(alloc, variables, connectors, locals, used, of)?,
+            )?,
+        }),
+        Expr::Two { sign, left, right } => Ok(Value::Two {
+            sign: two_sign(*sign),
+            left: Box::new(
+                alloc,
+                value(alloc, variables, connectors, locals, used, left)?,
+            )?,
+            right: Box::new(
+                alloc,
+                value(alloc, variables, connectors, locals, used, right)?,
+            )?,
+        }),
+        Expr::Choice {
+            value: first,
+            when,
+            other,
+        } => Ok(Value::Choice {
+            value: Box::new(
+                alloc,
+                value(alloc, variables, connectors, locals, used, first)?,
+            )?,
+            when: Box::new(
+                alloc,
+                value(alloc, variables, connectors, locals, used, when)?,
+            )?,
+            other: Box::new(
+                alloc,
+                value(alloc, variables, connectors, locals, used, other)?,
+            )?,
+        }),
+    }
+}
+
+/// The code of several expressions.
+#[cycle(values)]
+pub(crate) fn values(
+    alloc: Global,
+    variables: &Scope,
+    connectors: &Connectors,
+    locals: &Scope,
+    used: &IndexSet<u32>,
+    expressions: &[Expr],
+) -> Result<Vec<Value>, NoMemory>
+    ensures { IfOk result (λ values. value_trees values.items ≡ definition.task_values variables.now connectors.now.ins connectors.now.outs used.now.keys locals.now (expressions_of expressions.now)) }
+{
+    let mut values = Vec::with_capacity(alloc, expressions.len())?;
+    for expression in expressions {
+        values.push(value(alloc, variables, connectors, locals, used, expression)?)?;
+    }
+    Ok(values)
+}
