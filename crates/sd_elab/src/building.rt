@@ -20,7 +20,7 @@ use crate::exit::{back_to, if_holds, plainly, setting, step_back};
 use sd_graph::{Exit, Guard, Item, ItemKind, State};
 use sd_lex::{Expr, Statement};
 use sd_list::NoMemory;
-use sd_task::{affine_or, guard, guard_below, more, number, Names};
+use sd_task::{Names, affine_or, guard, guard_below, more, number};
 use std::alloc::Global;
 
 /// The states that are finished, and the items of the current one.

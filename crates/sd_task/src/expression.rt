@@ -86,11 +86,7 @@ fn exact(alloc: Global, variables: &Scope, expression: &Expr) -> Result<Affine, 
 
 /// An affine expression by the numbers of its variables.
 #[tactic(auto, using(crate::proofs::SmallLemmas::exact_from_small, crate::proofs::SmallLemmas::within_from_small))]
-pub fn affine(
-    alloc: Global,
-    variables: &Scope,
-    expression: &Expr,
-) -> Result<Affine, NoMemory>
+pub fn affine(alloc: Global, variables: &Scope, expression: &Expr) -> Result<Affine, NoMemory>
     requires { IsSmall (expression_of expression.now) }
     ensures affine { IfOk result (λ affine. affine ≡ affine_of variables.now (expression_of expression.now)) }
     ensures within { IfOk result (λ affine. IsWithinLimits affine) }

@@ -43,12 +43,7 @@ impl Scope {
     }
 
     /// More names, the last one the newest; the first has this number.
-    pub fn push_all(
-        &mut self,
-        alloc: Global,
-        names: &[String],
-        first: u32,
-    ) -> Result<(), NoMemory>
+    pub fn push_all(&mut self, alloc: Global, names: &[String], first: u32) -> Result<(), NoMemory>
         ensures { OnOk result (self.new ≡ with_numbered (map string_bytes names.now) first self.old) }
     {
         let mut next = first;

@@ -67,12 +67,7 @@ fn value_code(
 }
 
 /// The condition that an expression is not 0.
-pub fn guard(
-    alloc: Global,
-    names: &Names,
-    line: u32,
-    expression: &Expr,
-) -> Result<Guard, NoMemory>
+pub fn guard(alloc: Global, names: &Names, line: u32, expression: &Expr) -> Result<Guard, NoMemory>
     requires { EachSubscript IsSmall (expression_of expression.now) }
     ensures { IfOk result (λ guard. guard_tree guard ≡ definition.guard_of (table_of names.now) line (expression_of expression.now)) }
 {
