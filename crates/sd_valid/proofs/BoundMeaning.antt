@@ -6,7 +6,7 @@ use Rattle.sd_range.specs.Affine.{variable_value}
 use Rattle.sd_graph.specs.PlainTree.{ValueTree, literal, variable, local, input, one, two, choice, ValueTrees, no_value, and_value, ActTree, set_local, assign, branch, ActTrees, no_act, and_act, TaskletTree}
 use Rattle.sd_graph.specs.TaskletMeaning.{Inputs, Meaning, Progress, and_then, value_of, values_of, act_of, acts_of, meaning_of}
 use Rattle.sd_valid.specs.BoundCode.{bound_variable, bound_value, bound_values, bound_act, bound_acts, bound_tasklet}
-use Rattle.sd_valid.specs.SizedValues.{sized}
+use Rattle.sd_valid.specs.SizedValues.{sized, AreElements}
 use Rattle.sd_valid.proofs.SizedLaws.{size_value, other_value}
 
 -- inputs of code
@@ -74,10 +74,6 @@ past_mapped f (first ∷ variables) (suc place) past = past_mapped f variables p
 -- the values that code has of its variables
 abbrev pub values_in : (values : List ℤ) → (variables : List ℕ) → List ℤ
 values_in values variables = map (λ variable. wrapped (variable_value values variable)) variables
-
--- each size is an element
-abbrev pub AreElements : List ℤ → Type 0
-AreElements sizes = (variable : ℕ) → wrapped (variable_value sizes variable) ≡ variable_value sizes variable
 
 agree_by : (sizes values : List ℤ) (variables : List ℕ) (inputs : List (List ℤ)) (extents : List (List ℕ)) (locals : List ℤ) (place : ℕ) (inside symbol : Bool) → AreElements sizes →
     nat_lt place (length variables) ≡ inside → nat_lt (slice_index_or variables place 0) (length sizes) ≡ symbol →

@@ -6,3 +6,8 @@ pub mod Tallied
 pub mod Counted
 pub mod SizedLaws
 pub mod BoundMeaning
+pub mod SizedUses
+pub mod SizedLoops
+pub mod SizedItems
+pub mod SizedUnfold
+pub mod BoundSizes

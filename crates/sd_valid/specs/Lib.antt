@@ -6,3 +6,4 @@ pub mod Limits
 pub mod Binding
 pub mod Counting
 pub mod SizedValues
+pub mod SizedWork

@@ -1,5 +1,5 @@
 //! What binding keeps, in words of its own: each law is a function that does nothing.
-ghost use Rattle.std.specs.Prelude.{◌≡◌, ◌<◌, ◌≤◌, ◌^◌, ℕ, ℤ, List, map, length, unsigned_abs};
+ghost use Rattle.std.specs.Prelude.{◌≡◌, ◌<◌, ◌≤◌, ◌^◌, Ok, ℕ, ℤ, List, map, length, unsigned_abs};
 ghost use Rattle.std.specs.List.{All};
 ghost use Rattle.sd_num.specs.Wrapped.{wrapped};
 ghost use Rattle.sd_range.specs.Affine.{affine_value, variable_value};
@@ -12,10 +12,16 @@ ghost use Rattle.sd_range.specs.declared.range.Range.{Range};
 ghost use Rattle.sd_range.specs.declared.subset.Subset.{Subset};
 ghost use Rattle.sd_graph.specs.Context.{index_at, span_counts};
 ghost use Rattle.sd_valid.specs.BoundExpression.{bound_affine, bound_param, bound_range, bound_subset};
-ghost use Rattle.sd_graph.specs.PlainTree.{TaskletTree};
 ghost use Rattle.sd_graph.specs.TaskletMeaning.{meaning_of};
 ghost use Rattle.sd_valid.specs.BoundCode.{bound_tasklet};
-ghost use Rattle.sd_valid.specs.SizedValues.{sized};
+ghost use Rattle.sd_work.specs.Memory.{Memory};
+ghost use Rattle.sd_graph.specs.PlainTree.{GraphTree, TaskletTree};
+ghost use Rattle.sd_graph.specs.Unfold.{run_of};
+ghost use Rattle.sd_valid.specs.BoundTree.{bound_graph};
+ghost use Rattle.sd_valid.specs.SizeValues.{NamedSizes, sizes_in};
+ghost use Rattle.sd_valid.specs.SizedValues.{sized, AreElements};
+ghost use Rattle.sd_valid.specs.SizedWork.{sized_run};
+ghost use Rattle.sd_valid.specs.Binding.{binding};
 
 /// What is bound has, at whatever values of the variables, what it has where the size symbols
 /// have their sizes: an expression its value, a range its values, the parameters of a map their
@@ -53,7 +59,17 @@ pub fn a_bound_expression_names_no_size_symbol()
 /// symbols have their sizes, which are elements.
 pub fn bound_code_means_what_it_means_at_the_sizes()
     ensures { (sizes values : List ℤ) (code : TaskletTree) (inputs : List (List ℤ)) (extents : List (List ℕ))
-        → ((variable : ℕ) → wrapped (variable_value sizes variable) ≡ variable_value sizes variable)
+        → AreElements sizes
         → meaning_of (bound_tasklet sizes code) (record { values = inputs; extents = extents; variables = map (λ variable. wrapped (variable_value values variable)) code.variables })
         ≡ meaning_of code (record { values = inputs; extents = extents; variables = map (λ variable. wrapped (variable_value (sized sizes values) variable)) code.variables }) }
+{}
+
+/// What a graph has to do after binding is what it has to do where its size symbols have their
+/// sizes, in nested graphs too: the run is the same work, move by move. So it is of each graph that
+/// `bind` gives (`binding`), and of any sizes that are elements (`run`).
+pub fn a_bound_graph_does_what_the_graph_does_with_its_sizes()
+    ensures binding { (tree bound : GraphTree) (named : NamedSizes) (memory : Memory) → binding tree named ≡ Ok bound
+        → run_of bound memory ≡ sized_run (sizes_in named tree) tree memory }
+    ensures run { (tree : GraphTree) (sizes : List ℤ) (memory : Memory) → AreElements sizes
+        → run_of (bound_graph sizes tree) memory ≡ sized_run sizes tree memory }
 {}

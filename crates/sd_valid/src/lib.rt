@@ -19,6 +19,7 @@ pub use binding::bind;
 pub use error::BindError;
 pub use laws::{
     a_bound_expression_names_no_size_symbol, a_bound_expression_stays_small,
+    a_bound_graph_does_what_the_graph_does_with_its_sizes,
     bound_code_means_what_it_means_at_the_sizes, what_is_bound_has_its_values_at_the_sizes,
 };
 pub use sizes::Sizes;
