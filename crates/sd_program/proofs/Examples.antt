@@ -1,16 +1,17 @@
 -- A program that is well formed, and for each rule a statement that breaks it.
-use Rattle.std.proofs.Common.{◌<◌, ◌^◌, inl, inr, ℕ, ℤ, pos, List, [], ◌∷◌, codes, Option, Some, None, false, refl, subst, arith}
+use Rattle.std.proofs.Common.{◌≡◌, ◌≤◌, ◌<◌, ◌^◌, zero, suc, inl, inr, ℕ, ◌+◌, ℤ, pos, List, [], ◌∷◌, codes, Option, Some, None, false, refl, subst, arith}
 use Rattle.std.specs.Bool.{⊤}
 use Rattle.std.proofs.lemmas.Int.{ints}
-use Rattle.sd_lex.specs.PlainTree.{Expression, number, named, element_at, two, Expressions, no_expression, and_expression, Dimension, span, StatementTree, argument_array, local_array, assign, map_scope, call, for_loop, while_loop, no_statement, and_statement, ProgramTree}
+use Rattle.sd_lex.specs.PlainTree.{Block, FunctionTree, Expression, number, named, element_at, two, Expressions, no_expression, and_expression, Dimension, span, StatementTree, argument_array, local_array, assign, map_scope, call, for_loop, while_loop, no_statement, and_statement, ProgramTree}
 use Rattle.sd_lex.specs.declared.syntax.operator.TwoSign.TheVariants.{Add, Mul}
+use Rattle.sd_nodes.specs.NodeLimits.{node_limits, nodes_over}
 use Rattle.sd_program.specs.Names.{Name}
 use Rattle.sd_program.specs.IsAffine.{IsAffine}
 use Rattle.sd_program.specs.Small.{IsSmall}
 use Rattle.sd_program.specs.Place.{program, scope, Place}
 use Rattle.sd_program.specs.Known.{IsPlaced, IsKnown}
 use Rattle.sd_program.specs.Calls.{IsCallable}
-use Rattle.sd_program.specs.Limits.{HasSteps, HasFewDimensions, HasFewParameters, HasFewAbout, HasFewReads}
+use Rattle.sd_program.specs.Limits.{HasSteps, HasFewDimensions, HasFewParameters, HasFewAbout, HasFewReads, containers_of, states_of}
 use Rattle.sd_program.specs.WellFormed.{IsWellFormed}
 
 abbrev n : Name
@@ -50,6 +51,9 @@ simple_is_well_formed = record {
   calls = (((tt, tt), (tt, tt)), tt);
   depth = (((omega arith, tt), (omega arith, tt)), tt);
   reads = (((tt, tt), (omega arith, tt)), tt);
+  nodes = refl;
+  containers = (omega arith, tt);
+  states = (omega arith, tt);
 }
 
 -- ---- what breaks each rule
@@ -102,6 +106,10 @@ abbrev IsNone : {A : Type 0} → Option A → Type 0
 IsNone None = ⊤
 IsNone (Some value) = ⊥
 
+abbrev IsSome : {A : Type 0} → Option A → Type 0
+IsSome None = ⊥
+IsSome (Some value) = ⊤
+
 -- a container that is not in force
 unknown : IsKnown here (assign 1 a (at (pos 0)) false (number (pos 1))) → ⊥
 unknown known = subst IsNone known.0 tt
@@ -120,3 +128,27 @@ doubled e = two Add e e
 
 crowded : HasFewReads here (while_loop 1 (doubled (doubled (doubled (doubled (doubled (doubled (element_at a (at (pos 0))))))))) no_statement) → ⊥
 crowded few = omega (arith, few)
+
+-- a program of 257 statements
+abbrev repeated : ℕ → StatementTree → Block
+repeated zero s = no_statement
+repeated (suc count) s = and_statement s (repeated count s)
+
+abbrev long : StatementTree → FunctionTree
+long s = record { name = n; line = 1; arguments = no_statement; body = repeated 257 s }
+
+-- 257 containers
+many_containers : containers_of (long (local_array 1 a (at (pos 1)) 64)) ≤ 256 → ⊥
+many_containers few = omega (arith, few)
+
+-- 258 states
+many_states : states_of (long (call 1 n [])) ≤ 256 → ⊥
+many_states few = omega (arith, few)
+
+-- programs of 20 calls, each of the program above
+abbrev calling : ℕ → FunctionTree
+calling level = record { name = (level + 1) ∷ []; line = level; arguments = no_statement; body = repeated 20 (call 1 (level ∷ []) []) }
+
+-- 20 + 20^2 + 20^3 + 20^4 nodes
+many_nodes : nodes_over node_limits (record { symbols = []; functions = calling 0 ∷ calling 1 ∷ calling 2 ∷ calling 3 ∷ [] }) ≡ None → ⊥
+many_nodes none = subst IsSome none tt

@@ -1,5 +1,8 @@
 -- What holds of each program that was read: names are in force for their uses, affine places are affine, and limits that need no sizes are kept.
+use Rattle.std.specs.Prelude.{◌≡◌, ◌≤◌, None}
+use Rattle.std.specs.List.{AllByRecursion}
 use Rattle.sd_lex.specs.PlainTree.{ProgramTree}
+use Rattle.sd_nodes.specs.NodeLimits.{node_limits, nodes_over}
 use Rattle.sd_program.specs.Bounds.{EachBound}
 use Rattle.sd_program.specs.IsAffine.{IsAffine}
 use Rattle.sd_program.specs.Small.{IsSmall}
@@ -7,7 +10,7 @@ use Rattle.sd_program.specs.Every.{Everywhere}
 use Rattle.sd_program.specs.Place.{EveryPlace}
 use Rattle.sd_program.specs.Known.{IsPlaced, IsKnown}
 use Rattle.sd_program.specs.Calls.{IsCallable}
-use Rattle.sd_program.specs.Limits.{HasSteps, HasFewDimensions, HasFewParameters, HasFewAbout, HasFewReads}
+use Rattle.sd_program.specs.Limits.{HasSteps, HasFewDimensions, HasFewParameters, HasFewAbout, HasFewReads, containers_of, states_of}
 
 pub record IsWellFormed (program : ProgramTree) : Type 0 where
   -- each affine place holds an affine expression
@@ -30,3 +33,9 @@ pub record IsWellFormed (program : ProgramTree) : Type 0 where
   pub depth : EveryPlace HasFewAbout program
   -- at most 64 connectors of an element statement or a condition
   pub reads : EveryPlace HasFewReads program
+  -- no limit on nodes is passed
+  pub nodes : nodes_over node_limits program ≡ None
+  -- at most 256 containers of each program
+  pub containers : AllByRecursion (λ function. containers_of function ≤ 256) program.functions
+  -- at most 256 states of each program
+  pub states : AllByRecursion (λ function. states_of function ≤ 256) program.functions
