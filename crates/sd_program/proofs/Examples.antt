@@ -10,7 +10,7 @@ use Rattle.sd_program.specs.IsAffine.{IsAffine}
 use Rattle.sd_program.specs.Small.{IsSmall}
 use Rattle.sd_program.specs.Place.{program, scope, Place}
 use Rattle.sd_program.specs.Known.{IsPlaced, IsKnown}
-use Rattle.sd_program.specs.Calls.{IsCallable}
+use Rattle.sd_program.specs.Calls.{IsCallable, CallShallowly}
 use Rattle.sd_program.specs.Limits.{HasSteps, HasFewDimensions, HasFewParameters, HasFewAbout, HasFewReads, containers_of, states_of}
 use Rattle.sd_program.specs.WellFormed.{IsWellFormed}
 
@@ -54,6 +54,7 @@ simple_is_well_formed = record {
   nodes = refl;
   containers = (omega arith, tt);
   states = (omega arith, tt);
+  chains = (omega arith, tt);
 }
 
 -- ---- what breaks each rule
@@ -152,3 +153,11 @@ calling level = record { name = (level + 1) ∷ []; line = level; arguments = no
 -- 20 + 20^2 + 20^3 + 20^4 nodes
 many_nodes : nodes_over node_limits (record { symbols = []; functions = calling 0 ∷ calling 1 ∷ calling 2 ∷ calling 3 ∷ [] }) ≡ None → ⊥
 many_nodes none = subst IsSome none tt
+
+-- nine calls in a chain, each of the program above
+abbrev calling_once : ℕ → FunctionTree
+calling_once level = record { name = (level + 1) ∷ []; line = level; arguments = no_statement; body = repeated 1 (call 1 (level ∷ []) []) }
+
+deep_chain :
+    CallShallowly (calling_once 8 ∷ calling_once 7 ∷ calling_once 6 ∷ calling_once 5 ∷ calling_once 4 ∷ calling_once 3 ∷ calling_once 2 ∷ calling_once 1 ∷ calling_once 0 ∷ []) → ⊥
+deep_chain shallow = omega (arith, shallow.0)

@@ -1,5 +1,5 @@
 -- What holds of each program that was read: names are in force for their uses, affine places are affine, and limits that need no sizes are kept.
-use Rattle.std.specs.Prelude.{◌≡◌, ◌≤◌, None}
+use Rattle.std.specs.Prelude.{◌≡◌, ◌≤◌, reverse, None}
 use Rattle.std.specs.List.{AllByRecursion}
 use Rattle.sd_lex.specs.PlainTree.{ProgramTree}
 use Rattle.sd_nodes.specs.NodeLimits.{node_limits, nodes_over}
@@ -9,7 +9,7 @@ use Rattle.sd_program.specs.Small.{IsSmall}
 use Rattle.sd_program.specs.Every.{Everywhere}
 use Rattle.sd_program.specs.Place.{EveryPlace}
 use Rattle.sd_program.specs.Known.{IsPlaced, IsKnown}
-use Rattle.sd_program.specs.Calls.{IsCallable}
+use Rattle.sd_program.specs.Calls.{IsCallable, CallShallowly}
 use Rattle.sd_program.specs.Limits.{HasSteps, HasFewDimensions, HasFewParameters, HasFewAbout, HasFewReads, containers_of, states_of}
 
 pub record IsWellFormed (program : ProgramTree) : Type 0 where
@@ -39,3 +39,5 @@ pub record IsWellFormed (program : ProgramTree) : Type 0 where
   pub containers : AllByRecursion (λ function. containers_of function ≤ 256) program.functions
   -- at most 256 states of each program
   pub states : AllByRecursion (λ function. states_of function ≤ 256) program.functions
+  -- at most eight calls stand in a chain
+  pub chains : CallShallowly (reverse program.functions)
