@@ -1,8 +1,6 @@
 -- The containers and states that a program makes.
-use Rattle.std.specs.Prelude.{ℕ, ◌+◌, List, [], ◌∷◌, ◌++◌, Bool, true, false}
+use Rattle.std.specs.Prelude.{ℕ, ◌+◌}
 use Rattle.sd_lex.specs.PlainTree.{StatementTree, argument_array, local_array, local_stream, map_scope, consume_scope, for_loop, while_loop, branch, Block, no_statement, and_statement}
-use Rattle.sd_lex.specs.StatementKind.{has_connector}
-use Rattle.sd_program.specs.Names.{Name}
 
 abbrev mutual
   -- how many containers a statement declares, in the blocks below it too
@@ -20,28 +18,6 @@ abbrev mutual
   pub containers_in_all : Block → ℕ
   containers_in_all no_statement = 0
   containers_in_all (and_statement first rest) = containers_in first + containers_in_all rest
-
--- a consume scope that is one tasklet takes its element as a connector, and no name for a container
-abbrev pub element_declared : (is_tasklet : Bool) → Name → List Name
-element_declared true element = []
-element_declared false element = element ∷ []
-
-abbrev mutual
-  -- the names of the containers that a statement declares, in the order of the text
-  pub declared_in : StatementTree → List Name
-  declared_in (argument_array line name bits extents) = name ∷ []
-  declared_in (local_array line name extents bits) = name ∷ []
-  declared_in (local_stream line name bits size) = name ∷ []
-  declared_in (map_scope line parameters ranges body) = declared_in_all body
-  declared_in (consume_scope line from size name element worker body) = element_declared (has_connector body) element ++ declared_in_all body
-  declared_in (for_loop line name begin end step body) = declared_in_all body
-  declared_in (while_loop line when body) = declared_in_all body
-  declared_in (branch line when body other) = declared_in_all body ++ declared_in_all other
-  declared_in statement = []
-
-  pub declared_in_all : Block → List Name
-  declared_in_all no_statement = []
-  declared_in_all (and_statement first rest) = declared_in first ++ declared_in_all rest
 
 abbrev mutual
   -- how many states a statement makes: a loop one of its own, one for its block and one behind it; a branch one for each block and one behind both

@@ -1,9 +1,8 @@
 -- The limits that need no sizes.
 use Rattle.std.specs.Prelude.{ℕ, ◌+◌, ◌<◌, ◌≤◌, ◌^◌, ℤ, pos, length, Option, Some, None, Bool, true, ⊤, ◌≡◌}
 use Rattle.std.specs.List.{AllByRecursion}
-use Rattle.sd_lex.specs.PlainTree.{Expression, number, named, element_at, one, two, choice, Dimension, index, span, StatementTree, argument_array, local_array, assign, copy, map_scope, tasklet, consume_scope, call, for_loop, while_loop, branch, input, output, tasklet_branch, Block, no_statement, and_statement, FunctionTree}
-use Rattle.sd_lex.specs.StatementKind.{has_connector}
-use Rattle.sd_program.specs.Place.{Place, Around, program, length_of, is_task}
+use Rattle.sd_lex.specs.PlainTree.{Expression, number, named, element_at, one, two, choice, Dimension, index, span, StatementTree, argument_array, local_array, assign, copy, map_scope, call, for_loop, while_loop, branch, input, output, FunctionTree}
+use Rattle.sd_program.specs.Place.{Place, Around, program, length_of}
 use Rattle.sd_program.specs.Declared.{containers_in_all, states_in_all}
 
 -- ---- of one statement
@@ -36,7 +35,7 @@ abbrev pub HasFewParameters : StatementTree → Type 0
 HasFewParameters (map_scope line parameters ranges body) = (length parameters ≡ length ranges) × (length parameters ≤ 8)
 HasFewParameters statement = ⊤
 
--- ---- of one tasklet
+-- ---- of one element statement
 
 -- how many elements an expression reads
 abbrev pub elements_in : Expression → ℕ
@@ -46,22 +45,6 @@ elements_in (element_at name at) = 1
 elements_in (one sign of) = elements_in of
 elements_in (two sign left right) = elements_in left + elements_in right
 elements_in (choice value when other) = elements_in value + elements_in when + elements_in other
-
--- how many connectors and how many lines a block of a tasklet has; `else` is none
-abbrev pub connectors_in : Block → ℕ
-connectors_in no_statement = 0
-connectors_in (and_statement (input line connector memlet) rest) = connectors_in rest + 1
-connectors_in (and_statement (output line connector memlet) rest) = connectors_in rest + 1
-connectors_in (and_statement statement rest) = connectors_in rest
-
-abbrev mutual
-  pub lines_of : StatementTree → ℕ
-  lines_of (tasklet_branch line when body other) = 1 + (lines_in body + lines_in other)
-  lines_of statement = 1
-
-  pub lines_in : Block → ℕ
-  lines_in no_statement = 0
-  lines_in (and_statement first rest) = lines_of first + lines_in rest
 
 -- `+=` in a program reads its target; in a scope it does not
 abbrev pub own_element : Around → (add : Bool) → ℕ
@@ -74,23 +57,6 @@ HasFewReads place (assign line name at add value) = elements_in value + (own_ele
 HasFewReads place (while_loop line when body) = elements_in when + 1 ≤ 64
 HasFewReads place (branch line when body other) = elements_in when + 1 ≤ 64
 HasFewReads place statement = ⊤
-
--- a tasklet has at most 64 connectors; the element of a consume scope is one
-abbrev pub HasFewConnectors : StatementTree → Type 0
-HasFewConnectors (tasklet line body) = connectors_in body ≤ 64
-HasFewConnectors (consume_scope line from size name element worker body) = is_task body ≡ true → connectors_in body + 1 ≤ 64
-HasFewConnectors statement = ⊤
-
--- a consume scope whose block is one of a tasklet has a connector
-abbrev pub HasConnector : StatementTree → Type 0
-HasConnector (consume_scope line from size name element worker body) = is_task body ≡ true → has_connector body ≡ true
-HasConnector statement = ⊤
-
--- at most 1,024 lines
-abbrev pub HasFewLines : StatementTree → Type 0
-HasFewLines (tasklet line body) = lines_in body ≤ 1024
-HasFewLines (consume_scope line from size name element worker body) = is_task body ≡ true → lines_in body ≤ 1024
-HasFewLines statement = ⊤
 
 -- ---- of one program
 

@@ -1,6 +1,5 @@
 -- Names with what they stand for, the newest first.
-use Rattle.std.specs.Prelude.{◌≡◌, ℕ, List, [], ◌∷◌, Option, bytes_eq, false, ⊤}
-use Rattle.std.specs.List.{list_any}
+use Rattle.std.specs.Prelude.{ℕ, List, Option, bytes_eq}
 use Rattle.std.specs.Map.{lookup}
 
 -- a name, as its bytes
@@ -14,8 +13,3 @@ Named A = List (Name × A)
 -- what a name stands for; None where it is not in force
 abbrev pub in_force : {A : Type 0} → Named A → Name → Option A
 in_force names name = lookup (bytes_eq name) names
-
--- no name stands twice in the list
-abbrev pub AreDistinct : List Name → Type 0
-AreDistinct [] = ⊤
-AreDistinct (name ∷ names) = (list_any (bytes_eq name) names ≡ false) × AreDistinct names
