@@ -1,5 +1,5 @@
 -- What names mean, and what is in force.
-use Rattle.std.specs.Prelude.{ℕ, List, [], ◌∷◌, ◌++◌, Bool, true, false, not, ◌||◌, Option, Some, None, codes, bytes_eq, if◌then◌else◌, is_some, map, String, string_bytes}
+use Rattle.std.specs.Prelude.{ℕ, List, [], ◌∷◌, ◌++◌, Bool, true, false, not, ◌&&◌, ◌||◌, Option, Some, None, codes, bytes_eq, if◌then◌else◌, is_some, map, String, string_bytes}
 use Rattle.std.specs.declared.alloc.Global.{Global}
 use Rattle.std.specs.List.{position_or_len, fold}
 use Rattle.sd_range.specs.declared.affine.Affine.{Affine}
@@ -40,6 +40,11 @@ noted names name = if is_among names name then names else names ++ name ∷ []
 
 abbrev pub noted_all : List Name → List Name → List Name
 noted_all = fold noted
+
+-- the name stands in the list more than once
+abbrev pub is_repeated : List Name → Name → Bool
+is_repeated [] name = false
+is_repeated (other ∷ names) name = (bytes_eq name other && is_among names name) || is_repeated names name
 
 -- a name that is declared may be none of these
 abbrev pub reserved : List Name

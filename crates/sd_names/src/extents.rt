@@ -64,8 +64,7 @@ impl Extents {
     }
 }
 
-/// Whether both have the same constant and the same terms; as these are normal forms, that is whether
-/// they have one value for all values of the variables.
+/// Whether both have the same constant and the same terms.
 pub fn is_same(a: &Affine, b: &Affine) -> bool
     ensures { result ≡ definition.is_same a.now b.now }
 {

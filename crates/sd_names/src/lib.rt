@@ -1,8 +1,8 @@
 //! The names that are in force at a line of a source, and the expressions over them.
 //!
 //! `Names` has what each name means, and is seen as the definition's own tables (`Names.antt`): each call
-//! gives exactly the value that it has there. `affine_of` gives the one normal form of an affine
-//! expression, or tells that a part of it passes a limit. `any_name` asks a test of each name of an
+//! gives exactly the value that it has there. `affine_of` gives the normal form of an affine
+//! expression that `Expressions.antt` defines, or tells that a part of it passes a limit. `any_name` asks a test of each name of an
 //! expression, whatever the test is. Only memory can be wanting.
 #![tactic(auto)]
 

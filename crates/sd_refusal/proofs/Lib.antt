@@ -1,3 +1,4 @@
 pub mod UseLemmas
 pub mod MisuseLemmas
 pub mod BoundLemmas
+pub mod CallLemmas

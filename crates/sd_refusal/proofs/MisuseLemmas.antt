@@ -1,5 +1,5 @@
 -- Tests of wrong uses, as tests of the expressions in them.
-use Rattle.std.proofs.Common.{◌≡◌, refl, ap, false, List, [], ◌∷◌, map, length, ◌||◌, suc, arith}
+use Rattle.std.proofs.Common.{◌≡◌, refl, ap, List, [], ◌∷◌, map, length, ◌||◌, suc, arith}
 use Rattle.std.specs.List.{list_any}
 use Rattle.sd_lex.specs.PlainTree.{Expression, index}
 use Rattle.sd_lex.specs.declared.syntax.expression.Expr.{Expr}
@@ -34,7 +34,7 @@ pub ruleset element_places = (index_places, place_count)
 pub ruleset misused_uses = (misused_codes, any_append)
 
 pub mentions_same : (first second : List Name) → ((name : Name) → is_among first name ≡ is_among second name) → (e : Expression) → mentions_any first e ≡ mentions_any second e
-mentions_same first second same e = any_name_same (is_among first) (is_among second) (λ name count. false) same e
+mentions_same first second same e = any_name_same (is_among first) (is_among second) same e
 
 -- a set of names has the same names as the list
 pub named_once : (names : List Name) (es : List Expression) → list_any (mentions_any (noted_all [] names)) es ≡ list_any (mentions_any names) es

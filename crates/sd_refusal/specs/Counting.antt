@@ -14,9 +14,6 @@ is_connector other = false
 abbrev pub new_connectors : HeadTree → ℕ
 new_connectors head = if is_connector head then 1 else 0
 
-abbrev pub added : ℕ → ℕ → ℕ
-added count more = count + more
-
 -- what is counted behind a line
 abbrev pub counts_behind : Names → Counts → BlockKind → HeadTree → Counts
 counts_behind names counts kind head = record {

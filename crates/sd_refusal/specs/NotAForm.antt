@@ -22,13 +22,13 @@ is_misread names name count = is_stream names name || is_array names name && not
 abbrev pub misuses_name : Names → Expression → Bool
 misuses_name names = any_name (is_container names) (is_misread names)
 
--- in a tasklet: a stream, or an array connector without subscripts
-abbrev pub is_misread_alone : Names → Name → Bool
-is_misread_alone names name = is_stream names name || is_input (meaning_of names name) && not (nat_eq (dimensions_by (meaning_of names name)) 0)
-
--- a stream, or a connector with a wrong number of subscripts
+-- in a tasklet: a stream, or an input with a wrong number of subscripts
 abbrev pub is_misread_in_code : Names → Name → ℕ → Bool
 is_misread_in_code names name count = is_stream names name || is_input (meaning_of names name) && not (nat_eq (dimensions_by (meaning_of names name)) count)
+
+-- the same of a name alone, which has no subscripts
+abbrev pub is_misread_alone : Names → Name → Bool
+is_misread_alone names name = is_misread_in_code names name 0
 
 -- an array of another number of dimensions than are written; none may be written
 abbrev pub has_other_count : Names → Name → (count : ℕ) → Bool
@@ -55,9 +55,9 @@ abbrev pub is_program : BlockKind → Bool
 is_program Program = true
 is_program kind = false
 
--- one of these names stands in the expression
+-- one of these names stands in the expression, alone or before subscripts
 abbrev pub mentions_any : List Name → Expression → Bool
-mentions_any wanted = any_name (is_among wanted) (λ name count. false)
+mentions_any wanted = any_name (is_among wanted) (λ name count. is_among wanted name)
 
 -- an output with another number of subscripts
 abbrev pub is_other_output : Names → Name → (count : ℕ) → Bool

@@ -1,7 +1,7 @@
 -- Error 6: an affine place has an expression that is not affine, or an extent names a loop variable or a map parameter.
-use Rattle.std.specs.Prelude.{List, map, Bool, false, ◌||◌}
+use Rattle.std.specs.Prelude.{Bool, false, ◌||◌}
 use Rattle.std.specs.List.{list_any}
-use Rattle.sd_lex.specs.PlainTree.{Expression, Expressions, Dimension, index, StatementTree, argument_array, local_array}
+use Rattle.sd_lex.specs.PlainTree.{Expression, StatementTree, argument_array, local_array}
 use Rattle.sd_line.specs.Head.{HeadTree, statement_head}
 use Rattle.sd_names.specs.Names.{Names, meaning_of, is_variable_kind}
 use Rattle.sd_names.specs.Expressions.{any_name, any_subscript, is_rough, expression_list}
@@ -19,13 +19,6 @@ any_bound test (part name dimensions) = list_any test (expressions_of_dimensions
 any_bound test (target name dimensions) = list_any test (expressions_of_dimensions dimensions)
 any_bound test (called name) = false
 any_bound test (consumed name) = false
-
--- the same of what is assigned and of its value, and of the two sides of a copy
-abbrev pub assign_bound : (Expression → Bool) → (at : Expressions) → (value : Expression) → Bool
-assign_bound test at e = list_any test (expressions_of_dimensions (map index (expression_list at))) || any_subscript test e
-
-abbrev pub copy_bound : (Expression → Bool) → (to from : List Dimension) → Bool
-copy_bound test to from = list_any test (expressions_of_dimensions to) || list_any test (expressions_of_dimensions from)
 
 -- a loop variable or a parameter of a map stands in an extent
 abbrev pub varies : Names → Expression → Bool

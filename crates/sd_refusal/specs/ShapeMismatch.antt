@@ -1,7 +1,7 @@
 -- Error 10: the two sides of a copy, the target of a reduction or the arguments of a call do not fit.
 use Rattle.std.specs.Prelude.{ℕ, ◌+◌, nat_eq, nat_lt, ℤ, pos, negsuc, List, [], ◌∷◌, ◌++◌, length, map, take, drop, Bool, true, false, not, ◌&&◌, ◌||◌, Option, Some, None, bytes_eq, if◌then◌else◌}
 use Rattle.std.specs.Ordering.{int_eq}
-use Rattle.std.specs.List.{list_any, zip, count_by}
+use Rattle.std.specs.List.{list_any, zip}
 use Rattle.std.specs.Cmp.Lexicographic.{pointwise}
 use Rattle.sd_range.specs.declared.affine.Affine.{Affine}
 use Rattle.sd_range.specs.Arithmetic.{affine_zero, affine_difference}
@@ -11,7 +11,7 @@ use Rattle.sd_refusal.specs.declared.stretch.Stretch.{Stretch}
 use Rattle.sd_names.specs.declared.meaning.Meaning.{Meaning}
 use Rattle.sd_names.specs.declared.meaning.Signature.{Signature}
 use Rattle.sd_names.specs.declared.meaning.Parameter.{Parameter}
-use Rattle.sd_names.specs.Names.{Name, Names, meaning_of, signature_by, extents_of}
+use Rattle.sd_names.specs.Names.{Name, Names, meaning_of, signature_by, extents_of, is_repeated}
 use Rattle.sd_names.specs.Expressions.{value_of}
 use Rattle.sd_names.specs.Extents.{is_same, are_same, or_one}
 
@@ -72,13 +72,12 @@ is_no_argument names pair =
     let subset = subset_of names pair.0.0 pair.0.1 in
     any_other_step subset || not (are_same (or_one (map (λ stretch. stretch.length) subset)) pair.1.extents)
 
--- how often a container is an argument
-abbrev pub times_passed : List (Name × List Dimension) → Name → ℕ
-times_passed arguments name = count_by (λ argument. bytes_eq argument.0 name) arguments
+abbrev pub containers_of : List (Name × List Dimension) → List Name
+containers_of arguments = map (λ argument. argument.0) arguments
 
 -- an argument that the program writes, and that is another argument too
 abbrev pub is_shared : List (Name × List Dimension) → (Name × List Dimension) × Parameter → Bool
-is_shared arguments pair = pair.1.is_written && nat_lt 1 (times_passed arguments pair.0.0)
+is_shared arguments pair = pair.1.is_written && is_repeated (containers_of arguments) pair.0.0
 
 abbrev pub is_no_call_of : Names → List (Name × List Dimension) → Signature → Bool
 is_no_call_of names arguments signature =

@@ -56,14 +56,6 @@ uses kind (consume_decorator stream size) = consumed stream ∷ []
 uses kind (elif_head when) = condition kind when ∷ []
 uses kind other = []
 
--- the affine places of an element's subscripts aside: those of a use itself
-abbrev pub bounds_of : Use → List Expression
-bounds_of (bound e) = e ∷ []
-bounds_of (extent e) = e ∷ []
-bounds_of (part name dimensions) = expressions_of_dimensions dimensions
-bounds_of (target name dimensions) = expressions_of_dimensions dimensions
-bounds_of other = []
-
 -- the lambda of a line
 abbrev pub lambda_of : HeadTree → Option LambdaTree
 lambda_of (reduce_head lambda from to axis identity) = Some lambda

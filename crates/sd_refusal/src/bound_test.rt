@@ -1,5 +1,5 @@
 //! Tests of the affine places of a line.
-ghost use Rattle.std.specs.Prelude.{◌≡◌, ◌∷◌, [], ◌++◌, List, Bool, IfOk, map, option_map};
+ghost use Rattle.std.specs.Prelude.{◌≡◌, ◌||◌, ◌∷◌, [], ◌++◌, List, Bool, IfOk, map, option_map};
 ghost use Rattle.std.specs.List.{list_any};
 ghost use Rattle.sd_lex.specs.PlainTree.{Expression, index};
 ghost use Rattle.sd_lex.specs.TreeFold.{expression_of, expressions_of, dimension_of, dimensions_of, statement_of, call_argument_of};
@@ -175,7 +175,7 @@ fn assign_passes<T: BoundTest>(
     at: &[Expr],
     value: &Expr,
 ) -> Result<bool, NoMemory>
-    ensures { IfOk result (λ answer. answer ≡ not_affine.assign_bound (T.of_bound test.now) (expressions_of at.now) (expression_of value.now)) }
+    ensures { IfOk result (λ answer. answer ≡ (list_any (T.of_bound test.now) (expressions_of_dimensions (map index (expression_list (expressions_of at.now)))) || expressions.any_subscript (T.of_bound test.now) (expression_of value.now))) }
 {
     if any_place_passes(test, alloc, at)? {
         return Ok(true);
@@ -189,7 +189,7 @@ fn copy_passes<T: BoundTest>(
     to: &[Slot],
     from: &[Slot],
 ) -> Result<bool, NoMemory>
-    ensures { IfOk result (λ answer. answer ≡ not_affine.copy_bound (T.of_bound test.now) (dimensions_of to.now) (dimensions_of from.now)) }
+    ensures { IfOk result (λ answer. answer ≡ (list_any (T.of_bound test.now) (expressions_of_dimensions (dimensions_of to.now)) || list_any (T.of_bound test.now) (expressions_of_dimensions (dimensions_of from.now)))) }
 {
     if any_dimension_passes(test, alloc, to)? {
         return Ok(true);

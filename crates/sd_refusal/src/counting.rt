@@ -1,5 +1,5 @@
 //! What a line counts.
-ghost use Rattle.std.specs.Prelude.{◌≡◌, IfOk};
+ghost use Rattle.std.specs.Prelude.{◌≡◌, ◌+◌, IfOk};
 ghost use Rattle.sd_lex.specs.TreeFold.{statement_of};
 ghost use Rattle.sd_line.specs.HeadFold.{head_tree};
 ghost use Rattle.sd_refusal.specs.Counting as counting;
@@ -60,7 +60,7 @@ fn new_connectors(head: &Head) -> usize
 }
 
 fn sum(count: usize, more: usize) -> Result<usize, NoMemory>
-    ensures { IfOk result (λ all. all ≡ counting.added count more) }
+    ensures { IfOk result (λ all. all ≡ count + more) }
 {
     match count.checked_add(more) {
         Some(all) => Ok(all),

@@ -64,26 +64,25 @@ impl<'a> NameTest for MisuseInCode<'a> {
     }
 }
 
-/// One of these names alone.
+/// One of these names, alone or before subscripts.
 #[derive(Clone, Copy)]
 pub struct AmongNames<'a> {
     wanted: &'a NameSet,
 }
 
 impl<'a> NameTest for AmongNames<'a> {
-    ghost use Rattle.std.specs.Prelude.{false};
     ghost use Rattle.sd_names.specs.Names.{is_among};
 
     ghost of_alone = { λ s name. is_among s.wanted.now name };
 
-    ghost of_subscripted = { λ s name count. false };
+    ghost of_subscripted = { λ s name count. is_among s.wanted.now name };
 
     fn alone(&self, name: &str) -> bool {
         self.wanted.contains(name)
     }
 
-    fn subscripted(&self, _name: &str, _count: usize) -> bool {
-        false
+    fn subscripted(&self, name: &str, _count: usize) -> bool {
+        self.wanted.contains(name)
     }
 }
 

@@ -7,7 +7,7 @@ ghost use Rattle.sd_lex.specs.PlainTree.{Dimension};
 ghost use Rattle.sd_lex.specs.TreeFold.{dimensions_of, statement_of, call_argument_of};
 ghost use Rattle.sd_line.specs.HeadFold.{head_tree};
 ghost use Rattle.sd_names.specs.declared.meaning.Parameter.{Parameter};
-ghost use Rattle.sd_names.specs.Names.{signature_by, meaning_of};
+ghost use Rattle.sd_names.specs.Names.{signature_by, meaning_of, is_among, is_repeated};
 ghost use Rattle.sd_range.specs.Arithmetic.{affine_zero};
 ghost use Rattle.sd_names.specs.Limits.{is_within};
 ghost use Rattle.sd_names.specs.Extents.{AreWithin, are_same, or_one, one_extent};
@@ -17,7 +17,7 @@ use crate::stretch::{Stretch, is_same_stretch, push_stretch};
 use sd_lex::{Slot, Statement};
 use sd_line::Head;
 use sd_list::NoMemory;
-use sd_names::{Names, Parameter, Signature, are_same, is_same};
+use sd_names::{NameSet, Names, Parameter, Signature, are_same, is_same};
 use sd_range::Affine;
 use std::alloc::Global;
 
@@ -224,31 +224,36 @@ impl<'a> ArgumentTest for NoArgument<'a> {
     }
 }
 
-/// How often a container is an argument.
-fn times_passed(arguments: &[(String, Vec<Slot>)], wanted: &str) -> usize
-    ensures { result ≡ shape.times_passed (map call_argument_of arguments.now) wanted.now }
+/// The containers that are more than one argument.
+fn repeated_containers(
+    alloc: Global,
+    arguments: &[(String, Vec<Slot>)],
+) -> Result<NameSet, NoMemory>
+    ensures { IfOk result (λ twice. (name : List ℕ) → is_among twice name ≡ is_repeated (shape.containers_of (map call_argument_of arguments.now)) name) }
 {
-    let mut times = 0;
+    let mut met = NameSet::new(alloc);
+    let mut twice = NameSet::new(alloc);
     for (name, _dimensions) in arguments {
-        if name.as_str() == wanted {
-            times += 1;
+        if met.contains(name) {
+            twice.note(alloc, name)?;
+        } else {
+            met.note(alloc, name)?;
         }
     }
-    times
+    Ok(twice)
 }
 
 /// An argument that the program writes, and that is another argument too.
 #[derive(Clone, Copy)]
 struct Shared<'a> {
-    arguments: &'a [(String, Vec<Slot>)],
+    repeated: &'a NameSet,
 }
 
 impl<'a> ArgumentTest for Shared<'a> {
-    ghost use Rattle.std.specs.Prelude.{map};
-    ghost use Rattle.sd_lex.specs.TreeFold.{call_argument_of};
-    ghost use Rattle.sd_refusal.specs.ShapeMismatch.{is_shared};
+    ghost use Rattle.std.specs.Prelude.{◌&&◌};
+    ghost use Rattle.sd_names.specs.Names.{is_among};
 
-    ghost of_pair = { λ s. is_shared (map call_argument_of s.arguments.now) };
+    ghost of_pair = { λ s pair. pair.1.is_written && is_among s.repeated.now pair.0.0 };
 
     fn passes(
         &self,
@@ -257,8 +262,27 @@ impl<'a> ArgumentTest for Shared<'a> {
         _dimensions: &[Slot],
         parameter: &Parameter,
     ) -> Result<bool, NoMemory> {
-        Ok(parameter.is_written && 1 < times_passed(self.arguments, name))
+        Ok(parameter.is_written && self.repeated.contains(name))
     }
+}
+
+/// Whether the program writes an argument that is another argument too.
+fn any_shared(
+    alloc: Global,
+    arguments: &[(String, Vec<Slot>)],
+    parameters: &[Parameter],
+) -> Result<bool, NoMemory>
+    ensures { IfOk result (λ answer. answer ≡ list_any (shape.is_shared (map call_argument_of arguments.now)) (zip (map call_argument_of arguments.now) parameters.now)) }
+{
+    let repeated = repeated_containers(alloc, arguments)?;
+    any_argument(
+        &Shared {
+            repeated: &repeated,
+        },
+        alloc,
+        arguments,
+        parameters,
+    )
 }
 
 fn is_no_call_of(
@@ -276,7 +300,7 @@ fn is_no_call_of(
     if any_argument(&NoArgument { names }, alloc, arguments, parameters)? {
         return Ok(true);
     }
-    any_argument(&Shared { arguments }, alloc, arguments, parameters)
+    any_shared(alloc, arguments, parameters)
 }
 
 fn is_no_call(
