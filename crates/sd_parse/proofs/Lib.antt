@@ -1,0 +1,6 @@
+pub mod ClosingLemmas
+pub mod JudgingLemmas
+pub mod TokenLemmas
+pub mod PrefixLemmas
+pub mod LineLemmas
+pub mod ContinuingLemmas
