@@ -4,3 +4,5 @@ pub mod TokenLemmas
 pub mod PrefixLemmas
 pub mod LineLemmas
 pub mod ContinuingLemmas
+pub mod readable
+pub mod refused

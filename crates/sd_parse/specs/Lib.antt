@@ -18,3 +18,5 @@ pub mod TokenPlaces
 pub mod SourceLines
 pub mod SourceReading
 pub mod ErrorNumber
+pub mod Standing
+pub mod FirstRefused

@@ -12,9 +12,11 @@ mod block;
 mod closing;
 mod context;
 mod continuing;
+mod deciding;
 mod declaring;
 mod error;
 mod judging;
+mod laws;
 mod line_reading;
 mod lines;
 mod lines_reading;
@@ -25,5 +27,9 @@ mod source;
 mod token_lines;
 mod writing;
 
+pub use deciding::{
+    errors_of_tokens_go_first, no_line_of_a_program_is_refused, the_first_refused_line_decides,
+};
 pub use error::{Refusal, SourceError};
+pub use laws::a_program_that_was_read_is_well_formed;
 pub use source::parse;

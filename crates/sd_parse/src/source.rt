@@ -5,6 +5,7 @@ ghost use Rattle.sd_lex.specs.TreeFold.{program_of};
 ghost use Rattle.sd_parse.specs.ErrorNumber as errors;
 ghost use Rattle.sd_parse.specs.SourceLines.{parsed};
 ghost use Rattle.sd_parse.specs.SourceReading as definition;
+ghost use Rattle.sd_program.specs.WellFormed.{IsWellFormed};
 
 use crate::error::{Refusal, SourceError};
 use crate::lines_reading::read_program;
@@ -47,10 +48,12 @@ fn read_text(alloc: Global, text: &[u8]) -> Result<Result<Program, Refusal>, NoM
 
 /// The program that a source of at most 2^20 bytes is, or the number and the line of its error: the first
 /// that keeps it from being cut into tokens, else the first line that is refused, with the least
-/// number that stands against it.
+/// number that stands against it. It takes time linear in the text.
+#[tactic(auto, using(crate::proofs::readable::Fields::well_formed))]
 pub fn parse(alloc: Global, text: &[u8]) -> Result<Program, SourceError>
     requires { length text.now ≤ 2 ^ 20 }
     ensures ok { IfOk result (λ program. definition.reads text.now ≡ Ok (program_of program)) }
+    ensures well_formed { IfOk result (λ program. IsWellFormed (program_of program)) }
     ensures err { IfErr result (λ error. IfSome (errors.refusal_of error) (λ refusal. definition.reads text.now ≡ Err refusal)) }
 {
     match read_text(alloc, text) {

@@ -1,0 +1,141 @@
+-- Which heads a line may have in each kind of block.
+use Rattle.std.specs.List.{AllByRecursion}
+use Rattle.sd_program.specs.Place.{length_of}
+use Rattle.std.proofs.Common.{◌≡◌, ◌≤◌, pos, length, ℕ, ℤ, List, [], ◌∷◌, Option, Some, None}
+use Rattle.std.specs.Bool.{⊤}
+use Rattle.sd_lex.specs.PlainTree.{Expressions, Dimension, index, span, StatementTree, argument_array, local_array, local_stream, assign, copy, map_scope, tasklet, call, for_loop, while_loop, branch, set, set_at, tasklet_branch, Block, no_statement, and_statement}
+use Rattle.sd_line.specs.declared.head.BlockKind.{BlockKind}
+use Rattle.sd_line.specs.declared.head.BlockKind.TheVariants.{Top, Program, Scope, Tasklet}
+use Rattle.sd_line.specs.Head.{HeadTree, import_line, symbol_line, program_decorator, program_head, statement_head, reduce_head, input_head, output_head, consume_decorator, consume_head, elif_head, else_head}
+use Rattle.sd_parse.specs.Context.{Opener, file, function, statement, consumer, if_block, else_block, OpenBlock}
+
+-- a step that is at least 1
+abbrev pub IsFromOne : Option ℤ → Type 0
+IsFromOne None = ⊤
+IsFromOne (Some step) = (n : ℕ) × ((step ≡ pos n) × (1 ≤ n))
+
+abbrev pub GoesOn : Dimension → Type 0
+GoesOn (index at) = ⊤
+GoesOn (span begin end step) = IsFromOne step
+
+-- the statements of a body
+abbrev pub IsBodyStatement : StatementTree → Type 0
+IsBodyStatement (local_array line name extents bits) = ⊤
+IsBodyStatement (local_stream line name bits size) = ⊤
+IsBodyStatement (assign line name at add value) = 1 ≤ length_of at
+IsBodyStatement (copy line to to_dimensions from from_dimensions) = AllByRecursion GoesOn to_dimensions × AllByRecursion GoesOn from_dimensions
+IsBodyStatement (map_scope line parameters ranges body) = (length parameters ≡ length ranges) × AllByRecursion GoesOn ranges
+IsBodyStatement (tasklet line body) = ⊤
+IsBodyStatement (call line name arguments) = AllByRecursion (λ argument. AllByRecursion GoesOn argument.1) arguments
+IsBodyStatement (for_loop line name begin end step body) = IsFromOne step
+IsBodyStatement (while_loop line when body) = ⊤
+IsBodyStatement (branch line when body other) = ⊤
+IsBodyStatement other = ⊥
+
+-- the statements of a tasklet
+abbrev pub IsTaskletStatement : StatementTree → Type 0
+IsTaskletStatement (set line name value) = ⊤
+IsTaskletStatement (set_at line name at value) = ⊤
+IsTaskletStatement (tasklet_branch line when body other) = ⊤
+IsTaskletStatement other = ⊥
+
+-- a statement that one line says
+abbrev pub IsOfLine : StatementTree → Type 0
+IsOfLine (argument_array line name bits extents) = length_of extents ≤ 4
+IsOfLine (set line name value) = ⊤
+IsOfLine (set_at line name at value) = ⊤
+IsOfLine (tasklet_branch line when body other) = ⊤
+IsOfLine s = IsBodyStatement s
+
+-- an argument of a program
+abbrev pub IsArgument : StatementTree → Type 0
+IsArgument s = (line : ℕ) × (name : List ℕ) × (bits : ℕ) × (extents : Expressions) × ((length_of extents ≤ 4) × (s ≡ argument_array line name bits extents))
+
+-- the arguments of a program
+abbrev pub AreArguments : Block → Type 0
+AreArguments no_statement = ⊤
+AreArguments (and_statement first rest) = IsArgument first × AreArguments rest
+
+abbrev pub FitsTop : HeadTree → Type 0
+FitsTop import_line = ⊤
+FitsTop (symbol_line name quoted) = ⊤
+FitsTop program_decorator = ⊤
+FitsTop (program_head name arguments) = AreArguments arguments
+FitsTop other = ⊥
+
+abbrev pub FitsBody : HeadTree → Type 0
+FitsBody (statement_head s) = IsBodyStatement s
+FitsBody (reduce_head lambda from to axis identity) = ⊤
+FitsBody (consume_decorator from size) = ⊤
+FitsBody (consume_head name element worker) = ⊤
+FitsBody (elif_head when) = ⊤
+FitsBody else_head = ⊤
+FitsBody other = ⊥
+
+abbrev pub FitsTasklet : HeadTree → Type 0
+FitsTasklet (statement_head s) = IsTaskletStatement s
+FitsTasklet (input_head connector memlet) = AllByRecursion GoesOn memlet.dimensions
+FitsTasklet (output_head connector memlet) = AllByRecursion GoesOn memlet.dimensions
+FitsTasklet (elif_head when) = ⊤
+FitsTasklet else_head = ⊤
+FitsTasklet other = ⊥
+
+-- what a line may say in a kind of block
+abbrev pub Fits : BlockKind → HeadTree → Type 0
+Fits Top head = FitsTop head
+Fits Program head = FitsBody head
+Fits Scope head = FitsBody head
+Fits Tasklet head = FitsTasklet head
+
+-- the kind of the block that a statement opens
+abbrev pub Opens : BlockKind → StatementTree → Type 0
+Opens kind (map_scope line parameters ranges body) = kind ≡ Scope
+Opens kind (tasklet line body) = kind ≡ Tasklet
+Opens kind (for_loop line name begin end step body) = kind ≡ Program
+Opens kind (while_loop line when body) = kind ≡ Program
+Opens kind other = ⊥
+
+-- a block that is not the file
+abbrev pub IsInner : BlockKind → Type 0
+IsInner Top = ⊥
+IsInner Program = ⊤
+IsInner Scope = ⊤
+IsInner Tasklet = ⊤
+
+-- a block of a body
+abbrev pub IsBody : BlockKind → Type 0
+IsBody Top = ⊥
+IsBody Program = ⊤
+IsBody Scope = ⊤
+IsBody Tasklet = ⊥
+
+-- a block in which an `if` may stand
+abbrev pub IsIf : BlockKind → Type 0
+IsIf Top = ⊥
+IsIf Program = ⊤
+IsIf Scope = ⊥
+IsIf Tasklet = ⊤
+
+pub if_inner : (kind : BlockKind) → IsIf kind → IsInner kind
+if_inner Top is = absurd is
+if_inner Program is = tt
+if_inner Scope is = absurd is
+if_inner Tasklet is = tt
+
+-- a block of this kind and opener stands in one of the kind about it
+abbrev pub IsOpenedIn : (about kind : BlockKind) → Opener → Type 0
+IsOpenedIn about kind file = ⊥
+IsOpenedIn about kind (function name) = (about ≡ Top) × (kind ≡ Program)
+IsOpenedIn about kind (statement s) = IsBody about × Opens kind s
+IsOpenedIn about kind (consumer line from size name element worker) = IsBody about × IsInner kind
+IsOpenedIn about kind (if_block earlier when) = IsIf about × (kind ≡ about)
+IsOpenedIn about kind (else_block earlier) = IsIf about × (kind ≡ about)
+
+abbrev pub IsFile : Opener → Type 0
+IsFile file = ⊤
+IsFile other = ⊥
+
+-- so do the blocks about it, and the outermost is the file
+abbrev pub AreNested : OpenBlock → List OpenBlock → Type 0
+AreNested block [] = (block.kind ≡ Top) × IsFile block.opener
+AreNested block (about ∷ outer) = IsOpenedIn about.kind block.kind block.opener × AreNested about outer

@@ -1,0 +1,4 @@
+pub mod Numbers
+pub mod Tells
+pub mod Decided
+pub mod Range
