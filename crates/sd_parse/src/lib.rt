@@ -3,7 +3,7 @@
 //! `parse` gives exactly the program of the definition (`specs/SourceReading.antt`), or exactly the
 //! number and the line of its error. `LineReading.antt` says how a line is read, `Closing.antt` what comes
 //! of a block that ends, and `After.antt` what is known behind a line; what stands against a line is of
-//! `sd_refusal`.
+//! `sd_refusal`. By `deciding` the first refused line decides; by `laws` what was read is well formed.
 #![tactic(auto)]
 
 mod after;
