@@ -1,5 +1,5 @@
 -- The arguments of a graph in its memories.
-use Rattle.std.proofs.Common.{◌≡◌, ◌⊎◌, inl, inr, ℕ, zero, suc, ◌<◌, List, [], ◌∷◌, true, false, refl, sym, ap, ◌∙◌, arith}
+use Rattle.std.proofs.Common.{◌≡◌, ◌⊎◌, inl, inr, ℕ, zero, suc, ◌<◌, [], ◌∷◌, true, arith}
 use Rattle.sd_work.specs.Memory.{Memory, Contents, array, stream, contents_of}
 use Rattle.sd_graph.specs.ContainerParts.{Containers, is_argument, is_stream}
 use Rattle.sd_graph.specs.InForce.{is_private}

@@ -1,10 +1,9 @@
 -- Digits alone are a whole number.
-use Rattle.std.proofs.Common.{◌≡◌, ℕ, ◌+◌, ◌*◌, ◌<◌, ◌≤◌, ◌^◌, ◌&&◌, ◌==◌, ℤ, pos, negsuc, List, [], ◌∷◌, ◌++◌, length, true, false, nat_lt, nat_le, Option, Some, None, IfSome, option_map, refl, ap, sym, ◌∙◌, arith, append-nil, get_or, lt-ltb, le-leb, if◌then◌else◌}
+use Rattle.std.proofs.Common.{◌≡◌, ℕ, ◌+◌, ◌*◌, ◌<◌, ◌≤◌, ◌^◌, pos, List, [], ◌∷◌, ◌++◌, length, true, false, Option, Some, None, IfSome, option_map, refl, ap, sym, ◌∙◌, arith, append-nil, get_or, lt-ltb, le-leb}
 use Rattle.std.specs.Char.{digit_value}
-use Rattle.std.specs.Str.Parse.{AllDigits, IsNumeral, digits_value}
-use Rattle.fast_float.specs.Text.{Parts, scan, digits_of, text_of, IsWellFormed, with_sign}
+use Rattle.std.specs.Str.Parse.{IsNumeral, digits_value}
+use Rattle.fast_float.specs.Text.{Parts, scan, digits_of, IsWellFormed, with_sign}
 use Rattle.fast_float.proofs.Writing.{scan-text_of}
-use Rattle.serde_json.specs.Data.{unsigned, negative}
 use Rattle.serde_json.specs.Read.{number_from, is_integer}
 use Rattle.serde_json.specs.Find.{as_i64}
 

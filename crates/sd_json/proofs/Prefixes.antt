@@ -1,5 +1,5 @@
 -- Shapes beside extents, a number after another, and arrays beside containers.
-use Rattle.std.proofs.Common.{◌≡◌, ◌⊎◌, inl, inr, ℕ, zero, suc, ◌+◌, ◌-◌, ◌*◌, ◌<◌, ◌≤◌, ◌==◌, ◌&&◌, ◌||◌, List, [], ◌∷◌, map, length, take, drop, get_or, slice_get, Bool, true, false, cond, nat_eq, Option, Some, None, refl, ap, sym, ◌∙◌, arith, if◌then◌else◌, unsigned_abs, take_all, eqb-true, String, string_bytes}
+use Rattle.std.proofs.Common.{◌≡◌, ◌⊎◌, inl, inr, ℕ, zero, suc, ◌+◌, ◌-◌, ◌*◌, ◌<◌, ◌≤◌, ◌==◌, ◌&&◌, ◌||◌, List, [], ◌∷◌, map, length, take, drop, get_or, slice_get, Bool, true, false, nat_eq, Option, Some, None, refl, ap, sym, ◌∙◌, arith, if◌then◌else◌, unsigned_abs, take_all, eqb-true, String, string_bytes}
 use Rattle.std.specs.List.{starts_with}
 use Rattle.std.specs.Option.{option_map_or}
 use Rattle.std.specs.Cmp.Lexicographic.{same_text}

@@ -1,10 +1,10 @@
 -- The shape that is found is the one that a value has.
-use Rattle.std.proofs.Common.{◌≡◌, ◌↔◌, ℕ, suc, List, [], ◌∷◌, Bool, true, false, ◌&&◌, cond, Option, Some, None, nat_eq, refl, sym, ap, ◌∙◌, subst}
+use Rattle.std.proofs.Common.{◌≡◌, ℕ, List, Bool, true, false, ◌&&◌, Option, Some, None, nat_eq, refl, sym, ap, ◌∙◌}
 use Rattle.std.specs.Cmp.Lexicographic.{pointwise}
 use Rattle.std.proofs.lemmas.Cmp.{nat_list_eq_equiv}
 use Rattle.std.proofs.lemmas.Option.{same_Some}
 use Rattle.serde_json.specs.Data.{Data, null, boolean, number, string, array, object, Items, no_items, item}
-use Rattle.sd_json.specs.NestedLists.{count_of, shape_of, shape_of_items, all_have, is_shape}
+use Rattle.sd_json.specs.NestedLists.{shape_of, all_have, is_shape}
 use Rattle.sd_json.specs.Shape.{HasShape, AllHave}
 use Rattle.sd_json.proofs.Full.{both_shapes, and_both, is_this_shape}
 

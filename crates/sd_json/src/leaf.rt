@@ -59,11 +59,11 @@ fn digit(byte: u8) -> Option<u64>
 fn digits(bytes: &[u8]) -> Option<u64>
     ensures { IfSome result (λ number. (is_integer (scan bytes.now) ≡ true) × (digits_of (scan bytes.now) ≡ number)) }
 {
-    if bytes.is_empty() || bytes[0] == b'+' {
-        return None;
-    }
     if bytes.len() == 1 {
         return digit(bytes[0]);
+    }
+    if bytes.is_empty() || bytes[0] == b'+' {
+        return None;
     }
     match parse_u64(bytes) {
         Ok(number) => Some(number),

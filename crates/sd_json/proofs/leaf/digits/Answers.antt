@@ -13,5 +13,5 @@ pub returns-then-bytes-eq1 : goal.returns-then-bytes-eq1
 returns-then-bytes-eq1 c =
     let one : c.args.bytes.now ≡ get_or c.args.bytes.now 0 0 ∷ [] = one_item c.args.bytes.now c.if-bytes-eq1.true in
     some_weaker c.digit.result _ _ (λ number is.
-        let digits : IsNumeral 10 c.args.bytes.now = subst (IsNumeral 10) (sym one) (omega arith, (is.0, tt)) in
-        (digits-is_integer c.args.bytes.now digits, digits-digits_of c.args.bytes.now digits ∙ ap (digits_value 10) one ∙ one_digit (get_or c.args.bytes.now 0 0) ∙ sym is.1)) c.digit.ensures
+    let digits : IsNumeral 10 c.args.bytes.now = subst (IsNumeral 10) (sym one) (omega arith, (is.0, tt)) in
+    (digits-is_integer c.args.bytes.now digits, digits-digits_of c.args.bytes.now digits ∙ ap (digits_value 10) one ∙ one_digit (get_or c.args.bytes.now 0 0) ∙ sym is.1)) c.digit.ensures

@@ -1,4 +1,4 @@
-use Rattle.std.proofs.Common.{◌≡◌, ap, sym, ◌∙◌, map, unsigned_abs, slice_index_or}
+use Rattle.std.proofs.Common.{ap, sym, ◌∙◌, map, unsigned_abs, slice_index_or}
 use Rattle.std.proofs.lemmas.Result.{IfOk-weaker}
 use Rattle.sd_work.specs.Memory.{elements_of}
 use Rattle.sd_graph.specs.TreeParts.{containers_of}
@@ -14,12 +14,12 @@ returns-in-Some c =
     let at = named_or _ c.args.container c.in-Some.name.now c.in-Some.array.now no_container c.in-Some.ensures.entry in
     let entry = ap (λ containers. slice_index_or containers c.args.container no_container) (ap containers_of (graph_opened c.args.bound.now.graph)) ∙ at in
     IfOk-weaker c.line_of.result _ _ (λ line e. e
-        ∙ (λ i. line_of (c.as_str.ensures.value i) (map (λ extent. unsigned_abs extent.constant) (c.as_slice.ensures i)) (c.cells-elements.ensures i))
-        ∙ (λ i. line_of (sym entry i).0 (extents_of (sym entry i).1) (elements_of (contents_at c.args.memory.now c.args.container)))) c.line_of.ensures
+    ∙ (λ i. line_of (c.as_str.ensures.value i) (map (λ extent. unsigned_abs extent.constant) (c.as_slice.ensures i)) (c.cells-elements.ensures i))
+    ∙ (λ i. line_of (sym entry i).0 (extents_of (sym entry i).1) (elements_of (contents_at c.args.memory.now c.args.container)))) c.line_of.ensures
 
 pub returns-in-None : goal.returns-in-None
 returns-in-None c =
     let at = named_past _ c.args.container no_container c.in-None.ensures.entry in
     let entry = ap (λ containers. slice_index_or containers c.args.container no_container) (ap containers_of (graph_opened c.args.bound.now.graph)) ∙ at in
     IfOk-weaker c.line_of-in-None.result _ _ (λ line e. e
-        ∙ (λ i. line_of (sym entry i).0 (extents_of (sym entry i).1) (c.cells-elements.ensures i))) c.line_of-in-None.ensures
+    ∙ (λ i. line_of (sym entry i).0 (extents_of (sym entry i).1) (c.cells-elements.ensures i))) c.line_of-in-None.ensures

@@ -1,15 +1,14 @@
 use Rattle.std.proofs.Common.{◌≡◌, suc, ◌-◌, ◌<◌, [], ◌∷◌, length, Some, None, refl, sym, ap, ap₂, ◌∙◌, arith}
-use Rattle.json.specs.Token.{Token}
 use Rattle.json.specs.Json.{parse_map, after_end_array, read_key, items, members, value}
 use Rattle.json.specs.Reads.{token_of}
-use Rattle.json.proofs.Grammar.{value_is, value-begin_array, value-begin_object, read_key-shorter}
+use Rattle.json.proofs.Grammar.{value-begin_array, value-begin_object, read_key-shorter}
 use Rattle.std.proofs.lemmas.Result.{IfOk-weaker}
 use Rattle.serde_json.specs.Data.{array, object, no_members, put}
 use Rattle.sd_json.specs.NestedLists.{joined}
 use Rattle.serde_json.specs.Read.{of_json, of_items, converted}
 use Rattle.sd_json.specs.Walk.{value_kept, items_kept_from}
 use Rattle.sd_json.proofs.Converting.{converted-array, converted-object, item_refused, items_over, member_read, member_refused, key_refused, members_over}
-use Rattle.sd_json.proofs.Walking.{made_of, kept_from_begin, turn, number_kept, number_refused, array_kept_so, joined-empty, joined-none, none_made, none_stays, other_kept, closed_refused, nothing_refused, number_read}
+use Rattle.sd_json.proofs.Walking.{made_of, kept_from_begin, turn, array_kept_so, joined-empty, joined-none, none_made, none_stays, other_kept, closed_refused, nothing_refused, number_read}
 use Rattle.sd_json.proofs.walk.+walk.Goals as goal
 
 pub read_from-returns-then-depth-eq0-clause-err : goal.read_from-returns-then-depth-eq0-clause-err

@@ -1,4 +1,3 @@
-use Rattle.std.proofs.Common.{◌≡◌}
 use Rattle.sd_json.proofs.Walking.{nothing_refused}
 use Rattle.sd_json.proofs.walk.read_value.Goals as goal
 
