@@ -1,0 +1,14 @@
+pub mod Arrays
+pub mod Joined
+pub mod Values
+pub mod Flow
+pub mod Runs
+pub mod ActRuns
+pub mod Shapes
+pub mod PlainRuns
+pub mod Whole
+pub mod Plains
+pub mod Steps
+pub mod Linked
+pub mod Frames
+pub mod Loads

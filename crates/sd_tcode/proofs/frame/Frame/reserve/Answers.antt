@@ -1,0 +1,31 @@
+use Rattle.std.proofs.Common.{◌≡◌, ◌∙◌, ◌+◌, pos, ap, sym, length, map, take, replicate, List, ℕ, ℤ, arith}
+use Rattle.std.proofs.lemmas.List.{length-replicate}
+use Rattle.sd_tcode.specs.Compiled.{Compiled}
+use Rattle.sd_tcode.specs.Held.{given_by, zeros_for, zero_cells}
+use Rattle.sd_tcode.proofs.Loads.{zeros_given, zeros_dims}
+use Rattle.sd_tcode.proofs.frame.Frame.reserve.Goals as goal
+
+pub returns-clause-given : goal.returns-clause-given
+returns-clause-given c =
+    let safe = c.code.invariant in
+    let layout = c.code.inside.layout in
+    let low = safe.inputs in
+    let more = safe.registers in
+    let inputs : layout.inputs ≡ c.args.code.now.layout.inputs = ap (λ (k : Compiled). k.layout.inputs) c.code.view_is in
+    let arrays = c.in_ok-zero_arrays.field-0.items in
+    let extents = c.in_ok-zero_arrays.ensures.extents ∙ ap (λ (l : List ℕ). map (λ count. replicate count 0) l) c.deref.ensures.value in
+    let cells = c.in_ok-zero_arrays.ensures.cells ∙ ap (λ (l : List ℕ). zero_cells l c.args.widest.now) c.deref.ensures.value in
+    ap (λ (l : List ℤ). given_by layout.inputs (take (layout.inputs + layout.variables) l) arrays) c.in_ok-zeros.ensures
+    ∙ (zeros_given layout.inputs layout.variables c.code.inside.registers arrays c.code.inside.dims.items c.args.widest.now (omega (arith, low, more)) (c.requires ∙ sym inputs) extents cells
+    ∙ ap (λ (k : Compiled). zeros_for k c.args.widest.now) c.code.view_is)
+
+pub returns-clause-frame : goal.returns-clause-frame
+returns-clause-frame c =
+    let extents = c.in_ok-zero_arrays.ensures.extents ∙ ap (λ (l : List ℕ). map (λ count. replicate count 0) l) c.deref.ensures.value in
+    record {
+      registers = ap length c.in_ok-zeros.ensures ∙ (length-replicate c.code.inside.registers (pos 0) ∙ ap (λ (k : Compiled). k.registers) c.code.view_is);
+      arrays = zeros_dims c.in_ok-zero_arrays.field-0.items c.code.inside.dims.items extents ∙ ap (λ (k : Compiled). k.dims) c.code.view_is;
+      slots = c.in_ok-reserve.ensures.slots ∙ ap (λ (k : Compiled). k.slots) c.code.view_is;
+      inputs = ap (λ (k : Compiled). k.layout.inputs) c.code.view_is;
+      variables = ap (λ (k : Compiled). k.layout.variables) c.code.view_is;
+    }

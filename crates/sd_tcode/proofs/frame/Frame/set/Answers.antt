@@ -1,0 +1,13 @@
+use Rattle.std.proofs.Common.{◌+◌, ◌<◌, take, FitsSigned, arith, length-drop}
+use Rattle.std.proofs.lemmas.List.{length-take}
+use Rattle.std.specs.Int.{w64}
+use Rattle.std.proofs.lemmas.Int.{to_z-of_z}
+use Rattle.sd_tcode.proofs.Loads.{variable_given}
+use Rattle.sd_tcode.proofs.frame.Frame.set.Goals as goal
+
+pub returns-clause-given : goal.returns-clause-given
+returns-clause-given c =
+    let frame = c.args.self.now in
+    let fits : FitsSigned w64 c.args.value = c.ranges.value in
+    let low : frame.inputs + c.args.variable < frame.inputs + frame.variables = omega (arith, c.requires, length-drop frame.inputs (take (frame.inputs + frame.variables) frame.registers.items), length-take (frame.inputs + frame.variables) frame.registers.items) in
+    rw (to_z-of_z w64 c.args.value fits) (variable_given frame.inputs (frame.inputs + frame.variables) frame.registers.items frame.arrays.items c.args.variable c.args.value low)

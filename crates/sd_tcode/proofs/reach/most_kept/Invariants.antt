@@ -1,0 +1,10 @@
+use Rattle.std.proofs.Common.{◌≡◌, ◌≤◌, ◌+◌, drop}
+use Rattle.sd_tcode.specs.Within as within
+use Rattle.sd_tcode.proofs.reach.most_kept.Given as goal
+
+-- with what is left it is that of all
+abbrev pub invariant-loop-op : goal.invariant-loop-op
+invariant-loop-op l = record {
+  few : l.count ≤ l.op-index;
+  left : l.count + within.most_kept (drop l.op-index l.ops) ≡ within.most_kept l.ops;
+}

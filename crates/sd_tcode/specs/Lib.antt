@@ -1,0 +1,10 @@
+pub mod Named
+pub mod Machine
+pub mod Within
+pub mod Memory
+pub mod Emitted
+pub mod Plain
+pub mod Outputs
+pub mod Compiled
+pub mod CodeView
+pub mod Held
