@@ -12,3 +12,5 @@ pub mod Steps
 pub mod Linked
 pub mod Frames
 pub mod Loads
+pub mod FewDimensions
+pub mod Ready

@@ -10,13 +10,22 @@ use Rattle.sd_tcode.specs.declared.array.Array.{Array}
 use Rattle.sd_tcode.proofs.Arrays.{cells_got}
 use Rattle.sd_tcode.proofs.Linked.{elements_same}
 
-pub elements_low : (arrays : List Array) (scalars : List ℤ) (connector : ℕ) → connector < length (elements_in arrays scalars) → (connector < length arrays) × (connector < length scalars)
-elements_low [] scalars connector h = absurd (omega arith)
-elements_low (array ∷ arrays) [] connector h = absurd (omega arith)
-elements_low (array ∷ arrays) (value ∷ scalars) zero h = (omega arith, omega arith)
-elements_low (array ∷ arrays) (value ∷ scalars) (suc connector) h =
-    let low = elements_low arrays scalars connector (omega arith) in
+-- what has a member is there
+pub there_by_place : {A : Type 0} (lists : List (List A)) (connector at : ℕ) → at < length (slice_index_or lists connector []) → connector < length lists
+there_by_place [] connector at h = absurd (omega arith)
+there_by_place (first ∷ rest) zero at h = omega arith
+there_by_place (first ∷ rest) (suc connector) at h = omega (arith, there_by_place rest connector at h)
+
+elements_there : (arrays : List Array) (scalars : List ℤ) (connector : ℕ) → connector < length (elements_in arrays scalars) → (connector < length arrays) × (connector < length scalars)
+elements_there [] scalars connector h = absurd (omega arith)
+elements_there (array ∷ arrays) [] connector h = absurd (omega arith)
+elements_there (array ∷ arrays) (value ∷ scalars) zero h = (omega arith, omega arith)
+elements_there (array ∷ arrays) (value ∷ scalars) (suc connector) h =
+    let low = elements_there arrays scalars connector (omega arith) in
     (omega (arith, low.0), omega (arith, low.1))
+
+pub elements_low : (arrays : List Array) (scalars : List ℤ) (connector at : ℕ) → at < length (slice_index_or (elements_in arrays scalars) connector []) → (connector < length arrays) × (connector < length scalars)
+elements_low arrays scalars connector at h = elements_there arrays scalars connector (there_by_place (elements_in arrays scalars) connector at h)
 
 one_value : (at : ℕ) (value new : ℤ) → at < 1 → new ∷ [] ≡ slice_set (value ∷ []) at new
 one_value zero value new h = refl

@@ -1,6 +1,8 @@
 ghost use Rattle.std.specs.Prelude.{◌≡◌, ◌+◌, ◌<◌, ◌++◌, ◌∷◌, [], length, map, replicate, slice_index_or, if◌then◌else◌, ◌==◌, pos, zero, take, IfOk};
 ghost use Rattle.sd_graph.specs.TaskletMeaning.{Inputs};
-ghost use Rattle.sd_tcode.specs.Compiled.{Compiled};
+ghost use Rattle.sd_graph.specs.PlainTree.{TaskletTree};
+ghost use Rattle.sd_tasklet.specs.Given.{IsWhole};
+ghost use Rattle.sd_tcode.specs.Compiled.{Compiled, IsCodeOf};
 ghost use Rattle.sd_tcode.specs.Held.{IsFrameOf, given, output_of, zero_cells, with_element, with_extent, with_variable, zeros_for};
 
 use crate::array::Array;
@@ -61,6 +63,7 @@ impl Frame {
         requires { length widest.now ≡ code.now.layout.inputs }
         ensures frame { IfOk result (IsFrameOf code.now) }
         ensures given { IfOk result (λ frame. given frame ≡ zeros_for code.now widest.now) }
+        ensures whole { IfOk result (λ frame. (tree : TaskletTree) → IsCodeOf tree code.now → IsWhole (given frame)) }
     {
         Ok(Frame {
             registers: zeros(alloc, code.registers)?,
@@ -74,8 +77,7 @@ impl Frame {
     /// Gives an input connector the element at a place in row order.
     #[inline(always)]
     pub fn load(&mut self, connector: u32, at: u64, value: i64)
-        requires connector { connector < length (given self.old).values }
-        requires place { at < length (slice_index_or (given self.old).values connector []) }
+        requires { at < length (slice_index_or (given self.old).values connector []) }
         ensures given { given self.new ≡ with_element (given self.old) connector at value }
         ensures frame { (code : Compiled) → IsFrameOf code self.old → IsFrameOf code self.new }
     {
@@ -89,8 +91,7 @@ impl Frame {
 
     /// Sets one extent of a connector.
     pub fn shape(&mut self, connector: u32, dim: u32, extent: u64)
-        requires connector { connector < length (given self.old).extents }
-        requires dim { dim < length (slice_index_or (given self.old).extents connector []) }
+        requires { dim < length (slice_index_or (given self.old).extents connector []) }
         ensures given { given self.new ≡ with_extent (given self.old) connector dim extent }
         ensures frame { (code : Compiled) → IsFrameOf code self.old → IsFrameOf code self.new }
     {

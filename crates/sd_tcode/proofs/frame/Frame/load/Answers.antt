@@ -13,41 +13,41 @@ use Rattle.sd_tcode.proofs.frame.Frame.load.Goals as goal
 pub index-requires : goal.index-requires
 index-requires c =
     let frame = c.args.self.now in
-    let low = (elements_low frame.arrays.items (take frame.inputs (take (frame.inputs + frame.variables) frame.registers.items)) c.args.connector c.requires.connector).0 in
+    let low = (elements_low frame.arrays.items (take frame.inputs (take (frame.inputs + frame.variables) frame.registers.items)) c.args.connector c.args.at c.requires).0 in
     omega (arith, low, frame.arrays.ok.0)
 
 pub index_mut-requires-else-is_empty : goal.index_mut-requires-else-is_empty
 index_mut-requires-else-is_empty c =
     let frame = c.args.self.now in
-    let low = (elements_low frame.arrays.items (take frame.inputs (take (frame.inputs + frame.variables) frame.registers.items)) c.args.connector c.requires.connector).0 in
+    let low = (elements_low frame.arrays.items (take frame.inputs (take (frame.inputs + frame.variables) frame.registers.items)) c.args.connector c.args.at c.requires).0 in
     omega (arith, low, frame.arrays.ok.0)
 
 pub index_mut-requires : goal.index_mut-requires
 index_mut-requires c =
     let frame = c.args.self.now in
-    let low = (elements_low frame.arrays.items (take frame.inputs (take (frame.inputs + frame.variables) frame.registers.items)) c.args.connector c.requires.connector).1 in
+    let low = (elements_low frame.arrays.items (take frame.inputs (take (frame.inputs + frame.variables) frame.registers.items)) c.args.connector c.args.at c.requires).1 in
     omega (arith, low, frame.registers.ok.0, length-take frame.inputs (take (frame.inputs + frame.variables) frame.registers.items), length-take (frame.inputs + frame.variables) frame.registers.items)
 
 pub returns-then-is_empty-clause-given : goal.returns-then-is_empty-clause-given
 returns-then-is_empty-clause-given c =
     let frame = c.args.self.now in
     let fits : FitsSigned w64 c.args.value = c.ranges.value in
-    let low = elements_low frame.arrays.items (take frame.inputs (take (frame.inputs + frame.variables) frame.registers.items)) c.args.connector c.requires.connector in
+    let low = elements_low frame.arrays.items (take frame.inputs (take (frame.inputs + frame.variables) frame.registers.items)) c.args.connector c.args.at c.requires in
     let none : length (extents_at frame.arrays.items c.args.connector) ≡ 0 =
     ap length (sym (ap (λ (a : Array). a.extents.items) c.index.ensures ∙ extents_got frame.arrays.items c.args.connector c.index.result.now low.0)) ∙ (sym c.index.result.now.extents.ok.0 ∙ none_by_test (sym c.is_empty.ensures ∙ c.if-is_empty.true)) in
     rw (to_z-of_z w64 c.args.value fits)
     (scalar_given frame.inputs (frame.inputs + frame.variables) frame.registers.items frame.arrays.items c.args.connector c.args.at c.args.value
-    (omega (arith, low.1, length-take frame.inputs (take (frame.inputs + frame.variables) frame.registers.items))) (omega arith) none c.requires.place)
+    (omega (arith, low.1, length-take frame.inputs (take (frame.inputs + frame.variables) frame.registers.items))) (omega arith) none c.requires)
 
 pub index_mut-requires-else-is_empty-2 : goal.index_mut-requires-else-is_empty-2
 index_mut-requires-else-is_empty-2 c =
     let frame = c.args.self.now in
     let arrays = frame.arrays.items in
     let scalars = take frame.inputs (take (frame.inputs + frame.variables) frame.registers.items) in
-    let low = elements_low arrays scalars c.args.connector c.requires.connector in
+    let low = elements_low arrays scalars c.args.connector c.args.at c.requires in
     let some : 0 < length (extents_at arrays c.args.connector) =
     subst (λ l. 0 < length l) (ap (λ (a : Array). a.extents.items) c.index.ensures ∙ extents_got arrays c.args.connector c.index.result.now low.0) (subst (λ n. 0 < n) c.index.result.now.extents.ok.0 (some_by_test (sym c.is_empty.ensures ∙ c.if-is_empty.false))) in
-    let there = cell_there arrays scalars c.args.connector c.args.at c.index_mut-else-is_empty.result.now low.0 low.1 c.index_mut-else-is_empty.ensures.value some c.requires.place in
+    let there = cell_there arrays scalars c.args.connector c.args.at c.index_mut-else-is_empty.result.now low.0 low.1 c.index_mut-else-is_empty.ensures.value some c.requires in
     omega (arith, there, c.index_mut-else-is_empty.result.now.cells.ok.0)
 
 pub returns-else-is_empty-clause-given : goal.returns-else-is_empty-clause-given
@@ -57,7 +57,7 @@ returns-else-is_empty-clause-given c =
     let element = c.index_mut-else-is_empty.result.now in
     let fits : FitsSigned w64 c.args.value = c.ranges.value in
     let scalars = take frame.inputs (take (frame.inputs + frame.variables) frame.registers.items) in
-    let low = elements_low arrays scalars c.args.connector c.requires.connector in
+    let low = elements_low arrays scalars c.args.connector c.args.at c.requires in
     let some : 0 < length (extents_at arrays c.args.connector) =
     subst (λ l. 0 < length l) (ap (λ (a : Array). a.extents.items) c.index.ensures ∙ extents_got arrays c.args.connector c.index.result.now low.0) (subst (λ n. 0 < n) c.index.result.now.extents.ok.0 (some_by_test (sym c.is_empty.ensures ∙ c.if-is_empty.false))) in
     let extents = ap (λ (a : Array). a.extents.items) c.index_mut-else-is_empty.ensures.value ∙ extents_got arrays c.args.connector element low.0 in
@@ -73,7 +73,7 @@ returns-else-is_empty-clause-frame c code is =
     let element = c.index_mut-else-is_empty.result.now in
     let fits : FitsSigned w64 c.args.value = c.ranges.value in
     let scalars = take frame.inputs (take (frame.inputs + frame.variables) frame.registers.items) in
-    let low = elements_low arrays scalars c.args.connector c.requires.connector in
+    let low = elements_low arrays scalars c.args.connector c.args.at c.requires in
     let extents = ap (λ (a : Array). a.extents.items) c.index_mut-else-is_empty.ensures.value ∙ extents_got arrays c.args.connector element low.0 in
     let new : Array = record { extents = element.extents; cells = with_item element.cells c.args.at c.args.value } in
     rw (to_z-of_z w64 c.args.value fits)

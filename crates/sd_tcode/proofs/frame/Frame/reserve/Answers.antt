@@ -1,12 +1,14 @@
-use Rattle.std.proofs.Common.{◌≡◌, ◌∙◌, ◌+◌, pos, ap, sym, length, map, take, replicate, List, ℕ, ℤ, arith}
+use Rattle.std.proofs.Common.{◌≡◌, ◌∙◌, ◌+◌, pos, ap, sym, subst, length, map, take, replicate, List, ℕ, ℤ, arith}
 use Rattle.std.proofs.lemmas.List.{length-replicate}
 use Rattle.sd_tcode.specs.Compiled.{Compiled}
-use Rattle.sd_tcode.specs.Held.{given_by, zeros_for, zero_cells}
+use Rattle.sd_tcode.specs.Held.{given, given_by, zeros_for, zero_cells}
+use Rattle.sd_tasklet.specs.Given.{IsWhole}
+use Rattle.sd_tcode.proofs.Ready.{zeros_whole}
 use Rattle.sd_tcode.proofs.Loads.{zeros_given, zeros_dims}
 use Rattle.sd_tcode.proofs.frame.Frame.reserve.Goals as goal
 
-pub returns-clause-given : goal.returns-clause-given
-returns-clause-given c =
+nothing_but_zeros : (c : goal.After-row_known-2-1) → given (record { registers = c.in_ok-zeros.field-0; arrays = c.in_ok-zero_arrays.field-0; log = c.in_ok-reserve.field-0; inputs = c.code.inside.layout.inputs; variables = c.code.inside.layout.variables }) ≡ zeros_for c.args.code.now c.args.widest.now
+nothing_but_zeros c =
     let safe = c.code.invariant in
     let layout = c.code.inside.layout in
     let low = safe.inputs in
@@ -18,6 +20,12 @@ returns-clause-given c =
     ap (λ (l : List ℤ). given_by layout.inputs (take (layout.inputs + layout.variables) l) arrays) c.in_ok-zeros.ensures
     ∙ (zeros_given layout.inputs layout.variables c.code.inside.registers arrays c.code.inside.dims.items c.args.widest.now (omega (arith, low, more)) (c.requires ∙ sym inputs) extents cells
     ∙ ap (λ (k : Compiled). zeros_for k c.args.widest.now) c.code.view_is)
+
+pub returns-clause-given : goal.returns-clause-given
+returns-clause-given c = nothing_but_zeros c
+
+pub returns-clause-whole : goal.returns-clause-whole
+returns-clause-whole c tree is = subst IsWhole (sym (nothing_but_zeros c)) (zeros_whole tree c.args.code.now c.args.widest.now is)
 
 pub returns-clause-frame : goal.returns-clause-frame
 returns-clause-frame c =

@@ -1,15 +1,15 @@
-use Rattle.std.proofs.Common.{◌≡◌, ◌∙◌, ◌+◌, ◌<◌, ap, length, take, arith}
+use Rattle.std.proofs.Common.{◌≡◌, ◌∙◌, ◌+◌, ◌<◌, ap, length, map, take, arith}
 use Rattle.std.proofs.lemmas.List.{length-map, length-set}
 use Rattle.std.specs.Prelude.{slice_set}
 use Rattle.std.specs.Vec.{with_item}
 use Rattle.sd_tcode.specs.Machine.{extents_at, cells_at}
 use Rattle.sd_tcode.specs.declared.array.Array.{Array}
 use Rattle.sd_tcode.proofs.Arrays.{extents_got, cells_got}
-use Rattle.sd_tcode.proofs.Loads.{extent_given, dims_kept}
+use Rattle.sd_tcode.proofs.Loads.{there_by_place, extent_given, dims_kept}
 use Rattle.sd_tcode.proofs.frame.Frame.shape.Goals as goal
 
 there : (c : goal.After-self-1) → c.args.connector < length c.args.self.now.arrays.items
-there c = omega (arith, c.requires.connector, length-map c.args.self.now.arrays.items (λ (a : Array). a.extents.items))
+there c = omega (arith, (there_by_place (map (λ (a : Array). a.extents.items) c.args.self.now.arrays.items) c.args.connector c.args.dim c.requires), length-map c.args.self.now.arrays.items (λ (a : Array). a.extents.items))
 
 extents_are : (c : goal.After-self-1) → c.index_mut.result.now.extents.items ≡ extents_at c.args.self.now.arrays.items c.args.connector
 extents_are c = ap (λ (a : Array). a.extents.items) c.index_mut.ensures.value ∙ extents_got c.args.self.now.arrays.items c.args.connector c.index_mut.result.now (there c)
