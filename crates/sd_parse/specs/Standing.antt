@@ -19,7 +19,7 @@ use Rattle.sd_parse.specs.Closing.{Step, and_then, closed, closed_times}
 use Rattle.sd_parse.specs.Context.{Context, site_of}
 use Rattle.sd_parse.specs.Continuing.{is_elif_or_else, goes_on, left, with_branch_state}
 use Rattle.sd_parse.specs.Judging.{steps_of}
-use Rattle.sd_parse.specs.LineReading.{kind_at}
+use Rattle.sd_parse.specs.LineReading.{kind_at, stands_here}
 use Rattle.sd_parse.specs.Lines.{Line, opens_tasklet}
 
 -- the least number of which this is true
@@ -63,10 +63,10 @@ abbrev pub place_behind : (closes : ℕ) → Reading HeadTree → Context → St
 place_behind zero read context = Ok context
 place_behind (suc n) read context = and_then (closed_times n context) (behind_last read)
 
--- an `elif` or `else` without its `if`, or a `def` without its decorator, or another line behind one
-abbrev pub is_out_of_place : (continues : Bool) → Wanted → HeadTree → Bool
-is_out_of_place true wanted head = false
-is_out_of_place false wanted head = is_elif_or_else head || not (is_wanted wanted head)
+-- an `elif` or `else` goes on with its `if`; no other line is one, and a `def` stands exactly behind its decorator
+abbrev pub is_in_place : (continues : Bool) → Wanted → HeadTree → Bool
+is_in_place true wanted head = true
+is_in_place false wanted head = stands_here wanted head
 
 -- an `elif` or `else` is one of itself; a program's head comes before its arguments
 abbrev pub said_by : (continues : Bool) → HeadTree → List HeadTree
@@ -78,8 +78,8 @@ abbrev pub stands_in : (continues : Bool) → Wanted → (line : ℕ) → (rest 
 stands_in continues wanted line rest context NoForm number = nat_eq number 4
 stands_in continues wanted line rest context TooDeep number = nat_eq number 8
 stands_in continues wanted line rest context (Form head) number =
-    if is_out_of_place continues wanted head then nat_eq number 4
-    else stands_against_heads line (opens_tasklet head rest) context (said_by continues head) number
+    if is_in_place continues wanted head then stands_against_heads line (opens_tasklet head rest) context (said_by continues head) number
+    else nat_eq number 4
 
 abbrev pub stands_at : (continues : Bool) → Wanted → (line : ℕ) → (rest : List Line) → Step → Reading HeadTree → (number : ℕ) → Bool
 stands_at continues wanted line rest (Ok context) read number = stands_in continues wanted line rest context read number

@@ -49,7 +49,6 @@ fn read_text(alloc: Global, text: &[u8]) -> Result<Result<Program, Refusal>, NoM
 /// The program that a source of at most 2^20 bytes is, or the number and the line of its error: the first
 /// that keeps it from being cut into tokens, else the first line that is refused, with the least
 /// number that stands against it.
-#[tactic(auto, using(crate::proofs::readable::Fields::well_formed))]
 pub fn parse(alloc: Global, text: &[u8]) -> Result<Program, SourceError>
     requires { length text.now ≤ 2 ^ 20 }
     ensures ok { IfOk result (λ program. definition.reads text.now ≡ Ok (program_of program)) }

@@ -18,7 +18,7 @@ use Rattle.sd_parse.specs.Context.{Context, site_of}
 use Rattle.sd_parse.specs.FirstRefused.{Decides}
 use Rattle.sd_parse.specs.Lines.{Line, opens_tasklet}
 use Rattle.sd_parse.specs.SourceReading.{refusal_of_text, reads_tokens, reads}
-use Rattle.sd_parse.specs.Standing.{IsLeast, stands_against_head, stands_against_heads, continues, is_out_of_place, said_by, stands_in, stands_at, said, place_of, stands_against}
+use Rattle.sd_parse.specs.Standing.{IsLeast, stands_against_head, stands_against_heads, continues, is_in_place, said_by, stands_in, stands_at, said, place_of, stands_against}
 use Rattle.sd_parse.specs.TokenLines.{lines_of_tokens}
 use Rattle.sd_parse.proofs.refused.Numbers.{never, by_or, head_range}
 use Rattle.sd_parse.proofs.refused.Decided.{decided}
@@ -48,8 +48,8 @@ in_range : (on : Bool) (wanted : Wanted) (line : ℕ) (rest : List Line) (contex
 in_range on wanted line rest context NoForm n is = is_four n (eqb-true n 4 is)
 in_range on wanted line rest context TooDeep n is = is_eight n (eqb-true n 8 is)
 in_range on wanted line rest context (Form head) n is =
-    range-if n (is_out_of_place on wanted head) (nat_eq n 4) (stands_against_heads line (opens_tasklet head rest) context (said_by on head) n)
-    (λ four. is_four n (eqb-true n 4 four)) (λ stands. heads_range line (opens_tasklet head rest) (said_by on head) context n stands) is
+    range-if n (is_in_place on wanted head) (stands_against_heads line (opens_tasklet head rest) context (said_by on head) n) (nat_eq n 4)
+    (λ stands. heads_range line (opens_tasklet head rest) (said_by on head) context n stands) (λ four. is_four n (eqb-true n 4 four)) is
 
 at_range : (on : Bool) (wanted : Wanted) (line : ℕ) (rest : List Line) (step : Step) (read : Reading HeadTree) (n : ℕ) → stands_at on wanted line rest step read n ≡ true → OfLines n
 at_range on wanted line rest (Ok context) read n is = in_range on wanted line rest context read n is

@@ -17,7 +17,7 @@ use Rattle.sd_parse.specs.Continuing.{goes_on, left, with_branch_state, continue
 use Rattle.sd_parse.specs.Judging.{refused, against, least, accepted, judged_all, judged_from, steps_of}
 use Rattle.sd_parse.specs.LineReading.{by_tokens, behind_last_block, behind_blocks, line_read}
 use Rattle.sd_parse.specs.Lines.{Line, opens_tasklet}
-use Rattle.sd_parse.specs.Standing.{IsLeast, stands_against_head, stands_against_heads, continues_in, continues, behind_last, place_behind, is_out_of_place, stands_in, stands_at, said, place_of, stands_against}
+use Rattle.sd_parse.specs.Standing.{IsLeast, stands_against_head, stands_against_heads, continues_in, continues, behind_last, place_behind, is_in_place, stands_in, stands_at, said, place_of, stands_against}
 use Rattle.sd_parse.proofs.refused.Numbers.{Agrees, never, by_or, agrees_same, head_agrees}
 
 -- a step is refused with the least number that stands, or none does
@@ -164,8 +164,8 @@ tells-tokens : (wanted : Wanted) (number : ℕ) (rest : List Line) (context : Co
 tells-tokens wanted number rest context NoForm = (refl, least_one 4)
 tells-tokens wanted number rest context TooDeep = (refl, least_one 8)
 tells-tokens wanted number rest context (Form head) =
-    tells-if number (is_out_of_place false wanted head) (λ n. nat_eq n 4) (stands_against_heads number (opens_tasklet head rest) context (steps_of head))
-    (refused 4 number) (judged_from None context number (opens_tasklet head rest) (steps_of head)) (refl, least_one 4) (tells-judged number (opens_tasklet head rest) context (steps_of head))
+    tells-if number (is_in_place false wanted head) (stands_against_heads number (opens_tasklet head rest) context (steps_of head)) (λ n. nat_eq n 4)
+    (judged_from None context number (opens_tasklet head rest) (steps_of head)) (refused 4 number) (tells-judged number (opens_tasklet head rest) context (steps_of head)) (refl, least_one 4)
 
 -- behind blocks that end
 tells-off : (wanted : Wanted) (number : ℕ) (rest : List Line) (read : Reading HeadTree) (step : Step) → Eight step →
@@ -183,11 +183,11 @@ tells-next wanted number rest head last context =
 
 tells-on : (wanted : Wanted) (number : ℕ) (rest : List Line) (head : HeadTree) (last : Context) (step : Step) → Eight step →
     TellsOr number (stands_at true wanted number rest (and_then step (λ next. Ok (left next.outer next))) (Form head)) (and_then step (λ next. Ok (left next.outer next)))
-    (and_then step (λ next. accepted (against (left next.outer next) head) number (next_branch last.block number head (left next.outer next))))
+    (and_then step (λ next. accepted (against (left next.outer next) head) number (next_branch next.block number head (left next.outer next))))
 tells-on wanted number rest head last (Ok next) eight =
     let context = left next.outer next in
-    tells_or number (stands_in true wanted number rest context (Form head)) (Ok context) (accepted (against context head) number (next_branch last.block number head context))
-    (tells-next wanted number rest head last context)
+    tells_or number (stands_in true wanted number rest context (Form head)) (Ok context) (accepted (against context head) number (next_branch next.block number head context))
+    (tells-next wanted number rest head next context)
 tells-on wanted number rest head last (Err refusal) eight = inr (eight, refl)
 
 tells-form : (on : Bool) (wanted : Wanted) (number : ℕ) (rest : List Line) (head : HeadTree) (last : Context) →
