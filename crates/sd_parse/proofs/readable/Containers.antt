@@ -327,36 +327,36 @@ close_total [] context is shape counted few states functions =
     record { counted = subst (λ outer. sum_of context.arguments + blocks_sum (context.block ∷ outer) ≤ context.counts.containers) (sym is) counted; few = few; states = states; functions = functions }
 close_total (about ∷ rest) context is shape counted few states functions =
     by_opener context.block.opener shape.0 (finished_sum about.kind context.block.kind context.block.line context.block.opener context.block.statements (blocks_sum (about ∷ rest)) shape.0) counted where
-  inner : List StatementTree
-  inner = context.block.statements
+      inner : List StatementTree
+      inner = context.block.statements
 
-  behind : (after : Context) → after.counts ≡ context.counts → after.functions ≡ context.functions → total after ≤ context.counts.containers → FewContainers after
-  behind after same others less = record {
-    counted = subst (λ c. total after ≤ c.containers) (sym same) less;
-    few = subst (λ c. c.containers ≤ 256) (sym same) few;
-    states = subst (λ c. c.states ≤ 256) (sym same) states;
-    functions = subst (AllByRecursion IsFew) (sym others) functions;
-  }
-
-  by_opener : (opener : Opener) → IsOpenedIn about.kind context.block.kind opener →
-      sum_of (finished context.block) + passed_on opener (blocks_sum (about ∷ rest)) ≤ held opener (sum_of inner) (blocks_sum (about ∷ rest)) →
-      sum_of context.arguments + held opener (sum_of inner) (blocks_sum (about ∷ rest)) ≤ context.counts.containers → FewContainers (closed_by opener about rest context)
-  by_opener file opened less counted = absurd opened
-  by_opener (function name) opened less counted =
-      record {
-        counted = omega (arith, file_sum about rest shape.1 opened.0);
-        few = few;
-        states = states;
-        functions = all-more IsFew context.functions _ functions (omega (arith, sum-listed context.arguments, sum-listed inner, counted, few));
+      behind : (after : Context) → after.counts ≡ context.counts → after.functions ≡ context.functions → total after ≤ context.counts.containers → FewContainers after
+      behind after same others less = record {
+        counted = subst (λ c. total after ≤ c.containers) (sym same) less;
+        few = subst (λ c. c.containers ≤ 256) (sym same) few;
+        states = subst (λ c. c.states ≤ 256) (sym same) states;
+        functions = subst (AllByRecursion IsFew) (sym others) functions;
       }
-  by_opener (statement s) opened less counted =
-      behind (closed_by (statement s) about rest context) refl refl (omega (arith, blocks-more about rest (finished context.block), counted, less))
-  by_opener (consumer line from size name element worker) opened less counted =
-      behind (closed_by (consumer line from size name element worker) about rest context) refl refl (omega (arith, blocks-more about rest (finished context.block), counted, less))
-  by_opener (if_block earlier when) opened less counted =
-      behind (closed_by (if_block earlier when) about rest context) refl refl (omega (arith, blocks-more about rest (finished context.block), counted, less))
-  by_opener (else_block earlier) opened less counted =
-      behind (closed_by (else_block earlier) about rest context) refl refl (omega (arith, blocks-more about rest (finished context.block), counted, less))
+
+      by_opener : (opener : Opener) → IsOpenedIn about.kind context.block.kind opener →
+          sum_of (finished context.block) + passed_on opener (blocks_sum (about ∷ rest)) ≤ held opener (sum_of inner) (blocks_sum (about ∷ rest)) →
+          sum_of context.arguments + held opener (sum_of inner) (blocks_sum (about ∷ rest)) ≤ context.counts.containers → FewContainers (closed_by opener about rest context)
+      by_opener file opened less counted = absurd opened
+      by_opener (function name) opened less counted =
+          record {
+            counted = omega (arith, file_sum about rest shape.1 opened.0);
+            few = few;
+            states = states;
+            functions = all-more IsFew context.functions _ functions (omega (arith, sum-listed context.arguments, sum-listed inner, counted, few));
+          }
+      by_opener (statement s) opened less counted =
+          behind (closed_by (statement s) about rest context) refl refl (omega (arith, blocks-more about rest (finished context.block), counted, less))
+      by_opener (consumer line from size name element worker) opened less counted =
+          behind (closed_by (consumer line from size name element worker) about rest context) refl refl (omega (arith, blocks-more about rest (finished context.block), counted, less))
+      by_opener (if_block earlier when) opened less counted =
+          behind (closed_by (if_block earlier when) about rest context) refl refl (omega (arith, blocks-more about rest (finished context.block), counted, less))
+      by_opener (else_block earlier) opened less counted =
+          behind (closed_by (else_block earlier) about rest context) refl refl (omega (arith, blocks-more about rest (finished context.block), counted, less))
 
 -- ---- `elif` and `else`
 

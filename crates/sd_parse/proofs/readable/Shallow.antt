@@ -411,47 +411,47 @@ close_total (about ∷ rest) context is shape shallow few known functions =
     by_opener context.block.opener shape.0
     (finished_few (call_depths (reverse context.functions)) context.counts.calls about.kind context.block.kind context.block.line context.block.opener context.block.statements
     (AreShallow (call_depths (reverse context.functions)) context.counts.calls (about ∷ rest)) shape.0 shallow) shallow where
-  by_opener : (opener : Opener) → IsOpenedIn about.kind context.block.kind opener → AllFew (call_depths (reverse context.functions)) context.counts.calls (finished context.block) →
-      Held (call_depths (reverse context.functions)) context.counts.calls opener (AllFew (call_depths (reverse context.functions)) context.counts.calls context.block.statements)
-      (AreShallow (call_depths (reverse context.functions)) context.counts.calls (about ∷ rest)) → FewCalls (closed_by opener about rest context)
-  by_opener file opened done held = absurd opened
-  by_opener (function name) opened done held =
-      let programs = reverse context.functions in
-      let f : FunctionTree = record { name = name; line = context.block.line; arguments = block_listed context.arguments; body = block_listed context.block.statements } in
-      let deep = all-listed (call_depths programs) context.counts.calls context.block.statements held in
-      let more : f ∷ programs ≡ reverse (context.functions ++ f ∷ []) = sym (reverse-append context.functions (f ∷ [])) in
-      let signature' = signature_of context.written context.parameters context.counts.calls in
-      record {
-        shallow = file_held (call_depths (reverse (context.functions ++ f ∷ []))) context.counts.calls about.opener _ _ (subst (AreNested about) (top_is_file about rest shape.1 opened.0) shape.1).1;
+      by_opener : (opener : Opener) → IsOpenedIn about.kind context.block.kind opener → AllFew (call_depths (reverse context.functions)) context.counts.calls (finished context.block) →
+          Held (call_depths (reverse context.functions)) context.counts.calls opener (AllFew (call_depths (reverse context.functions)) context.counts.calls context.block.statements)
+          (AreShallow (call_depths (reverse context.functions)) context.counts.calls (about ∷ rest)) → FewCalls (closed_by opener about rest context)
+      by_opener file opened done held = absurd opened
+      by_opener (function name) opened done held =
+          let programs = reverse context.functions in
+          let f : FunctionTree = record { name = name; line = context.block.line; arguments = block_listed context.arguments; body = block_listed context.block.statements } in
+          let deep = all-listed (call_depths programs) context.counts.calls context.block.statements held in
+          let more : f ∷ programs ≡ reverse (context.functions ++ f ∷ []) = sym (reverse-append context.functions (f ∷ [])) in
+          let signature' = signature_of context.written context.parameters context.counts.calls in
+          record {
+            shallow = file_held (call_depths (reverse (context.functions ++ f ∷ []))) context.counts.calls about.opener _ _ (subst (AreNested about) (top_is_file about rest shape.1 opened.0) shape.1).1;
+            few = few;
+            known = subst (DepthsAgree (put (take context.block.before.meanings context.names.meanings) name (Program_name (Some signature')))) more
+                (depth_agrees context.names.meanings context.block.before.meanings f signature' programs deep known);
+            functions = subst CallShallowly more (omega (arith, deep, few), functions);
+          }
+      by_opener (statement s) opened done held = record {
+        shallow = blocks-more (call_depths (reverse context.functions)) context.counts.calls about rest (finished context.block) done held.1;
         few = few;
-        known = subst (DepthsAgree (put (take context.block.before.meanings context.names.meanings) name (Program_name (Some signature')))) more
-            (depth_agrees context.names.meanings context.block.before.meanings f signature' programs deep known);
-        functions = subst CallShallowly more (omega (arith, deep, few), functions);
+        known = take_agree context.names.meanings context.block.before.meanings (reverse context.functions) known;
+        functions = functions;
       }
-  by_opener (statement s) opened done held = record {
-    shallow = blocks-more (call_depths (reverse context.functions)) context.counts.calls about rest (finished context.block) done held.1;
-    few = few;
-    known = take_agree context.names.meanings context.block.before.meanings (reverse context.functions) known;
-    functions = functions;
-  }
-  by_opener (consumer line from size name element worker) opened done held = record {
-    shallow = blocks-more (call_depths (reverse context.functions)) context.counts.calls about rest (finished context.block) done held.1;
-    few = few;
-    known = take_agree context.names.meanings context.block.before.meanings (reverse context.functions) known;
-    functions = functions;
-  }
-  by_opener (if_block earlier when) opened done held = record {
-    shallow = blocks-more (call_depths (reverse context.functions)) context.counts.calls about rest (finished context.block) done held.1.1;
-    few = few;
-    known = take_agree context.names.meanings context.block.before.meanings (reverse context.functions) known;
-    functions = functions;
-  }
-  by_opener (else_block earlier) opened done held = record {
-    shallow = blocks-more (call_depths (reverse context.functions)) context.counts.calls about rest (finished context.block) done held.1.1;
-    few = few;
-    known = take_agree context.names.meanings context.block.before.meanings (reverse context.functions) known;
-    functions = functions;
-  }
+      by_opener (consumer line from size name element worker) opened done held = record {
+        shallow = blocks-more (call_depths (reverse context.functions)) context.counts.calls about rest (finished context.block) done held.1;
+        few = few;
+        known = take_agree context.names.meanings context.block.before.meanings (reverse context.functions) known;
+        functions = functions;
+      }
+      by_opener (if_block earlier when) opened done held = record {
+        shallow = blocks-more (call_depths (reverse context.functions)) context.counts.calls about rest (finished context.block) done held.1.1;
+        few = few;
+        known = take_agree context.names.meanings context.block.before.meanings (reverse context.functions) known;
+        functions = functions;
+      }
+      by_opener (else_block earlier) opened done held = record {
+        shallow = blocks-more (call_depths (reverse context.functions)) context.counts.calls about rest (finished context.block) done held.1.1;
+        few = few;
+        known = take_agree context.names.meanings context.block.before.meanings (reverse context.functions) known;
+        functions = functions;
+      }
 
 -- ---- `elif` and `else`
 

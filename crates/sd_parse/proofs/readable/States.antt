@@ -37,7 +37,6 @@ use Rattle.sd_program.specs.Declared.{states_in, states_in_all, states_in_other}
 use Rattle.sd_program.specs.Limits.{states_of}
 use Rattle.sd_parse.proofs.readable.Containers.{within, same_counts, late_counted, same_counted, statement_after, other_counted}
 
-
 -- ---- the states of the open blocks
 
 -- what is counted in a program only
@@ -376,11 +375,11 @@ finished_sum Top kind line (if_block earlier when) statements outside opened ins
 finished_sum Top kind line (else_block earlier) statements outside opened inside = omega arith
 finished_sum Program kind line (statement s) statements outside opened inside = omega (arith, body_sum kind line s statements opened.1)
 finished_sum Program kind line (consumer at from size name element worker) statements outside opened inside = omega arith
-finished_sum Program kind line (if_block earlier when) statements outside opened inside = 
+finished_sum Program kind line (if_block earlier when) statements outside opened inside =
     subst
     (λ kind. sum_of (finished_by kind line (if_block earlier when) statements) + outside ≤ 1 + (branches_sum earlier + (sum_of statements + outside)) + length (if is_program kind then line ∷ lines_of earlier else []))
     (sym opened.1) (omega (arith, nested_all earlier (record { line = line; when = when; statements = statements }), late_length earlier))
-finished_sum Program kind line (else_block earlier) statements outside opened inside = 
+finished_sum Program kind line (else_block earlier) statements outside opened inside =
     subst
     (λ kind. sum_of (finished_by kind line (else_block earlier) statements) + outside ≤ branches_sum earlier + (sum_of statements + outside) + length (if is_program kind then lines_of earlier else []))
     (sym opened.1) (omega (arith, nested_sum earlier statements, late_length earlier))
@@ -415,31 +414,31 @@ close_total [] context is shape free before counted now few functions =
     }
 close_total (about ∷ rest) context is shape free before counted now few functions =
     by_opener context.block.opener shape.0 (finished_sum about.kind context.block.kind context.block.line context.block.opener context.block.statements (blocks_sum (about ∷ rest)) shape.0) counted where
-  behind : (after : Context) → after.counts ≡ context.counts → after.functions ≡ context.functions → total after ≤ context.counts.states → FewStates after
-  behind after same others less = record {
-    counted = subst (λ c. total after ≤ c.states) (sym same) less;
-    few = subst (λ c. c.states ≤ 256) (sym same) few;
-    functions = subst (AllByRecursion IsFew) (sym others) functions;
-  }
-
-  by_opener : (opener : Opener) → IsOpenedIn about.kind context.block.kind opener →
-      (IsInside opener → weight about.kind (sum_of (finished context.block)) + blocks_sum (about ∷ rest) ≤ held (is_program about.kind) opener (sum_of context.block.statements) (blocks_sum (about ∷ rest)) + length (late_states context.block)) →
-      held (is_program about.kind) opener (sum_of context.block.statements) (blocks_sum (about ∷ rest)) ≤ before → FewStates (closed_by opener about rest context)
-  by_opener file opened less counted = absurd opened
-  by_opener (function name) opened less counted =
-      record {
-        counted = omega (arith, file_sum about rest shape.1 opened.0, none_waits context.awaited about.kind free);
-        few = few;
-        functions = all-more IsFew context.functions _ functions (omega (arith, sum-listed context.block.statements, counted, now, few));
+      behind : (after : Context) → after.counts ≡ context.counts → after.functions ≡ context.functions → total after ≤ context.counts.states → FewStates after
+      behind after same others less = record {
+        counted = subst (λ c. total after ≤ c.states) (sym same) less;
+        few = subst (λ c. c.states ≤ 256) (sym same) few;
+        functions = subst (AllByRecursion IsFew) (sym others) functions;
       }
-  by_opener (statement s) opened less counted =
-      behind (closed_by (statement s) about rest context) refl refl (omega (arith, blocks-more about rest (finished context.block) shape.1, none_waits context.awaited about.kind free, counted, less tt, now))
-  by_opener (consumer line from size name element worker) opened less counted =
-      behind (closed_by (consumer line from size name element worker) about rest context) refl refl (omega (arith, blocks-more about rest (finished context.block) shape.1, none_waits context.awaited about.kind free, counted, less tt, now))
-  by_opener (if_block earlier when) opened less counted =
-      behind (closed_by (if_block earlier when) about rest context) refl refl (omega (arith, blocks-more about rest (finished context.block) shape.1, none_waits context.awaited about.kind free, counted, less tt, now))
-  by_opener (else_block earlier) opened less counted =
-      behind (closed_by (else_block earlier) about rest context) refl refl (omega (arith, blocks-more about rest (finished context.block) shape.1, none_waits context.awaited about.kind free, counted, less tt, now))
+
+      by_opener : (opener : Opener) → IsOpenedIn about.kind context.block.kind opener →
+          (IsInside opener → weight about.kind (sum_of (finished context.block)) + blocks_sum (about ∷ rest) ≤ held (is_program about.kind) opener (sum_of context.block.statements) (blocks_sum (about ∷ rest)) + length (late_states context.block)) →
+          held (is_program about.kind) opener (sum_of context.block.statements) (blocks_sum (about ∷ rest)) ≤ before → FewStates (closed_by opener about rest context)
+      by_opener file opened less counted = absurd opened
+      by_opener (function name) opened less counted =
+          record {
+            counted = omega (arith, file_sum about rest shape.1 opened.0, none_waits context.awaited about.kind free);
+            few = few;
+            functions = all-more IsFew context.functions _ functions (omega (arith, sum-listed context.block.statements, counted, now, few));
+          }
+      by_opener (statement s) opened less counted =
+          behind (closed_by (statement s) about rest context) refl refl (omega (arith, blocks-more about rest (finished context.block) shape.1, none_waits context.awaited about.kind free, counted, less tt, now))
+      by_opener (consumer line from size name element worker) opened less counted =
+          behind (closed_by (consumer line from size name element worker) about rest context) refl refl (omega (arith, blocks-more about rest (finished context.block) shape.1, none_waits context.awaited about.kind free, counted, less tt, now))
+      by_opener (if_block earlier when) opened less counted =
+          behind (closed_by (if_block earlier when) about rest context) refl refl (omega (arith, blocks-more about rest (finished context.block) shape.1, none_waits context.awaited about.kind free, counted, less tt, now))
+      by_opener (else_block earlier) opened less counted =
+          behind (closed_by (else_block earlier) about rest context) refl refl (omega (arith, blocks-more about rest (finished context.block) shape.1, none_waits context.awaited about.kind free, counted, less tt, now))
 
 -- ---- `elif` and `else`
 

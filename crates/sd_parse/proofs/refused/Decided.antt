@@ -114,6 +114,7 @@ at_or_before : (over line number : ℕ) → line ≤ over → nat_eq over line &
 at_or_before over line number up none = by_both (nat_eq over line) refl none where
   unequal : nat_eq over line ≡ false → line < over
   unequal is = omega (arith, up, eqb-false over line is)
+
   by_both : (same : Bool) → nat_eq over line ≡ same → same && nat_lt 8 number ≡ false → (line < over) ⊎ ((line ≡ over) × (number ≤ 8))
   by_both true is none = inr (sym (eqb-true over line is), ltb-false 8 number none)
   by_both false is none = inl (unequal is)
