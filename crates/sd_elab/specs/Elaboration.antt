@@ -1,12 +1,13 @@
 -- The graph of a program.
-use Rattle.std.specs.Prelude.{ℕ, ◌+◌, List, [], ◌∷◌, length, false, unwrap_or}
+use Rattle.std.specs.Prelude.{ℕ, ◌+◌, List, [], ◌∷◌, length, false}
 use Rattle.sd_lex.specs.PlainTree.{argument_array, Block, no_statement, and_statement, FunctionTree, ProgramTree}
-use Rattle.sd_graph.specs.PlainTree.{no_item, no_state, GraphTree, graph}
+use Rattle.sd_graph.specs.PlainTree.{no_item, GraphTree, graph}
 use Rattle.sd_graph.specs.TreeFold.{states_listed}
-use Rattle.sd_program.specs.Names.{Name, Named, in_force}
+use Rattle.sd_program.specs.Names.{Name, Named}
+use Rattle.sd_items.specs.Graphs.{no_graph, graph_named}
 use Rattle.sd_task.specs.Table.{Table, with_container, with_variables}
 use Rattle.sd_program.specs.Declared.{containers_in_all}
-use Rattle.sd_elab.specs.Declarations.{variable_names_all, declared_names_all, Containers, containers_with_all}
+use Rattle.sd_containers.specs.Declarations.{variable_names_all, declared_names_all, Containers, containers_with_all}
 use Rattle.sd_elab.specs.Standing.{Standing}
 use Rattle.sd_elab.specs.States.{chained_all}
 
@@ -40,13 +41,6 @@ function_graph symbols graphs function =
     } in
     graph function.name containers arguments (variable_names_all function.body symbols) (length symbols)
     (states_listed (chained_all graphs function.body start no_item []))
-
-abbrev pub no_graph : GraphTree
-no_graph = graph [] [] 0 [] 0 no_state
-
--- the latest of these graphs with a name
-abbrev pub graph_named : Named GraphTree → Name → GraphTree
-graph_named graphs name = unwrap_or (in_force graphs name) no_graph
 
 -- the graphs of programs, each of which calls those before it; the latest first
 abbrev pub graphs_with : (symbols : List Name) → Named GraphTree → List FunctionTree → Named GraphTree

@@ -1,7 +1,3 @@
-pub mod Counts
-pub mod Declarations
-pub mod NamesBehind
-pub mod Items
 pub mod Exits
 pub mod Standing
 pub mod States

@@ -5,8 +5,8 @@ use Rattle.sd_program.specs.Names.{Name}
 use Rattle.sd_program.specs.Declared.{states_in, states_in_all}
 use Rattle.sd_task.specs.Table.{Table, with_variables}
 use Rattle.sd_program.specs.Declared.{containers_in, containers_in_all}
-use Rattle.sd_elab.specs.Counts.{variables_in, variables_in_all}
-use Rattle.sd_elab.specs.NamesBehind.{table_behind_state, table_behind_all}
+use Rattle.sd_items.specs.Counts.{variables_in, variables_in_all}
+use Rattle.sd_items.specs.NamesBehind.{table_behind_state, table_behind_all}
 
 -- the numbers of the state, container and variable that come next, and what is in force
 pub record Standing : Type 0 where

@@ -9,4 +9,3 @@
 mod building;
 mod count;
 mod exit;
-mod variable_names;

@@ -6,8 +6,6 @@ pub mod Links
 pub mod Operators
 pub mod UsedVariables
 pub mod ElementCode
-pub mod TaskletCode
-pub mod TaskletItem
 pub mod Stack
 pub mod TableOf
 pub mod Exact

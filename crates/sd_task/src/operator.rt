@@ -4,7 +4,7 @@ ghost use Rattle.sd_task.specs.Operators as signs;
 use sd_graph::{OneSign, TwoSign};
 
 /// The sign of a graph's code that stands for one of the syntax tree.
-pub(crate) fn one_sign(sign: sd_lex::OneSign) -> OneSign
+pub fn one_sign(sign: sd_lex::OneSign) -> OneSign
     ensures { result ≡ signs.one_sign sign }
 {
     match sign {
@@ -15,7 +15,7 @@ pub(crate) fn one_sign(sign: sd_lex::OneSign) -> OneSign
 }
 
 /// The same of a sign between two expressions.
-pub(crate) fn two_sign(sign: sd_lex::TwoSign) -> TwoSign
+pub fn two_sign(sign: sd_lex::TwoSign) -> TwoSign
     ensures { result ≡ signs.two_sign sign }
 {
     match sign {

@@ -7,7 +7,7 @@ use sd_graph::Value;
 use sd_list::NoMemory;
 
 /// One more variable that code uses, unless it stands there or is not in force.
-pub(crate) fn push_variable(used: &mut IndexSet<u32>, variable: Option<u32>) -> Result<(), NoMemory>
+pub fn push_variable(used: &mut IndexSet<u32>, variable: Option<u32>) -> Result<(), NoMemory>
     ensures { OnOk result (used.new.keys ≡ with_variable used.old.keys variable) }
 {
     if let Some(variable) = variable {
@@ -17,7 +17,7 @@ pub(crate) fn push_variable(used: &mut IndexSet<u32>, variable: Option<u32>) -> 
 }
 
 /// A variable by its place among those that code uses; what is not in force is 0.
-pub(crate) fn variable_value(used: &IndexSet<u32>, variable: Option<u32>) -> Result<Value, NoMemory>
+pub fn variable_value(used: &IndexSet<u32>, variable: Option<u32>) -> Result<Value, NoMemory>
     ensures { IfOk result (λ value. value_tree value ≡ variable_value used.now.keys variable) }
 {
     match variable {

@@ -1,6 +1,6 @@
 ghost use Rattle.std.specs.Prelude.{◌≡◌, ◌++◌, [], ◌∷◌, map, string_bytes, OnOk};
 ghost use Rattle.sd_lex.specs.TreeFold.{statement_of, block_of};
-ghost use Rattle.sd_elab.specs.Declarations as definition;
+ghost use Rattle.sd_containers.specs.Declarations as definition;
 
 use sd_lex::Statement;
 use sd_list::NoMemory;

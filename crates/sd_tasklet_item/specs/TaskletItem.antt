@@ -7,7 +7,7 @@ use Rattle.sd_program.specs.Names.{Named}
 use Rattle.sd_task.specs.Names.{with_numbered}
 use Rattle.sd_task.specs.Table.{Table}
 use Rattle.sd_task.specs.Links.{memlet_link, ports_of}
-use Rattle.sd_task.specs.TaskletCode.{used_acts_all, next_behind_all, acts_of}
+use Rattle.sd_tasklet_item.specs.TaskletCode.{used_acts_all, next_behind_all, acts_of}
 
 -- the link of a line that declares an input, before these
 abbrev pub input_before : Table → StatementTree → List Link → List Link

@@ -1,6 +1,6 @@
 use Rattle.std.proofs.Common.{◌≡◌, drop, map, string_bytes}
 use Rattle.sd_lex.specs.TreeFold.{block_of}
-use Rattle.sd_elab.specs.Declarations.{variable_names_all}
+use Rattle.sd_containers.specs.Declarations.{variable_names_all}
 use Rattle.sd_elab.proofs.variable_names.+names.Given as goal
 
 abbrev pub invariant-push_of_block-loop-statement : goal.invariant-push_of_block-loop-statement

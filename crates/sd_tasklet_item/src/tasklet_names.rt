@@ -1,9 +1,8 @@
 ghost use Rattle.std.specs.Prelude.{◌≡◌, ◌+◌, [], ◌∷◌, cond, OnOk};
-ghost use Rattle.sd_task.specs.TaskletCode as definition;
+ghost use Rattle.sd_tasklet_item.specs.TaskletCode as definition;
 
-use crate::counting::more;
-use crate::scope::Scope;
 use sd_list::NoMemory;
+use sd_task::{Scope, more};
 use std::alloc::Global;
 
 /// The connectors of a tasklet, by name.

@@ -1,13 +1,13 @@
 ghost use Rattle.std.specs.Prelude.{◌≡◌, OnOk};
 ghost use Rattle.sd_lex.specs.TreeFold.{statement_of, block_of};
-ghost use Rattle.sd_task.specs.TaskletCode as definition;
+ghost use Rattle.sd_tasklet_item.specs.TaskletCode as definition;
 
-use crate::scope::Scope;
 use crate::tasklet_names::{Connectors, Locals};
 use crate::tasklet_value::{push_all_used, push_used};
 use indexmap::IndexSet;
 use sd_lex::Statement;
 use sd_list::NoMemory;
+use sd_task::Scope;
 use std::alloc::Global;
 
 /// Adds the variables that a line of a tasklet uses, and declares its local.

@@ -5,7 +5,7 @@ use Rattle.sd_lex.specs.declared.syntax.expression.Expr.{Expr}
 use Rattle.sd_graph.specs.PlainTree.{and_value}
 use Rattle.sd_graph.specs.TreeFold.{values_listed}
 use Rattle.sd_program.specs.Names.{Named}
-use Rattle.sd_task.specs.TaskletCode.{task_value, task_values}
+use Rattle.sd_tasklet_item.specs.TaskletCode.{task_value, task_values}
 
 -- the code of several expressions, one by one
 pub values_mapped : (variables ins outs : Named ℕ) (used : List ℕ) (locals : Named ℕ) (expressions : List Expr) →

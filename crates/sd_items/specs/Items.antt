@@ -14,10 +14,10 @@ use Rattle.sd_task.specs.Ranges.{parameters_of}
 use Rattle.sd_task.specs.Table.{Table, with_container, with_variables, container_number}
 use Rattle.sd_task.specs.Links.{link_to, subset_link, resolution_of}
 use Rattle.sd_program.specs.Declared.{containers_in}
-use Rattle.sd_elab.specs.Counts.{variables_in}
-use Rattle.sd_elab.specs.NamesBehind.{own_of, table_behind}
+use Rattle.sd_items.specs.Counts.{variables_in}
+use Rattle.sd_items.specs.NamesBehind.{own_of, table_behind}
 use Rattle.sd_task.specs.ElementCode.{element_task}
-use Rattle.sd_task.specs.TaskletItem.{tasklet_item, task_with, inputs_of, outputs_of}
+use Rattle.sd_tasklet_item.specs.TaskletItem.{tasklet_item, task_with, inputs_of, outputs_of}
 
 -- the links of a call: each argument, with the callee's parameter as the connector
 abbrev pub call_links : Table → List (Name × List Dimension) → List (Name × Container) → List Link

@@ -2,17 +2,15 @@ ghost use Rattle.std.specs.Prelude.{◌≡◌, IfOk, OnOk};
 ghost use Rattle.sd_graph.specs.TreeFold.{value_tree, value_trees};
 ghost use Rattle.sd_lex.specs.TreeFold.{expression_of, expressions_of};
 ghost use Rattle.sd_program.specs.Names.{in_force};
-ghost use Rattle.sd_task.specs.TaskletCode as definition;
+ghost use Rattle.sd_tasklet_item.specs.TaskletCode as definition;
 ghost use Rattle.sd_task.specs.UsedVariables.{variable_value};
 
-use crate::operator::{one_sign, two_sign};
-use crate::scope::Scope;
 use crate::tasklet_names::Connectors;
-use crate::used::{push_variable, variable_value};
 use indexmap::IndexSet;
 use sd_graph::Value;
 use sd_lex::Expr;
 use sd_list::NoMemory;
+use sd_task::{Scope, one_sign, push_variable, two_sign, variable_value};
 use std::alloc::Global;
 
 /// Adds the variable for which a name stands, if it stands for one.

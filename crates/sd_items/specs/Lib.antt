@@ -1,0 +1,4 @@
+pub mod Counts
+pub mod NamesBehind
+pub mod Items
+pub mod Graphs

@@ -1,0 +1,2 @@
+pub mod TaskletCode
+pub mod TaskletItem
