@@ -7,7 +7,8 @@ use Rattle.sd_program.specs.Names.{Name, Named}
 use Rattle.sd_items.specs.Graphs.{no_graph, graph_named}
 use Rattle.sd_task.specs.Table.{Table, with_container, with_variables}
 use Rattle.sd_program.specs.Declared.{containers_in_all}
-use Rattle.sd_containers.specs.Declarations.{variable_names_all, declared_names_all, Containers, containers_with_all}
+use Rattle.sd_program.specs.DeclaredNames.{container_names}
+use Rattle.sd_containers.specs.Declarations.{variable_names_all, Containers, containers_with_all}
 use Rattle.sd_elab.specs.Standing.{Standing}
 use Rattle.sd_elab.specs.States.{chained_all}
 
@@ -25,7 +26,7 @@ table_of_symbols symbols containers = with_variables symbols 0 (record { contain
 abbrev pub containers_of_function : (symbols : List Name) → FunctionTree → Containers
 containers_of_function symbols function =
     let known : Named ℕ = (table_of_symbols symbols []).variables in
-    let declared : List Name = declared_names_all function.body (declared_names_all function.arguments []) in
+    let declared : List Name = container_names function in
     containers_with_all known declared function.body false (containers_with_all known declared function.arguments false [])
 
 -- the graph of one program, where calls are of these graphs: state 0 is empty, and the last state has no exit

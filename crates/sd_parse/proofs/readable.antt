@@ -1,5 +1,6 @@
 pub mod Heads
 pub mod Passing
+pub mod Ahead
 pub mod Steps
 pub mod Nesting
 pub mod Trees
@@ -8,6 +9,7 @@ pub mod Affine
 pub mod AffinePlaces
 pub mod Forms
 pub mod LineForms
+pub mod Connectors
 pub mod InForce
 pub mod Placed
 pub mod PlacedKept
@@ -19,4 +21,5 @@ pub mod ReadFields
 pub mod Containers
 pub mod States
 pub mod Shallow
+pub mod OwnNames
 pub mod Fields

@@ -1,7 +1,9 @@
 -- What has to come behind a line, and whether a line is what has to come.
-use Rattle.std.specs.Prelude.{ℕ, nat_eq, Bool, true, false, not, ◌&&◌}
+use Rattle.std.specs.Prelude.{ℕ, nat_eq, Bool, true, false, not, ◌&&◌, if◌then◌else◌}
 use Rattle.sd_lex.specs.PlainTree.{StatementTree, argument_array, map_scope, tasklet, for_loop, while_loop, branch, tasklet_branch}
 use Rattle.sd_line.specs.Head.{HeadTree, program_decorator, program_head, statement_head, consume_decorator, consume_head, elif_head, else_head}
+use Rattle.sd_phrase.specs.declared.reading.Reading.{Reading}
+use Rattle.sd_phrase.specs.declared.reading.Reading.TheVariants.{TooDeep}
 use Rattle.sd_parse.specs.Context.{Awaited, nothing, block, function_def, consume_def}
 use Rattle.sd_parse.specs.declared.awaiting.Wanted.{Wanted}
 use Rattle.sd_parse.specs.declared.awaiting.Wanted.TheVariants.{Other, Program, Consume}
@@ -28,12 +30,26 @@ awaited_behind line (elif_head when) = block
 awaited_behind line else_head = block
 awaited_behind line other = nothing
 
--- a block opens where and only where one is awaited, and none ends before a `def` that is awaited
+-- a block opens where and only where one is awaited, and none ends before it or before a `def` that is awaited
 abbrev pub comes_right : Awaited → (opens : Bool) → (closes : ℕ) → Bool
 comes_right nothing opens closes = not opens
-comes_right block opens closes = opens
+comes_right block opens closes = opens && nat_eq closes 0
 comes_right (function_def line) opens closes = not opens && nat_eq closes 0
 comes_right (consume_def line stream size) opens closes = not opens && nat_eq closes 0
+
+abbrev pub awaits_def : Awaited → Bool
+awaits_def nothing = false
+awaits_def block = false
+awaits_def (function_def line) = true
+awaits_def (consume_def line stream size) = true
+
+abbrev pub is_too_deep : Reading HeadTree → Bool
+is_too_deep TooDeep = true
+is_too_deep read = false
+
+-- the number against a line that does not come right; one that is too deep is 8 where a `def` is awaited
+abbrev pub wrong_number : Awaited → (opens : Bool) → Reading HeadTree → ℕ
+wrong_number awaited opens read = if awaits_def awaited && not opens && is_too_deep read then 8 else 4
 
 -- which `def` has to come, if any
 abbrev pub wanted_of : Awaited → Wanted

@@ -5,7 +5,7 @@ use Rattle.sd_line.specs.declared.head.BlockKind.TheVariants.{Top}
 use Rattle.sd_line.specs.Head.{HeadTree}
 use Rattle.sd_phrase.specs.declared.reading.Reading.{Reading}
 use Rattle.sd_phrase.specs.declared.reading.Reading.TheVariants.{NoForm, TooDeep, Form}
-use Rattle.sd_parse.specs.Awaiting.{comes_right, wanted_of, is_wanted}
+use Rattle.sd_parse.specs.Awaiting.{comes_right, wrong_number, wanted_of, is_wanted}
 use Rattle.sd_parse.specs.Closing.{Step, and_then, closed, closed_times}
 use Rattle.sd_parse.specs.Context.{OpenBlock, Context}
 use Rattle.sd_parse.specs.Continuing.{is_elif_or_else, goes_on, continued_by}
@@ -46,9 +46,13 @@ kind_in (block ∷ blocks) (suc n) = kind_in blocks n
 abbrev pub kind_at : OpenBlock → (outer : List OpenBlock) → (closes : ℕ) → BlockKind
 kind_at innermost outer closes = kind_in (innermost ∷ outer) closes
 
+-- what a line says where it stands
+abbrev pub said : Context → Line → Reading HeadTree
+said context line = line.head (kind_at context.block context.outer line.closes)
+
 -- a line, with the lines behind it
 abbrev pub line_read : Context → Line → (rest : List Line) → Step
 line_read context line rest =
     if comes_right context.awaited line.opens line.closes
-    then behind_blocks (wanted_of context.awaited) line.number rest (line.head (kind_at context.block context.outer line.closes)) line.closes context
-    else refused 4 line.number
+    then behind_blocks (wanted_of context.awaited) line.number rest (said context line) line.closes context
+    else refused (wrong_number context.awaited line.opens (said context line)) line.number

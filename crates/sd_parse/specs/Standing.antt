@@ -14,12 +14,12 @@ use Rattle.sd_refusal.specs.OverLimit.{is_over_limit}
 use Rattle.sd_refusal.specs.ShapeMismatch.{has_mismatch}
 use Rattle.sd_parse.specs.declared.awaiting.Wanted.{Wanted}
 use Rattle.sd_parse.specs.After.{context_after}
-use Rattle.sd_parse.specs.Awaiting.{comes_right, wanted_of, is_wanted}
+use Rattle.sd_parse.specs.Awaiting.{comes_right, wrong_number, wanted_of, is_wanted}
 use Rattle.sd_parse.specs.Closing.{Step, and_then, closed, closed_times}
 use Rattle.sd_parse.specs.Context.{Context, site_of}
 use Rattle.sd_parse.specs.Continuing.{is_elif_or_else, goes_on, left, with_branch_state}
 use Rattle.sd_parse.specs.Judging.{steps_of}
-use Rattle.sd_parse.specs.LineReading.{kind_at, stands_here}
+use Rattle.sd_parse.specs.LineReading.{stands_here, said}
 use Rattle.sd_parse.specs.Lines.{Line, opens_tasklet}
 
 -- the least number of which this is true
@@ -85,17 +85,13 @@ abbrev pub stands_at : (continues : Bool) → Wanted → (line : ℕ) → (rest 
 stands_at continues wanted line rest (Ok context) read number = stands_in continues wanted line rest context read number
 stands_at continues wanted line rest (Err refusal) read number = false
 
--- what a line says where it stands
-abbrev pub said : Context → Line → Reading HeadTree
-said context line = line.head (kind_at context.block context.outer line.closes)
-
 -- where a line stands
 abbrev pub place_of : Context → Line → Step
 place_of context line = place_behind line.closes (said context line) context
 
--- the number stands against a line behind this context; a block that is missing, or one that nothing opens, is 4
+-- the number stands against a line behind this context; a block that is missing, or one that nothing opens, is 4, and so is a line that ends a block where a `def` is awaited, but where it is too deep
 abbrev pub stands_against : Context → Line → (rest : List Line) → (number : ℕ) → Bool
 stands_against context line rest number =
     if comes_right context.awaited line.opens line.closes
     then stands_at (continues line.closes (said context line) context) (wanted_of context.awaited) line.number rest (place_of context line) (said context line) number
-    else nat_eq number 4
+    else nat_eq number (wrong_number context.awaited line.opens (said context line))

@@ -2,6 +2,7 @@
 ghost use Rattle.std.specs.Prelude.{◌≡◌, IfOk};
 ghost use Rattle.sd_lex.specs.TreeFold.{statement_of};
 ghost use Rattle.sd_line.specs.HeadFold.{head_tree};
+ghost use Rattle.sd_phrase.specs.Readings.{reading_map};
 ghost use Rattle.sd_parse.specs.Awaiting as definition;
 ghost use Rattle.sd_parse.specs.ContextFold.{awaited_of};
 
@@ -9,6 +10,7 @@ use crate::context::Awaited;
 use sd_lex::Statement;
 use sd_line::Head;
 use sd_list::NoMemory;
+use sd_phrase::Reading;
 use std::alloc::Global;
 
 /// Which `def` has to come next.
@@ -59,15 +61,47 @@ pub fn awaited_behind(alloc: Global, line: u32, head: &Head) -> Result<Awaited, 
     }
 }
 
-/// Whether a block opens where and only where one is awaited, and none ends before a `def`.
+/// Whether a block opens where and only where one is awaited, and none ends before it or a `def`.
 pub fn comes_right(awaited: &Awaited, opens: bool, closes: usize) -> bool
     ensures { result ≡ definition.comes_right (awaited_of awaited.now) opens closes }
 {
     match awaited {
         Awaited::Nothing => !opens,
-        Awaited::Block => opens,
+        Awaited::Block => opens && closes == 0,
         Awaited::FunctionDef(_) => !opens && closes == 0,
         Awaited::ConsumeDef { .. } => !opens && closes == 0,
+    }
+}
+
+fn awaits_def(awaited: &Awaited) -> bool
+    ensures { result ≡ definition.awaits_def (awaited_of awaited.now) }
+{
+    match awaited {
+        Awaited::Nothing => false,
+        Awaited::Block => false,
+        Awaited::FunctionDef(_) => true,
+        Awaited::ConsumeDef { .. } => true,
+    }
+}
+
+fn is_too_deep(read: &Reading<Head>) -> bool
+    ensures { result ≡ definition.is_too_deep (reading_map head_tree read.now) }
+{
+    match read {
+        Reading::NoForm => false,
+        Reading::TooDeep => true,
+        Reading::Form(_) => false,
+    }
+}
+
+/// The number against a line that does not come right.
+pub fn wrong_number(awaited: &Awaited, opens: bool, read: &Reading<Head>) -> u8
+    ensures { result ≡ definition.wrong_number (awaited_of awaited.now) opens (reading_map head_tree read.now) }
+{
+    if awaits_def(awaited) && !opens && is_too_deep(read) {
+        8
+    } else {
+        4
     }
 }
 

@@ -7,7 +7,7 @@ ghost use Rattle.sd_parse.specs.ContextFold.{stepped, context_of, open_block_of}
 ghost use Rattle.sd_parse.specs.LineReading as definition;
 ghost use Rattle.sd_parse.specs.SourceLines.{line_of, lines_of};
 
-use crate::awaiting::{Wanted, comes_right, is_wanted, wanted_of};
+use crate::awaiting::{Wanted, comes_right, is_wanted, wanted_of, wrong_number};
 use crate::block::OpenBlock;
 use crate::context::Context;
 use crate::continuing::{goes_on, is_elif_or_else};
@@ -156,12 +156,13 @@ impl Context {
         requires { AreInside text.now words.now }
         ensures { IfOk result (λ step. stepped step (context_of self.new) ≡ definition.line_read (context_of self.old) (line_of text.now words.now line) (lines_of text.now words.now rest.now)) }
     {
-        if !comes_right(&self.awaited, line.opens, line.closes) {
-            return Ok(refused(4, line.number));
-        }
-        let wanted = wanted_of(&self.awaited);
         let kind = self.kind_at(line.closes);
         let read = head_in(alloc, text, words, line, kind)?;
+        if !comes_right(&self.awaited, line.opens, line.closes) {
+            let number = wrong_number(&self.awaited, line.opens, &read);
+            return Ok(refused(number, line.number));
+        }
+        let wanted = wanted_of(&self.awaited);
         self.read_behind_blocks(
             alloc,
             text,

@@ -1,7 +1,10 @@
 -- A program that is well formed, and for each rule a statement that breaks it.
-use Rattle.std.proofs.Common.{◌≡◌, ◌≤◌, ◌<◌, ◌^◌, zero, suc, inl, inr, ℕ, ◌+◌, ℤ, pos, List, [], ◌∷◌, codes, Option, Some, None, false, refl, subst, arith}
+use Rattle.std.proofs.Common.{◌≡◌, ◌≤◌, ◌<◌, ◌^◌, zero, suc, inl, inr, ℕ, ◌+◌, ℤ, pos, List, [], ◌∷◌, codes, Option, Some, None, bytes_eq, false, refl, subst, arith}
 use Rattle.std.specs.Bool.{⊤}
 use Rattle.std.proofs.lemmas.Int.{ints}
+use Rattle.std.proofs.lemmas.Map.Keys.{IsDistinct-cons}
+use Rattle.std.proofs.lemmas.Map.Made.{IsDistinct-from_AllPairs}
+use Rattle.std.proofs.lemmas.Slice.Eq.{bytes_eq-Decides}
 use Rattle.sd_lex.specs.PlainTree.{Block, FunctionTree, Expression, number, named, element_at, two, Expressions, no_expression, and_expression, Dimension, span, StatementTree, argument_array, local_array, assign, map_scope, call, for_loop, while_loop, no_statement, and_statement, ProgramTree}
 use Rattle.sd_lex.specs.declared.syntax.operator.TwoSign.TheVariants.{Add, Mul}
 use Rattle.sd_nodes.specs.NodeLimits.{node_limits, nodes_over}
@@ -53,6 +56,7 @@ simple_is_well_formed = record {
   reads = (((tt, tt), (omega arith, tt)), tt);
   nodes = refl;
   containers = (omega arith, tt);
+  names = (IsDistinct-cons bytes_eq a [] tt (IsDistinct-from_AllPairs bytes_eq-Decides [] (λ i j other before within. absurd (omega (arith, within)))), tt);
   states = (omega arith, tt);
   chains = (omega arith, tt);
 }

@@ -7,6 +7,7 @@ pub mod Every
 pub mod Place
 pub mod Known
 pub mod Declared
+pub mod DeclaredNames
 pub mod Calls
 pub mod Limits
 pub mod WellFormed

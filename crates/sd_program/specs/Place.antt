@@ -1,6 +1,7 @@
 -- What is in force where a statement stands.
 use Rattle.std.specs.Prelude.{ℕ, ◌+◌, List, [], ◌∷◌, reverse, Bool, true, false, ⊤}
-use Rattle.sd_lex.specs.PlainTree.{StatementTree, argument_array, local_array, local_stream, map_scope, tasklet, consume_scope, for_loop, while_loop, branch, input, output, set, set_at, tasklet_branch, Expressions, no_expression, and_expression, Block, no_statement, and_statement, FunctionTree, ProgramTree}
+use Rattle.sd_lex.specs.PlainTree.{StatementTree, argument_array, local_array, local_stream, map_scope, tasklet, consume_scope, for_loop, while_loop, branch, tasklet_branch, Expressions, no_expression, and_expression, Block, no_statement, and_statement, FunctionTree, ProgramTree}
+use Rattle.sd_lex.specs.StatementKind.{has_connector}
 use Rattle.sd_program.specs.Names.{Name, Named}
 
 -- what a container is: an array of so many dimensions, or a stream
@@ -64,20 +65,7 @@ in_tasklet place = record { programs = place.programs; around = task; depth = pl
 abbrev pub in_loop : Place → Place
 in_loop place = record { programs = place.programs; around = place.around; depth = place.depth + 1; containers = place.containers }
 
--- a block is one of a tasklet where it begins with a line of one
-abbrev pub begins_task : StatementTree → Bool
-begins_task (input line connector memlet) = true
-begins_task (output line connector memlet) = true
-begins_task (set line name value) = true
-begins_task (set_at line name at value) = true
-begins_task (tasklet_branch line when body other) = true
-begins_task statement = false
-
-abbrev pub is_task : Block → Bool
-is_task no_statement = false
-is_task (and_statement first rest) = begins_task first
-
--- the place in the block of a consume scope: in a body its element is an array with one element
+-- the place in the block of a consume scope, which is one tasklet where a connector is declared in it; in a body its element is an array with one element
 abbrev pub in_consume : (is_task : Bool) → (element : Name) → Place → Place
 in_consume true element place = record { programs = place.programs; around = task; depth = place.depth + 1; containers = place.containers }
 in_consume false element place = record { programs = place.programs; around = scope; depth = place.depth + 1; containers = (element, of_dimensions 1) ∷ place.containers }
@@ -96,7 +84,7 @@ module _ (Holds : Place → StatementTree → Type 0) where
     EveryAt place (map_scope line parameters ranges body) = Holds place (map_scope line parameters ranges body) × EveryFrom (in_map place) body
     EveryAt place (tasklet line body) = Holds place (tasklet line body) × EveryFrom (in_tasklet place) body
     EveryAt place (consume_scope line from size name element worker body) =
-        Holds place (consume_scope line from size name element worker body) × EveryFrom (in_consume (is_task body) element place) body
+        Holds place (consume_scope line from size name element worker body) × EveryFrom (in_consume (has_connector body) element place) body
     EveryAt place (for_loop line name begin end step body) = Holds place (for_loop line name begin end step body) × EveryFrom (in_loop place) body
     EveryAt place (while_loop line when body) = Holds place (while_loop line when body) × EveryFrom (in_loop place) body
     EveryAt place (branch line when body other) = Holds place (branch line when body other) × (EveryFrom place body × EveryFrom (past_all body place) other)

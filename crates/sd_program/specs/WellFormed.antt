@@ -1,6 +1,6 @@
 -- What holds of each program that was read: names are in force for their uses, affine places are affine, and limits that need no sizes are kept.
-use Rattle.std.specs.Prelude.{◌≡◌, ◌≤◌, reverse, None}
-use Rattle.std.specs.List.{AllByRecursion}
+use Rattle.std.specs.Prelude.{◌≡◌, ◌≤◌, reverse, None, bytes_eq}
+use Rattle.std.specs.List.{AllByRecursion, IsDistinct}
 use Rattle.sd_lex.specs.PlainTree.{ProgramTree}
 use Rattle.sd_nodes.specs.NodeLimits.{node_limits, nodes_over}
 use Rattle.sd_program.specs.Bounds.{EachBound}
@@ -9,6 +9,7 @@ use Rattle.sd_program.specs.Small.{IsSmall}
 use Rattle.sd_program.specs.Every.{Everywhere}
 use Rattle.sd_program.specs.Place.{EveryPlace}
 use Rattle.sd_program.specs.Known.{IsPlaced, IsKnown}
+use Rattle.sd_program.specs.DeclaredNames.{container_names}
 use Rattle.sd_program.specs.Calls.{IsCallable, CallShallowly}
 use Rattle.sd_program.specs.Limits.{HasSteps, HasFewDimensions, HasFewParameters, HasFewAbout, HasFewReads, containers_of, states_of}
 
@@ -37,6 +38,8 @@ pub record IsWellFormed (program : ProgramTree) : Type 0 where
   pub nodes : nodes_over node_limits program ≡ None
   -- at most 256 containers of each program
   pub containers : AllByRecursion (λ function. containers_of function ≤ 256) program.functions
+  -- the containers of each program have different names
+  pub names : AllByRecursion (λ function. IsDistinct bytes_eq (container_names function)) program.functions
   -- at most 256 states of each program
   pub states : AllByRecursion (λ function. states_of function ≤ 256) program.functions
   -- at most eight calls stand in a chain

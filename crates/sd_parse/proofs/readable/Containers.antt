@@ -1,6 +1,5 @@
 -- How many containers each program makes.
 use Rattle.std.proofs.Common.{◌≡◌, ◌≤◌, ℕ, ◌+◌, nat_lt, List, [], ◌∷◌, ◌++◌, Bool, true, false, ◌||◌, if◌then◌else◌, length, Option, Ok, Err, Result, refl, ap, sym, subst, arith}
-use Rattle.std.specs.Bool.{⊤}
 use Rattle.std.specs.List.{AllByRecursion, list_any}
 use Rattle.std.proofs.lemmas.Bool.{ltb-false}
 use Rattle.sd_lex.specs.PlainTree.{StatementTree, argument_array, local_array, local_stream, assign, copy, reduce, map_scope, tasklet, consume_scope, call, for_loop, while_loop, branch, input, output, set, set_at, tasklet_branch, Block, FunctionTree}
@@ -19,11 +18,11 @@ use Rattle.sd_refusal.specs.Uses.{uses}
 use Rattle.sd_refusal.specs.declared.site.Counts.{Counts}
 use Rattle.sd_refusal.specs.declared.site.Site.{Site}
 use Rattle.sd_parse.specs.declared.error.Refusal.{Refusal}
-use Rattle.sd_parse.specs.Context.{Branch, Opener, file, function, statement, consumer, if_block, else_block, OpenBlock, Awaited, nothing, block, function_def, consume_def, Context, opening, site_of}
+use Rattle.sd_parse.specs.Context.{Branch, Opener, file, function, statement, consumer, if_block, else_block, OpenBlock, Awaited, nothing, block, function_def, consume_def, Context, site_of}
 use Rattle.sd_parse.specs.After.{begins_tasklet, first_connectors, context_after}
 use Rattle.sd_parse.specs.Placing.{consumer_of}
 use Rattle.sd_parse.specs.Closing.{states_behind, states_counted, late_states, branch_with, nested, with_body, finished_by, finished, closed_by, closed_into}
-use Rattle.sd_parse.specs.Continuing.{is_elif_or_else, goes_on, branches_of, next_opener}
+use Rattle.sd_parse.specs.Continuing.{goes_on, branches_of, next_opener}
 use Rattle.sd_parse.proofs.readable.Heads.{IsFile, Fits, Opens, IsOpenedIn, AreNested}
 use Rattle.sd_parse.proofs.readable.Passing.{Passes, passes, neither, false_is_not_true}
 use Rattle.sd_parse.proofs.readable.Steps.{refused_is_none, IsAccepted, Keeps, branch_counted, behind_branch, behind_other}
@@ -436,7 +435,7 @@ containers_are_kept = record {
   argument = λ context line scoped at name bits extents few begun accepted' shape good.
       let s = argument_array at name bits extents in
       counted_line context (context_after context line scoped (statement_head s)) (statement_head s) good accepted' (refl, refl) refl (one-argument context s);
-  close = λ context counts free counted shape good.
+  close = λ context counts free counted right shape good.
       let late = late_counted (late_states context.block) context.counts counts counted good.states in
       close_total context.outer (record context { counts = counts }) refl shape (omega (arith, late.0, good.counted)) (omega (arith, late.0, good.few)) late.1.1 good.functions;
   go_on = λ context counts about outer line head free is on counted fit accepted' shape good.

@@ -1,6 +1,7 @@
 -- What holds of a program that was read.
 use Rattle.std.proofs.Common.{◌≡◌, ◌≤◌, ℕ, List, map, reverse, Option, Some, None, Result, Ok, Err, refl, subst}
-use Rattle.std.specs.List.{AllByRecursion}
+use Rattle.std.specs.List.{AllByRecursion, IsDistinct}
+use Rattle.std.specs.Str.{bytes_eq}
 use Rattle.sd_lex.specs.PlainTree.{StatementTree, ProgramTree}
 use Rattle.sd_lex.specs.declared.error.LexError.{LexError}
 use Rattle.sd_lex.specs.declared.token.Token.{Token}
@@ -9,16 +10,18 @@ use Rattle.sd_lex.specs.Position.{line_count}
 use Rattle.sd_phrase.specs.Words.{piece_of}
 use Rattle.sd_line.specs.HeadReading.{head_of}
 use Rattle.sd_program.specs.Limits.{HasSteps, HasFewDimensions, HasFewParameters, HasFewAbout, HasFewReads, containers_of, states_of}
+use Rattle.sd_program.specs.DeclaredNames.{container_names}
 use Rattle.sd_program.specs.WellFormed.{IsWellFormed}
 use Rattle.sd_parse.proofs.readable.Containers.{FewContainers, containers_are_kept}
 use Rattle.sd_parse.proofs.readable.States.{FewStates, states_are_kept}
 use Rattle.sd_parse.proofs.readable.Shallow.{FewCalls, calls_are_kept}
+use Rattle.sd_parse.proofs.readable.OwnNames.{OwnNames, names_are_kept}
 use Rattle.sd_parse.proofs.readable.ReadFields.{reads_hold}
 use Rattle.sd_nodes.specs.NodeLimits.{nodes_over, node_limits}
 use Rattle.sd_parse.specs.declared.error.Refusal.{Refusal}
 use Rattle.sd_parse.specs.NodeRefusal.{first_of, node_refusal, limited, program_so_far}
 use Rattle.sd_parse.specs.SourceReading.{refusal_of_text, reads_tokens, reads}
-use Rattle.sd_parse.specs.TokenLines.{no_token, lines_from, number_of, line_of_tokens, lines_of_tokens}
+use Rattle.sd_parse.specs.TokenLines.{no_token, lines_from, number_of, begins_connector, line_of_tokens, lines_of_tokens}
 use Rattle.sd_parse.specs.Context.{Context}
 use Rattle.sd_parse.specs.Lines.{Line}
 use Rattle.sd_parse.specs.LinesReading.{program_in, program_of_lines}
@@ -38,6 +41,8 @@ use Rattle.sd_parse.proofs.readable.PlacedEnds.{places_are_kept}
 use Rattle.sd_parse.proofs.readable.PlacedFields.{forms_hold, depths_hold, calls_hold}
 use Rattle.sd_parse.proofs.readable.Affine.{not_rough}
 use Rattle.sd_parse.proofs.readable.Heads.{Fits}
+use Rattle.sd_parse.proofs.readable.Ahead.{Connects}
+use Rattle.sd_parse.proofs.readable.Connectors.{connector_forms}
 use Rattle.sd_parse.proofs.readable.Forms.{of_form, each-mapped}
 use Rattle.sd_parse.proofs.readable.LineForms.{head_forms}
 use Rattle.sd_parse.proofs.readable.LineLimits.{steps_hold, dimensions_hold, parameters_hold}
@@ -51,7 +56,7 @@ with_nesting Good keeps = record {
       (nesting_is_kept.pass context line is_tasklet head fit due accepted shape shape, keeps.pass context line is_tasklet head fit due accepted shape good.1);
   argument = λ context line is_tasklet at name bits extents few begun accepted shape good.
       (nesting_is_kept.argument context line is_tasklet at name bits extents few begun accepted shape shape, keeps.argument context line is_tasklet at name bits extents few begun accepted shape good.1);
-  close = λ context counts free counted shape good. (nesting_is_kept.close context counts free counted shape shape, keeps.close context counts free counted shape good.1);
+  close = λ context counts free counted right shape good. (nesting_is_kept.close context counts free counted right shape shape, keeps.close context counts free counted right shape good.1);
   go_on = λ context counts about outer line head free is on counted fit accepted shape good.
       (nesting_is_kept.go_on context counts about outer line head free is on counted fit accepted shape shape, keeps.go_on context counts about outer line head free is on counted fit accepted shape good.1);
 }
@@ -72,9 +77,12 @@ everywhere Holds holds last lines program fit is =
 lines_fit : (text : List ℕ) (tokens : List Token) → AllByRecursion IsLine (lines_of_tokens text tokens)
 lines_fit text tokens =
     each-mapped IsLine (line_of_tokens text) (lines_from no_token tokens)
-    (λ line kind head is.
+    (λ line.
     let words = map (piece_of text) line.tokens in
-    of_form (Fits kind) (head_of text kind (number_of line.tokens) words) head (head_forms text kind (number_of line.tokens) words) is)
+    record {
+      fits = λ kind head is. of_form (Fits kind) (head_of text kind (number_of line.tokens) words) head (head_forms text kind (number_of line.tokens) words) is;
+      connects = λ kind head is. of_form (Connects kind (begins_connector text line.tokens)) (head_of text kind (number_of line.tokens) words) head (connector_forms text kind (number_of line.tokens) line.tokens) is;
+    })
 
 -- where a limit on nodes is passed there is no program
 not_limited : (line : Option ℕ) (read : Result ProgramTree Refusal) (program : ProgramTree) → limited line read ≡ Ok program → read ≡ Ok program
@@ -161,6 +169,13 @@ states_of_program =
     let end = at_the_end FewStates states_are_kept last lines program fit is in
     subst (λ program. AllByRecursion (λ function. states_of function ≤ 256) program.functions) end.1.1 end.1.0.functions)
 
+pub names_of_program : (text : List ℕ) (program : ProgramTree) → reads text ≡ Ok program → AllByRecursion (λ function. IsDistinct bytes_eq (container_names function)) program.functions
+names_of_program =
+    by_lines
+    (λ last lines program fit is.
+    let end = at_the_end OwnNames names_are_kept last lines program fit is in
+    subst (λ program. AllByRecursion (λ function. IsDistinct bytes_eq (container_names function)) program.functions) end.1.1 end.1.0.functions)
+
 pub chains_of_program : (text : List ℕ) (program : ProgramTree) → reads text ≡ Ok program → CallShallowly (reverse program.functions)
 chains_of_program =
     by_lines
@@ -183,6 +198,7 @@ well_formed text program is = record {
   reads = reads_of_program text program is;
   nodes = nodes_of_program text program is;
   containers = containers_of_program text program is;
+  names = names_of_program text program is;
   states = states_of_program text program is;
   chains = chains_of_program text program is;
 }

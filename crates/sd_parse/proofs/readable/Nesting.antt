@@ -209,7 +209,7 @@ nesting_is_kept = record {
   begin = (refl, tt);
   pass = λ context line is_tasklet head fit due accepted' nested _. pass_nested context line is_tasklet head fit accepted' nested;
   argument = λ context line is_tasklet at name bits extents few begun accepted' nested _. nested;
-  close = λ context counts free counted nested _. close_nested context.outer (record context { counts = counts }) refl nested;
+  close = λ context counts free counted right nested _. close_nested context.outer (record context { counts = counts }) refl nested;
   go_on = λ context counts about outer line head free is on counted fit accepted' nested _.
       let inside = subst (AreNested context.block) is nested in
       (other_nested about.kind context.block.kind _ head (same_kind head about.kind context.block.kind context.block.opener on inside.0), inside.1);

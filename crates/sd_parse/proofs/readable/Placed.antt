@@ -2,7 +2,7 @@
 use Rattle.std.proofs.Common.{◌≡◌, ◌≤◌, ℕ, ℤ, List, [], ◌∷◌, ◌++◌, length, take, reverse, Bool, true, false, Option, Some, is_some, refl, sym, ap, ◌∙◌, subst}
 use Rattle.std.specs.Bool.{⊤}
 use Rattle.std.specs.List.{AllByRecursion}
-use Rattle.sd_lex.specs.PlainTree.{Expression, Expressions, StatementTree, argument_array, reduce, map_scope, tasklet, consume_scope, for_loop, while_loop, branch, input, output, tasklet_branch, no_statement, FunctionTree}
+use Rattle.sd_lex.specs.PlainTree.{Expression, Expressions, StatementTree, argument_array, reduce, map_scope, tasklet, consume_scope, for_loop, while_loop, branch, input, output, set, set_at, tasklet_branch, no_statement, FunctionTree}
 use Rattle.sd_lex.specs.TreeFold.{block_listed}
 use Rattle.sd_phrase.specs.Memlet.{LambdaTree, MemletTree}
 use Rattle.sd_line.specs.declared.head.BlockKind.{BlockKind}
@@ -21,11 +21,20 @@ use Rattle.sd_parse.specs.Placing.{memlet_of, kind_in, lambda_or_last}
 use Rattle.sd_program.specs.Names.{Named, in_force}
 use Rattle.sd_program.specs.Calls.{argument_counts}
 use Rattle.sd_program.specs.Declared.{containers_in_all}
-use Rattle.sd_program.specs.Place.{Holder, Around, program, scope, task, signature, Place, behind, behind_all, past, past_all, in_map, in_tasklet, in_loop, begins_task, in_consume, in_signature, in_function, EveryAt, EveryFrom, EveryFunction}
+use Rattle.sd_program.specs.Place.{Holder, Around, program, scope, task, signature, Place, behind, behind_all, past, past_all, in_map, in_tasklet, in_loop, in_consume, in_signature, in_function, EveryAt, EveryFrom, EveryFunction}
 use Rattle.sd_parse.proofs.readable.Heads.{IsOfLine, Fits, IsInner, IsIf, AreNested}
 use Rattle.sd_parse.proofs.readable.Passing.{Passes}
 use Rattle.sd_parse.proofs.readable.Trees.{all-more, bare}
 use Rattle.sd_parse.proofs.readable.InForce.{Agrees, take-put, length-put}
+
+-- a line of a tasklet
+abbrev pub begins_task : StatementTree → Bool
+begins_task (input line connector memlet) = true
+begins_task (output line connector memlet) = true
+begins_task (set line name value) = true
+begins_task (set_at line name at value) = true
+begins_task (tasklet_branch line when body other) = true
+begins_task s = false
 
 abbrev pub around_of : BlockKind → Around
 around_of Top = signature

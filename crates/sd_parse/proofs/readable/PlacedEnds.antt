@@ -29,7 +29,9 @@ use Rattle.sd_program.specs.Calls.{argument_counts}
 use Rattle.sd_names.specs.declared.meaning.Signature.{Signature}
 use Rattle.sd_names.specs.declared.meaning.Meaning.TheVariants.{Program as Program_name}
 use Rattle.sd_program.specs.Declared.{containers_in_all}
-use Rattle.sd_program.specs.Place.{of_dimensions, Place, dimensions_of, behind, behind_all, past_all, begins_task, in_consume, in_signature, in_function, EveryAt, EveryFrom, EveryFunction}
+use Rattle.sd_program.specs.Place.{of_dimensions, Place, dimensions_of, behind, behind_all, past_all, in_consume, in_signature, in_function, EveryAt, EveryFrom, EveryFunction}
+use Rattle.sd_lex.specs.StatementKind.{has_connector}
+use Rattle.sd_parse.proofs.readable.Ahead.{is_consumer, EndsRight}
 use Rattle.sd_parse.proofs.readable.Heads.{Fits, IsIf, if_inner, Opens, IsInner, IsBody, IsOpenedIn, IsFile, AreNested}
 use Rattle.sd_parse.proofs.readable.Passing.{Passes, passes, false_is_not_true}
 use Rattle.sd_parse.proofs.readable.Steps.{IsFunction, IsBegun, IsWellNested, IsAccepted, AwaitsNoDef, Keeps, behind_branch, behind_other}
@@ -39,7 +41,7 @@ use Rattle.sd_parse.proofs.readable.InForce.{Agrees, more_agrees, none_agrees, l
 use Rattle.sd_names.specs.declared.meaning.Meaning.{Meaning}
 use Rattle.sd_parse.specs.Placing.{opened, with_statements}
 use Rattle.sd_parse.proofs.readable.Affine.{none_is_not_some}
-use Rattle.sd_parse.proofs.readable.Placed.{IsAt, block_place, behind-joined, by_keeping, place-same, outside-same, AwaitsWell, around_of, over, through, begins_by, begins, place_at, now, over-joined, through-more, SignaturesAgree, AllFrom, from-joined, HasHead, AreBranches, IsGoodOpener, IsOfKind, AreGoodBlocks, by_way, AgreeOutside, HoldsInPlaces, HoldsSoFar}
+use Rattle.sd_parse.proofs.readable.Placed.{begins_task, IsAt, block_place, behind-joined, by_keeping, place-same, outside-same, AwaitsWell, around_of, over, through, begins_by, begins, place_at, now, over-joined, through-more, SignaturesAgree, AllFrom, from-joined, HasHead, AreBranches, IsGoodOpener, IsOfKind, AreGoodBlocks, by_way, AgreeOutside, HoldsInPlaces, HoldsSoFar}
 use Rattle.sd_parse.proofs.readable.PlacedKept.{programs_at, argument_holder, pass_kept}
 
 -- ---- lists of statements
@@ -164,26 +166,25 @@ module _ (Holds : Place → StatementTree → Type 0) (lines : HoldsInPlaces Hol
   body_agrees kind (tasklet_branch at when empty other) body place known cut opens inside outside = absurd opens
 
   consume_every : (kind : BlockKind) (at : ℕ) (from : Name) (size : ℤ) (name element : Name) (worker : Option Name) (statements : List StatementTree) (place : Place) →
-      Holds place (consume_scope at from size name element worker no_statement) → AllFrom Holds (in_consume (is_tasklet kind) element place) statements → AllByRecursion (IsOfKind Holds kind) statements →
+      Holds place (consume_scope at from size name element worker no_statement) → AllFrom Holds (in_consume (is_tasklet kind) element place) statements → has_connector (block_listed statements) ≡ is_tasklet kind →
       EveryAt Holds place (consume_scope at from size name element worker (block_listed statements))
-  consume_every kind at from size name element worker [] place holds all kinds = (holds, tt)
-  consume_every kind at from size name element worker (first ∷ rest) place holds all kinds = (
-    lines.fill place (consume_scope at from size name element worker (block_listed (first ∷ rest))) holds,
-    subst (λ test. EveryFrom Holds (in_consume test element place) (block_listed (first ∷ rest))) (sym kinds.0) all,
+  consume_every kind at from size name element worker statements place holds all right = (
+    lines.fill place (consume_scope at from size name element worker (block_listed statements)) holds,
+    subst (λ test. EveryFrom Holds (in_consume test element place) (block_listed statements)) (sym right) all,
   )
 
   -- the statement of a block that ends, in the place of the block
   finished_every : (arguments : List StatementTree) (about kind : BlockKind) (line : ℕ) (opener : Opener) (statements : List StatementTree) (place : Place) → IsOpenedIn about kind opener → IsGoodOpener Holds kind line opener place →
-      AllFrom Holds (begins arguments kind opener place) statements → AllByRecursion (IsOfKind Holds kind) statements → AllFrom Holds place (finished_by kind line opener statements)
-  finished_every arguments about kind line file statements place opened good all kinds = tt
-  finished_every arguments about kind line (function name) statements place opened good all kinds = tt
-  finished_every arguments about kind line (statement s) statements place opened good all kinds = (body_every kind s (block_listed statements) place opened.1 good all, tt)
-  finished_every arguments about kind line (consumer at from size name element worker) statements place opened good all kinds =
-      (consume_every kind at from size name element worker statements place good all kinds, tt)
-  finished_every arguments about kind line (if_block earlier when) statements place opened good all kinds =
+      AllFrom Holds (begins arguments kind opener place) statements → (is_consumer opener ≡ true → has_connector (block_listed statements) ≡ is_tasklet kind) → AllFrom Holds place (finished_by kind line opener statements)
+  finished_every arguments about kind line file statements place opened good all right = tt
+  finished_every arguments about kind line (function name) statements place opened good all right = tt
+  finished_every arguments about kind line (statement s) statements place opened good all right = (body_every kind s (block_listed statements) place opened.1 good all, tt)
+  finished_every arguments about kind line (consumer at from size name element worker) statements place opened good all right =
+      (consume_every kind at from size name element worker statements place good all (right refl), tt)
+  finished_every arguments about kind line (if_block earlier when) statements place opened good all right =
       let b : Branch = record { line = line; when = when; statements = statements } in
       nested_every kind (earlier ++ b ∷ []) [] place (branches_more kind earlier b place good.0 good.1 all) tt
-  finished_every arguments about kind line (else_block earlier) statements place opened good all kinds = nested_every kind earlier statements place good all
+  finished_every arguments about kind line (else_block earlier) statements place opened good all right = nested_every kind earlier statements place good all
 
   body_about : (about : BlockKind) → IsBody about → is_tasklet about ≡ false
   body_about Top body = absurd body
@@ -280,9 +281,9 @@ module _ (Holds : Place → StatementTree → Type 0) (lines : HoldsInPlaces Hol
   opened_about about kind (else_block earlier) none opened = if_inner about opened.0
 
   -- a block that is no function ends
-  block_kept : (context : Context) (about : OpenBlock) (rest : List OpenBlock) → NoFunction context.block.opener → AwaitsNoDef context.awaited → context.outer ≡ about ∷ rest → IsWellNested context → HoldsSoFar Holds context →
+  block_kept : (context : Context) (about : OpenBlock) (rest : List OpenBlock) → NoFunction context.block.opener → AwaitsNoDef context.awaited → EndsRight context.block → context.outer ≡ about ∷ rest → IsWellNested context → HoldsSoFar Holds context →
       HoldsSoFar Holds (with_statements (finished context.block) (left_by about rest context))
-  block_kept context about rest none free is shape good =
+  block_kept context about rest none free right is shape good =
       let programs' = reverse context.functions in
       let inner = context.block in
       let shape' : AreNested inner (about ∷ rest) = subst (AreNested inner) is shape in
@@ -295,7 +296,7 @@ module _ (Holds : Place → StatementTree → Type 0) (lines : HoldsInPlaces Hol
       record {
         blocks = many_more programs' context.arguments about rest (finished inner) shape'.1 (opened_about about.kind inner.kind inner.opener none shape'.0)
             (finished_kinds about.kind inner.kind inner.line inner.opener inner.statements shape'.0 blocks'.0.kinds)
-            (finished_every context.arguments about.kind inner.kind inner.line inner.opener inner.statements place shape'.0 blocks'.0.opener blocks'.0.all blocks'.0.kinds) blocks'.1;
+            (finished_every context.arguments about.kind inner.kind inner.line inner.opener inner.statements place shape'.0 blocks'.0.opener blocks'.0.all right) blocks'.1;
         agrees = subst (λ p. Agrees (names_outside inner context.names).containers p.containers) (sym (now-many programs' context.arguments about rest (finished inner))) ends.0;
         outside = outside-same Holds programs' context.arguments (names_outside inner context.names).containers about rest (about.statements ++ finished inner) ends.1;
         programs = take_agree context.names.meanings inner.before.meanings programs' good.programs;
@@ -351,16 +352,16 @@ module _ (Holds : Place → StatementTree → Type 0) (lines : HoldsInPlaces Hol
         awaits = free_awaits context.awaited _ free;
       }
 
-  pub close_kept : (outer : List OpenBlock) (context : Context) → context.outer ≡ outer → AwaitsNoDef context.awaited → IsWellNested context → HoldsSoFar Holds context → HoldsSoFar Holds (closed_into outer context)
-  close_kept [] context is free shape good = good
-  close_kept (about ∷ rest) context is free shape good = by_opener context.block.opener refl where
+  pub close_kept : (outer : List OpenBlock) (context : Context) → context.outer ≡ outer → AwaitsNoDef context.awaited → EndsRight context.block → IsWellNested context → HoldsSoFar Holds context → HoldsSoFar Holds (closed_into outer context)
+  close_kept [] context is free right shape good = good
+  close_kept (about ∷ rest) context is free right shape good = by_opener context.block.opener refl where
     by_opener : (opener : Opener) → context.block.opener ≡ opener → HoldsSoFar Holds (closed_by opener about rest context)
-    by_opener file same = block_kept context about rest (subst NoFunction (sym same) tt) free is shape good
+    by_opener file same = block_kept context about rest (subst NoFunction (sym same) tt) free right is shape good
     by_opener (function name) same = function_kept context about rest name same free is shape good
-    by_opener (statement s) same = block_kept context about rest (subst NoFunction (sym same) tt) free is shape good
-    by_opener (consumer line from size name element worker) same = block_kept context about rest (subst NoFunction (sym same) tt) free is shape good
-    by_opener (if_block earlier when) same = block_kept context about rest (subst NoFunction (sym same) tt) free is shape good
-    by_opener (else_block earlier) same = block_kept context about rest (subst NoFunction (sym same) tt) free is shape good
+    by_opener (statement s) same = block_kept context about rest (subst NoFunction (sym same) tt) free right is shape good
+    by_opener (consumer line from size name element worker) same = block_kept context about rest (subst NoFunction (sym same) tt) free right is shape good
+    by_opener (if_block earlier when) same = block_kept context about rest (subst NoFunction (sym same) tt) free right is shape good
+    by_opener (else_block earlier) same = block_kept context about rest (subst NoFunction (sym same) tt) free right is shape good
 
   -- counts make no difference
   pub recounted : (context : Context) (counts : Counts) → HoldsSoFar Holds context → HoldsSoFar Holds (record context { counts = counts })
@@ -631,6 +632,6 @@ module _ (Holds : Place → StatementTree → Type 0) (lines : HoldsInPlaces Hol
     };
     pass = λ context line is_tasklet' head fit due accepted' shape good. pass_kept Holds lines context line is_tasklet' head fit due accepted' shape good;
     argument = λ context line is_tasklet' at name bits extents few begun accepted' shape good. argument_kept context line is_tasklet' at name bits extents begun accepted' shape good;
-    close = λ context counts free counted shape good. close_kept context.outer (record context { counts = counts }) refl free shape (recounted context counts good);
+    close = λ context counts free counted right shape good. close_kept context.outer (record context { counts = counts }) refl free right shape (recounted context counts good);
     go_on = λ context counts about outer line head free is on counted fit accepted' shape good. go_on_kept context counts about outer line head free is on fit accepted' shape good;
   }

@@ -30,7 +30,7 @@ use Rattle.sd_parse.specs.Context.{Branch, Opener, file, function, statement, co
 use Rattle.sd_parse.specs.Placing.{memlet_of, kind_in, lambda_or_last, consumer_of}
 use Rattle.sd_program.specs.Names.{in_force as in_force'}
 use Rattle.sd_program.specs.Calls.{argument_counts}
-use Rattle.sd_program.specs.Place.{of_dimensions, Place, length_of, dimensions_of, behind, begins_task, in_consume, EveryAt}
+use Rattle.sd_program.specs.Place.{of_dimensions, Place, length_of, dimensions_of, behind, in_consume, EveryAt}
 use Rattle.sd_parse.proofs.readable.Heads.{IsBodyStatement, IsTaskletStatement, Fits, Opens, IsInner}
 use Rattle.sd_parse.proofs.readable.Passing.{Passes, passes, neither, true_is_not_false, false_is_not_true}
 use Rattle.sd_parse.proofs.readable.Steps.{IsWellNested, IsAccepted}
@@ -38,7 +38,7 @@ use Rattle.sd_parse.proofs.readable.Nesting.{inner_statement, placed_block, top_
 use Rattle.sd_parse.proofs.readable.Trees.{of_line}
 use Rattle.sd_parse.proofs.readable.Affine.{negated}
 use Rattle.sd_parse.proofs.readable.InForce.{Agrees, holder_of, none_agrees, listed-put, more_agrees, take-put, length-put}
-use Rattle.sd_parse.proofs.readable.Placed.{around_of, over, through, begins_by, begins, place_at, now, SignaturesAgree, IsGoodOpener, IsOfKind, AreGoodBlocks, by_way, AgreeOutside, block_place, outside-same, one_more, now-more, outside-put, IsAt, HoldsInPlaces, AwaitsWell, HoldsSoFar}
+use Rattle.sd_parse.proofs.readable.Placed.{begins_task, around_of, over, through, begins_by, begins, place_at, now, SignaturesAgree, IsGoodOpener, IsOfKind, AreGoodBlocks, by_way, AgreeOutside, block_place, outside-same, one_more, now-more, outside-put, IsAt, HoldsInPlaces, AwaitsWell, HoldsSoFar}
 
 -- ---- programs above
 
@@ -117,12 +117,12 @@ free_container names name free =
       by_not true is = sym is
       by_not false is = refl
 
-first_new : (names : Names) (name : Name) (rest : List Name) → are_not_new names [] (name ∷ rest) ≡ false → is_free names name ≡ true
+pub first_new : (names : Names) (name : Name) (rest : List Name) → are_not_new names [] (name ∷ rest) ≡ false → is_free names name ≡ true
 first_new names name rest none =
     let both = neither (not (is_free names name) || is_among [] name) _ none in
     negated (is_free names name) (neither (not (is_free names name)) (is_among [] name) both.0).0
 
-declares_new : (names : Names) (site : Site) (head : HeadTree) → Passes names site head → are_not_new names [] (declares names head) ≡ false
+pub declares_new : (names : Names) (site : Site) (head : HeadTree) → Passes names site head → are_not_new names [] (declares names head) ≡ false
 declares_new names site head passed =
     (neither (are_not_new names [] (declares names head)) (has_reserved (lambda_of head))
     (neither (are_not_new names [] (declares names head) || has_reserved (lambda_of head)) (names_consume names head) passed.once).0).0

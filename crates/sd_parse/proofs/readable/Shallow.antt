@@ -1,7 +1,7 @@
 -- How long chains of calls are.
-use Rattle.std.proofs.Common.{◌≡◌, ◌≤◌, ℕ, ◌+◌, max, zero, suc, nat_lt, nat_eq, List, [], ◌∷◌, ◌++◌, length, take, reverse, Bool, true, false, not, ◌||◌, if◌then◌else◌, cond, Option, Some, None, unwrap_or, bytes_eq, zip, Ok, Err, Result, refl, ap, sym, ◌∙◌, subst, arith}
+use Rattle.std.proofs.Common.{◌≡◌, ◌≤◌, ℕ, ◌+◌, max, zero, suc, nat_lt, List, [], ◌∷◌, ◌++◌, take, reverse, Bool, true, false, if◌then◌else◌, cond, Option, Some, None, unwrap_or, bytes_eq, Ok, Err, refl, ap, sym, ◌∙◌, subst, arith}
 use Rattle.std.specs.Bool.{⊤}
-use Rattle.std.specs.List.{AllByRecursion, list_any}
+use Rattle.std.specs.List.{AllByRecursion}
 use Rattle.std.proofs.Math.Nat.{le-max_left, le-max_right, max-le}
 use Rattle.std.proofs.lemmas.List.{reverse-append}
 use Rattle.sd_lex.specs.PlainTree.{Dimension, StatementTree, argument_array, local_array, local_stream, assign, copy, reduce, map_scope, tasklet, consume_scope, call, for_loop, while_loop, branch, input, output, set, set_at, tasklet_branch, Block, FunctionTree}
@@ -20,7 +20,6 @@ use Rattle.sd_refusal.specs.Twice.{declares_local}
 use Rattle.sd_refusal.specs.ShapeMismatch.{is_no_call}
 use Rattle.sd_refusal.specs.declared.site.Counts.{Counts}
 use Rattle.sd_refusal.specs.declared.site.Site.{Site}
-use Rattle.sd_parse.specs.declared.error.Refusal.{Refusal}
 use Rattle.sd_parse.specs.Context.{Branch, Opener, file, function, statement, consumer, if_block, else_block, OpenBlock, Awaited, nothing, block, function_def, consume_def, Context, site_of}
 use Rattle.sd_parse.specs.After.{begins_tasklet, first_connectors, context_after}
 use Rattle.sd_parse.specs.Declaring.{with_local, with_worker, names_behind, statement_names, connector_dimensions, element_names}
@@ -28,7 +27,7 @@ use Rattle.sd_parse.specs.Placing.{consumer_of}
 use Rattle.sd_parse.specs.Closing.{states_behind, states_counted, late_states, branch_with, nested, with_body, finished_by, finished, signature_of, closed_by, closed_into}
 use Rattle.sd_parse.specs.Continuing.{goes_on, branches_of, next_opener}
 use Rattle.sd_parse.proofs.readable.Heads.{IsFile, Fits, Opens, IsOpenedIn, AreNested}
-use Rattle.sd_parse.proofs.readable.Passing.{Passes, passes, neither, true_is_not_false, false_is_not_true}
+use Rattle.sd_parse.proofs.readable.Passing.{Passes, passes, true_is_not_false, false_is_not_true}
 use Rattle.sd_parse.proofs.readable.Steps.{refused_is_none, IsAccepted, Keeps, branch_counted, behind_branch, behind_other}
 use Rattle.sd_parse.proofs.readable.Nesting.{top_is_file}
 use Rattle.sd_parse.proofs.readable.Trees.{of_line, all-more, all-joined}
@@ -534,7 +533,7 @@ calls_are_kept = record {
   argument = λ context line scoped at name bits extents few begun accepted' shape good.
       counted_line context (context_after context line scoped (statement_head (argument_array at name bits extents))) (statement_head (argument_array at name bits extents)) good accepted'
       (statement_after context line scoped (argument_array at name bits extents)).0 (refl, good.known) (λ most le all. all);
-  close = λ context counts free counted shape good.
+  close = λ context counts free counted right shape good.
       let late = late_calls (late_states context.block) context.counts counts counted in
       close_total context.outer (record context { counts = counts }) refl shape
       (subst (λ n. AreShallow (call_depths (reverse context.functions)) n (context.block ∷ context.outer)) (sym late) good.shallow)

@@ -1,9 +1,8 @@
 -- How many states each program makes.
-use Rattle.std.proofs.Common.{◌≡◌, ◌≤◌, ℕ, ℤ, ◌+◌, nat_lt, List, [], ◌∷◌, ◌++◌, map, reverse, Bool, true, false, ◌||◌, if◌then◌else◌, length, Option, Ok, Err, Result, refl, ap, sym, ◌∙◌, subst, arith}
+use Rattle.std.proofs.Common.{◌≡◌, ◌≤◌, ℕ, ℤ, ◌+◌, List, [], ◌∷◌, ◌++◌, map, Bool, true, false, if◌then◌else◌, length, Option, Ok, refl, sym, ◌∙◌, subst, arith}
 use Rattle.std.specs.Bool.{⊤}
-use Rattle.std.specs.List.{AllByRecursion, list_any}
+use Rattle.std.specs.List.{AllByRecursion}
 use Rattle.std.proofs.lemmas.List.{length-reverse}
-use Rattle.std.proofs.lemmas.Bool.{ltb-false}
 use Rattle.sd_lex.specs.PlainTree.{StatementTree, argument_array, local_array, local_stream, assign, copy, reduce, map_scope, tasklet, consume_scope, call, for_loop, while_loop, branch, input, output, set, set_at, tasklet_branch, Block, FunctionTree}
 use Rattle.sd_lex.specs.PlainTree.{Expression}
 use Rattle.sd_phrase.specs.Memlet.{MemletTree}
@@ -12,25 +11,20 @@ use Rattle.sd_line.specs.declared.head.BlockKind.{BlockKind}
 use Rattle.sd_line.specs.declared.head.BlockKind.TheVariants.{Top, Program, Scope, Tasklet}
 use Rattle.sd_phrase.specs.declared.reading.Reading.TheVariants.{Form}
 use Rattle.sd_line.specs.Head.{HeadTree, import_line, symbol_line, program_decorator, program_head, statement_head, reduce_head, input_head, output_head, consume_decorator, consume_head, elif_head, else_head}
-use Rattle.sd_names.specs.Names.{Name, Names}
-use Rattle.sd_names.specs.Expressions.{is_wide}
+use Rattle.sd_names.specs.Names.{Name}
 use Rattle.sd_refusal.specs.Counting.{counts_behind}
-use Rattle.sd_refusal.specs.NotAffine.{any_bound}
 use Rattle.sd_refusal.specs.NotAForm.{is_program}
-use Rattle.sd_refusal.specs.OverLimit.{is_tasklet, is_wide_or_long, counts_much, new_containers, new_states, connects_much, new_lines, call_depth, statement_states}
-use Rattle.sd_refusal.specs.Uses.{uses}
+use Rattle.sd_refusal.specs.OverLimit.{new_containers, new_states, statement_states}
 use Rattle.sd_refusal.specs.declared.site.Counts.{Counts}
-use Rattle.sd_refusal.specs.declared.site.Site.{Site}
-use Rattle.sd_parse.specs.declared.error.Refusal.{Refusal}
-use Rattle.sd_parse.specs.Context.{Branch, Opener, file, function, statement, consumer, if_block, else_block, OpenBlock, Awaited, nothing, block, function_def, consume_def, Context, opening, site_of}
+use Rattle.sd_parse.specs.Context.{Branch, Opener, file, function, statement, consumer, if_block, else_block, OpenBlock, Awaited, nothing, block, function_def, consume_def, Context, site_of}
 use Rattle.sd_parse.specs.After.{begins_tasklet, first_connectors, context_after}
 use Rattle.sd_parse.specs.Awaiting.{awaited_behind, wanted_of, is_wanted}
-use Rattle.sd_parse.specs.Placing.{consumer_of, consume_kind}
-use Rattle.sd_parse.specs.Closing.{states_counted, lines_of, is_loop, opener_ends, late_states, branch_with, nested, with_body, finished_by, finished, closed_by, closed_into}
+use Rattle.sd_parse.specs.Placing.{consumer_of}
+use Rattle.sd_parse.specs.Closing.{states_counted, lines_of, is_loop, opener_ends, late_states, nested, with_body, finished_by, finished, closed_by, closed_into}
 use Rattle.sd_parse.specs.Continuing.{is_elif_or_else, goes_on, branches_of, next_opener}
 use Rattle.sd_parse.proofs.readable.Heads.{IsFile, Fits, Opens, IsOpenedIn, AreNested}
-use Rattle.sd_parse.proofs.readable.Passing.{Passes, passes, neither, false_is_not_true}
-use Rattle.sd_parse.proofs.readable.Steps.{refused_is_none, AwaitsNoDef, IsAccepted, Keeps, branch_counted, behind_branch, behind_other}
+use Rattle.sd_parse.proofs.readable.Passing.{passes, false_is_not_true}
+use Rattle.sd_parse.proofs.readable.Steps.{AwaitsNoDef, IsAccepted, Keeps, branch_counted, behind_branch, behind_other}
 use Rattle.sd_parse.proofs.readable.Nesting.{top_is_file}
 use Rattle.sd_parse.proofs.readable.Trees.{of_line, all-more}
 use Rattle.sd_program.specs.Declared.{states_in, states_in_all, states_in_other}
@@ -540,7 +534,7 @@ states_are_kept = record {
   argument = λ context line scoped at name bits extents few begun accepted' shape good.
       let s = argument_array at name bits extents in
       counted_line context (context_after context line scoped (statement_head s)) (statement_head s) good accepted' (statement_after context line scoped s).0 (statement_after context line scoped s).1 (omega arith);
-  close = λ context counts free counted shape good.
+  close = λ context counts free counted right shape good.
       let late = late_counted (late_states context.block) context.counts counts counted good.few in
       close_total context.outer (record context { counts = counts }) refl shape free context.counts.states (omega (arith, good.counted)) late.1.0 late.1.1 good.functions;
   go_on = λ context counts about outer line head free is on counted fit accepted' shape good.

@@ -304,7 +304,7 @@ module _ (Holds : StatementTree → Type 0) where
               ),
             ),
           );
-      close = λ context counts free counted' shape good. close_holds context.outer (record context { counts = counts }) refl shape good.0 good.1.0 good.1.1.0 good.1.1.1;
+      close = λ context counts free counted' right shape good. close_holds context.outer (record context { counts = counts }) refl shape good.0 good.1.0 good.1.1.0 good.1.1.1;
       go_on = λ context counts about outer line head free is on counted' fit accepted' shape good.
           let now = behind_branch context counts about outer in
           let inside = subst (AllByRecursion IsGoodBlock) is good.1.0 in

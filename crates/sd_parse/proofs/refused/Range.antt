@@ -1,5 +1,5 @@
 -- Which numbers an error has.
-use Rattle.std.proofs.Common.{◌≡◌, ◌≤◌, ◌<◌, ℕ, ◌+◌, List, [], ◌∷◌, Bool, true, false, nat_eq, if◌then◌else◌, Ok, Err, Result, ◌⊎◌, inl, inr, refl, ap, sym, ◌∙◌, subst, arith}
+use Rattle.std.proofs.Common.{◌≡◌, ◌≤◌, ◌<◌, ℕ, ◌+◌, List, [], ◌∷◌, Bool, true, false, not, ◌&&◌, nat_eq, if◌then◌else◌, Ok, Err, Result, ◌⊎◌, inl, inr, refl, ap, sym, ◌∙◌, subst, arith}
 use Rattle.std.proofs.lemmas.Bool.{eqb-true}
 use Rattle.sd_lex.specs.declared.error.LexError.{LexError}
 use Rattle.sd_lex.specs.declared.token.Token.{Token}
@@ -12,13 +12,14 @@ use Rattle.sd_phrase.specs.declared.reading.Reading.TheVariants.{NoForm, TooDeep
 use Rattle.sd_parse.specs.declared.awaiting.Wanted.{Wanted}
 use Rattle.sd_parse.specs.declared.error.Refusal.{Refusal}
 use Rattle.sd_parse.specs.After.{context_after}
-use Rattle.sd_parse.specs.Awaiting.{comes_right, wanted_of}
+use Rattle.sd_parse.specs.Awaiting.{comes_right, awaits_def, is_too_deep, wrong_number, wanted_of}
 use Rattle.sd_parse.specs.Closing.{Step}
-use Rattle.sd_parse.specs.Context.{Context, site_of}
+use Rattle.sd_parse.specs.Context.{Awaited, Context, site_of}
 use Rattle.sd_parse.specs.FirstRefused.{Decides}
+use Rattle.sd_parse.specs.LineReading.{said}
 use Rattle.sd_parse.specs.Lines.{Line, opens_tasklet}
 use Rattle.sd_parse.specs.SourceReading.{refusal_of_text, reads_tokens, reads}
-use Rattle.sd_parse.specs.Standing.{IsLeast, stands_against_head, stands_against_heads, continues, is_in_place, said_by, stands_in, stands_at, said, place_of, stands_against}
+use Rattle.sd_parse.specs.Standing.{IsLeast, stands_against_head, stands_against_heads, continues, is_in_place, said_by, stands_in, stands_at, place_of, stands_against}
 use Rattle.sd_parse.specs.TokenLines.{lines_of_tokens}
 use Rattle.sd_parse.proofs.refused.Numbers.{never, by_or, head_range}
 use Rattle.sd_parse.proofs.refused.Decided.{decided}
@@ -55,11 +56,18 @@ at_range : (on : Bool) (wanted : Wanted) (line : ℕ) (rest : List Line) (step :
 at_range on wanted line rest (Ok context) read n is = in_range on wanted line rest context read n is
 at_range on wanted line rest (Err refusal) read n is = never is
 
+wrong_range : (awaited : Awaited) (opens : Bool) (read : Reading HeadTree) → OfLines (wrong_number awaited opens read)
+wrong_range awaited opens read = by_test (awaits_def awaited && not opens && is_too_deep read) where
+  by_test : (test : Bool) → OfLines (if test then 8 else 4)
+  by_test true = is_eight 8 refl
+  by_test false = is_four 4 refl
+
 against_range : (context : Context) (line : Line) (rest : List Line) (n : ℕ) → stands_against context line rest n ≡ true → OfLines n
 against_range context line rest n is =
     let on = continues line.closes (said context line) context in
-    range-if n (comes_right context.awaited line.opens line.closes) (stands_at on (wanted_of context.awaited) line.number rest (place_of context line) (said context line) n) (nat_eq n 4)
-    (λ stands. at_range on (wanted_of context.awaited) line.number rest (place_of context line) (said context line) n stands) (λ four. is_four n (eqb-true n 4 four)) is
+    let wrong = wrong_number context.awaited line.opens (said context line) in
+    range-if n (comes_right context.awaited line.opens line.closes) (stands_at on (wanted_of context.awaited) line.number rest (place_of context line) (said context line) n) (nat_eq n wrong)
+    (λ stands. at_range on (wanted_of context.awaited) line.number rest (place_of context line) (said context line) n stands) (λ same. subst OfLines (sym (eqb-true n wrong same)) (wrong_range context.awaited line.opens (said context line))) is
 
 pub decided_range : (last : ℕ) (lines : List Line) (refusal : Refusal) → Decides last lines refusal → OfLines refusal.number
 decided_range last lines refusal (inl (inl first, before)) = refused_range first.refused where

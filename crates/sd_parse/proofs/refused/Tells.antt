@@ -10,14 +10,14 @@ use Rattle.sd_refusal.specs.declared.site.Counts.{Counts}
 use Rattle.sd_parse.specs.declared.awaiting.Wanted.{Wanted}
 use Rattle.sd_parse.specs.declared.error.Refusal.{Refusal}
 use Rattle.sd_parse.specs.After.{context_after}
-use Rattle.sd_parse.specs.Awaiting.{comes_right, wanted_of}
+use Rattle.sd_parse.specs.Awaiting.{comes_right, wrong_number, wanted_of}
 use Rattle.sd_parse.specs.Closing.{Step, and_then, state_counted, states_behind, states_counted, with_counts, with_states, late_states, closed, closed_into, closed_times}
 use Rattle.sd_parse.specs.Context.{Context, site_of}
 use Rattle.sd_parse.specs.Continuing.{goes_on, left, with_branch_state, continued_by, next_branch}
 use Rattle.sd_parse.specs.Judging.{refused, against, least, accepted, judged_all, judged_from, steps_of}
-use Rattle.sd_parse.specs.LineReading.{by_tokens, behind_last_block, behind_blocks, line_read}
+use Rattle.sd_parse.specs.LineReading.{by_tokens, behind_last_block, behind_blocks, said, line_read}
 use Rattle.sd_parse.specs.Lines.{Line, opens_tasklet}
-use Rattle.sd_parse.specs.Standing.{IsLeast, stands_against_head, stands_against_heads, continues_in, continues, behind_last, place_behind, is_in_place, stands_in, stands_at, said, place_of, stands_against}
+use Rattle.sd_parse.specs.Standing.{IsLeast, stands_against_head, stands_against_heads, continues_in, continues, behind_last, place_behind, is_in_place, stands_in, stands_at, place_of, stands_against}
 use Rattle.sd_parse.proofs.refused.Numbers.{Agrees, never, by_or, agrees_same, head_agrees}
 
 -- a step is refused with the least number that stands, or none does
@@ -227,7 +227,8 @@ pub tells-line : (context : Context) (line : Line) (rest : List Line) →
 tells-line context line rest =
     let read = said context line in
     let wanted = wanted_of context.awaited in
+    let wrong = wrong_number context.awaited line.opens read in
     tells-or-if line.number (comes_right context.awaited line.opens line.closes)
-    (stands_at (continues line.closes read context) wanted line.number rest (place_of context line) read) (λ n. nat_eq n 4) (place_of context line)
-    (behind_blocks wanted line.number rest read line.closes context) (refused 4 line.number)
-    (tells-blocks wanted line.number rest read line.closes context) (inl (refl, least_one 4))
+    (stands_at (continues line.closes read context) wanted line.number rest (place_of context line) read) (λ n. nat_eq n wrong) (place_of context line)
+    (behind_blocks wanted line.number rest read line.closes context) (refused wrong line.number)
+    (tells-blocks wanted line.number rest read line.closes context) (inl (refl, least_one wrong))
