@@ -22,4 +22,5 @@ pub mod Containers
 pub mod States
 pub mod Shallow
 pub mod OwnNames
+pub mod Tasks
 pub mod Fields

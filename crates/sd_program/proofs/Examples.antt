@@ -54,6 +54,7 @@ simple_is_well_formed = record {
   calls = (((tt, tt), (tt, tt)), tt);
   depth = (((omega arith, tt), (omega arith, tt)), tt);
   reads = (((tt, tt), (omega arith, tt)), tt);
+  tasklets = (((tt, tt), (tt, tt)), tt);
   nodes = refl;
   containers = (omega arith, tt);
   names = (IsDistinct-cons bytes_eq a [] tt (IsDistinct-from_AllPairs bytes_eq-Decides [] (λ i j other before within. absurd (omega (arith, within)))), tt);

@@ -1,7 +1,8 @@
 -- The limits that need no sizes.
-use Rattle.std.specs.Prelude.{ℕ, ◌+◌, ◌<◌, ◌≤◌, ◌^◌, ℤ, pos, length, Option, Some, None, Bool, true, ⊤, ◌≡◌}
+use Rattle.std.specs.Prelude.{ℕ, ◌+◌, ◌<◌, ◌≤◌, ◌^◌, ℤ, pos, length, Option, Some, None, Bool, true, if◌then◌else◌, ⊤, ◌≡◌}
 use Rattle.std.specs.List.{AllByRecursion}
-use Rattle.sd_lex.specs.PlainTree.{Expression, number, named, element_at, one, two, choice, Dimension, index, span, StatementTree, argument_array, local_array, assign, copy, map_scope, call, for_loop, while_loop, branch, input, output, FunctionTree}
+use Rattle.sd_lex.specs.PlainTree.{Expression, number, named, element_at, one, two, choice, Dimension, index, span, StatementTree, argument_array, local_array, assign, copy, map_scope, call, for_loop, while_loop, branch, tasklet, consume_scope, input, output, tasklet_branch, Block, no_statement, and_statement, FunctionTree}
+use Rattle.sd_lex.specs.StatementKind.{is_connector, has_connector}
 use Rattle.sd_program.specs.Place.{Place, Around, program, length_of}
 use Rattle.sd_program.specs.Declared.{containers_in_all, states_in_all}
 
@@ -57,6 +58,42 @@ HasFewReads place (assign line name at add value) = elements_in value + (own_ele
 HasFewReads place (while_loop line when body) = elements_in when + 1 ≤ 64
 HasFewReads place (branch line when body other) = elements_in when + 1 ≤ 64
 HasFewReads place statement = ⊤
+
+-- ---- of one tasklet
+
+-- how many connectors a block declares
+abbrev pub connectors_in : Block → ℕ
+connectors_in no_statement = 0
+connectors_in (and_statement first rest) = (if is_connector first then 1 else 0) + connectors_in rest
+
+-- the line of an `else`; where its block is one `if`, it may be an `elif`
+abbrev pub else_line : StatementTree → (rest : Block) → ℕ
+else_line (tasklet_branch line when body other) no_statement = 0
+else_line statement rest = 1
+
+abbrev mutual
+  -- how many lines a statement of a tasklet has at least
+  pub lines_in : StatementTree → ℕ
+  lines_in (tasklet_branch line when body other) = 1 + (lines_in_all body + lines_in_other other)
+  lines_in statement = 1
+
+  pub lines_in_all : Block → ℕ
+  lines_in_all no_statement = 0
+  lines_in_all (and_statement first rest) = lines_in first + lines_in_all rest
+
+  -- those of an `else`, or of an `elif`
+  pub lines_in_other : Block → ℕ
+  lines_in_other no_statement = 0
+  lines_in_other (and_statement first rest) = else_line first rest + (lines_in first + lines_in_all rest)
+
+-- at most 64 connectors, the element of a consume scope counted, and at most 1,024 lines
+abbrev pub IsSmallTask : (elements : ℕ) → Block → Type 0
+IsSmallTask elements body = (elements + connectors_in body ≤ 64) × (lines_in_all body ≤ 1024)
+
+abbrev pub HasSmallTask : StatementTree → Type 0
+HasSmallTask (tasklet line body) = IsSmallTask 0 body
+HasSmallTask (consume_scope line from size name element worker body) = has_connector body ≡ true → IsSmallTask 1 body
+HasSmallTask statement = ⊤
 
 -- ---- of one program
 

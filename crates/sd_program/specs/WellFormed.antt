@@ -11,7 +11,7 @@ use Rattle.sd_program.specs.Place.{EveryPlace}
 use Rattle.sd_program.specs.Known.{IsPlaced, IsKnown}
 use Rattle.sd_program.specs.DeclaredNames.{container_names}
 use Rattle.sd_program.specs.Calls.{IsCallable, CallShallowly}
-use Rattle.sd_program.specs.Limits.{HasSteps, HasFewDimensions, HasFewParameters, HasFewAbout, HasFewReads, containers_of, states_of}
+use Rattle.sd_program.specs.Limits.{HasSteps, HasFewDimensions, HasFewParameters, HasFewAbout, HasFewReads, HasSmallTask, containers_of, states_of}
 
 pub record IsWellFormed (program : ProgramTree) : Type 0 where
   -- each affine place holds an affine expression
@@ -34,6 +34,8 @@ pub record IsWellFormed (program : ProgramTree) : Type 0 where
   pub depth : EveryPlace HasFewAbout program
   -- at most 64 connectors of an element statement or a condition
   pub reads : EveryPlace HasFewReads program
+  -- at most 64 connectors and 1,024 lines of a tasklet
+  pub tasklets : Everywhere HasSmallTask program
   -- no limit on nodes is passed
   pub nodes : nodes_over node_limits program ≡ None
   -- at most 256 containers of each program

@@ -203,11 +203,10 @@ fill_places Told (tasklet_branch line when body other) holds = holds
 
 pub places_hold : (Told : Expression → Type 0) → ((names : Names) (e : Expression) → is_rough e ≡ false → has_unknown names e ≡ false → is_wide names.meanings e ≡ false → Told e) → HoldsOfLines (EachBound Told)
 places_hold Told tells = record {
-  strip = strip_places Told;
-  fill = fill_places Told;
+  fill = λ s small. fill_places Told s;
   moved = λ line other when holds. holds;
   moved_inside = λ line other when holds. holds;
-  said = λ names site s of passed. said_places names Told (tells names) site s of passed;
+  said = λ names site s of passed. strip_places Told s (said_places names Told (tells names) site s of passed);
   reduced = λ line lambda from to axis identity. tt;
   taken = λ line from size name element worker. tt;
   put_in = λ names site line connector memlet on passed. input_places names Told (tells names) site line connector memlet passed;

@@ -9,13 +9,14 @@ use Rattle.sd_lex.specs.Layout.{lexed}
 use Rattle.sd_lex.specs.Position.{line_count}
 use Rattle.sd_phrase.specs.Words.{piece_of}
 use Rattle.sd_line.specs.HeadReading.{head_of}
-use Rattle.sd_program.specs.Limits.{HasSteps, HasFewDimensions, HasFewParameters, HasFewAbout, HasFewReads, containers_of, states_of}
+use Rattle.sd_program.specs.Limits.{HasSteps, HasFewDimensions, HasFewParameters, HasFewAbout, HasFewReads, HasSmallTask, containers_of, states_of}
 use Rattle.sd_program.specs.DeclaredNames.{container_names}
 use Rattle.sd_program.specs.WellFormed.{IsWellFormed}
 use Rattle.sd_parse.proofs.readable.Containers.{FewContainers, containers_are_kept}
 use Rattle.sd_parse.proofs.readable.States.{FewStates, states_are_kept}
 use Rattle.sd_parse.proofs.readable.Shallow.{FewCalls, calls_are_kept}
 use Rattle.sd_parse.proofs.readable.OwnNames.{OwnNames, names_are_kept}
+use Rattle.sd_parse.proofs.readable.Tasks.{Tasks, ends_small, tasks_are_kept, small_hold}
 use Rattle.sd_parse.proofs.readable.ReadFields.{reads_hold}
 use Rattle.sd_nodes.specs.NodeLimits.{nodes_over, node_limits}
 use Rattle.sd_parse.specs.declared.error.Refusal.{Refusal}
@@ -70,8 +71,8 @@ at_the_end Good keeps last lines program fit is =
 
 everywhere : (Holds : StatementTree → Type 0) → HoldsOfLines Holds → (last : ℕ) (lines : List Line) (program : ProgramTree) → AllByRecursion IsLine lines → program_of_lines last lines ≡ Ok program → Everywhere Holds program
 everywhere Holds holds last lines program fit is =
-    let end = at_the_end (HoldsSoFar Holds) (lines_are_kept Holds holds) last lines program fit is in
-    subst (Everywhere Holds) end.1.1 end.1.0.1.1.1
+    let end = at_the_end (λ context. Tasks context × HoldsSoFar Holds context) (lines_are_kept Holds holds Tasks tasks_are_kept ends_small) last lines program fit is in
+    subst (Everywhere Holds) end.1.1 end.1.0.1.1.1.1
 
 -- the lines of a text say what they may
 lines_fit : (text : List ℕ) (tokens : List Token) → AllByRecursion IsLine (lines_of_tokens text tokens)
@@ -145,6 +146,9 @@ none_limited None read program is = refl
 none_limited (Some line) (Ok found) program is = refused_is_none (node_refusal line) program is
 none_limited (Some line) (Err refusal) program is = refused_is_none (first_of (node_refusal line) refusal) program is
 
+pub tasklets_of_program : (text : List ℕ) (program : ProgramTree) → reads text ≡ Ok program → Everywhere HasSmallTask program
+tasklets_of_program = by_lines (everywhere HasSmallTask small_hold)
+
 pub nodes_of_program : (text : List ℕ) (program : ProgramTree) → reads text ≡ Ok program → nodes_over node_limits program ≡ None
 nodes_of_program text program is = by_tokens (lexed text) is where
   by_tokens : (found : Result (List Token) LexError) → reads_tokens text found ≡ Ok program → nodes_over node_limits program ≡ None
@@ -196,6 +200,7 @@ well_formed text program is = record {
   calls = calls_of_program text program is;
   depth = depth_of_program text program is;
   reads = reads_of_program text program is;
+  tasklets = tasklets_of_program text program is;
   nodes = nodes_of_program text program is;
   containers = containers_of_program text program is;
   names = names_of_program text program is;

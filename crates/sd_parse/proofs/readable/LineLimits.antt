@@ -129,11 +129,10 @@ branch_steps Tasklet line when = tt
 
 pub steps_hold : HoldsOfLines HasSteps
 steps_hold = record {
-  strip = strip_steps;
-  fill = fill_steps;
+  fill = λ s small. fill_steps s;
   moved = λ line other when holds. holds;
   moved_inside = λ line other when holds. holds;
-  said = λ names site s of passed. statement_steps s of (short names site (statement_head s) passed).0;
+  said = λ names site s of passed. strip_steps s (statement_steps s of (short names site (statement_head s) passed).0);
   reduced = λ line lambda from to axis identity. tt;
   taken = λ line from size name element worker. tt;
   put_in = λ names site line connector memlet on passed. dimension_steps memlet.dimensions on (short names site (input_head connector memlet) passed).0;
@@ -215,11 +214,10 @@ branch_dimensions Tasklet line when = tt
 
 pub dimensions_hold : HoldsOfLines HasFewDimensions
 dimensions_hold = record {
-  strip = strip_dimensions;
-  fill = fill_dimensions;
+  fill = λ s small. fill_dimensions s;
   moved = λ line other when holds. holds;
   moved_inside = λ line other when holds. holds;
-  said = λ names site s of passed. statement_dimensions s of (short names site (statement_head s) passed).1;
+  said = λ names site s of passed. strip_dimensions s (statement_dimensions s of (short names site (statement_head s) passed).1);
   reduced = λ line lambda from to axis identity. tt;
   taken = λ line from size name element worker. tt;
   put_in = λ names site line connector memlet on passed. tt;
@@ -297,11 +295,10 @@ branch_parameters Tasklet line when = tt
 
 pub parameters_hold : HoldsOfLines HasFewParameters
 parameters_hold = record {
-  strip = strip_parameters;
-  fill = fill_parameters;
+  fill = λ s small. fill_parameters s;
   moved = λ line other when holds. holds;
   moved_inside = λ line other when holds. holds;
-  said = λ names site s of passed. statement_parameters s of (short names site (statement_head s) passed).1;
+  said = λ names site s of passed. strip_parameters s (statement_parameters s of (short names site (statement_head s) passed).1);
   reduced = λ line lambda from to axis identity. tt;
   taken = λ line from size name element worker. tt;
   put_in = λ names site line connector memlet on passed. tt;

@@ -38,7 +38,7 @@ same_own false Scope = refl
 same_own false Tasklet = refl
 
 -- the connectors are not too many
-few_connectors : (names : Names) (site : Site) (head : HeadTree) → Passes names site head → connects_much site.counts.connectors site.kind head ≡ false
+pub few_connectors : (names : Names) (site : Site) (head : HeadTree) → Passes names site head → connects_much site.counts.connectors site.kind head ≡ false
 few_connectors names site head passed =
     let much = (neither (nat_lt 7 site.depth || list_any (any_bound (is_wide names.meanings)) (uses site.kind head) || is_wide_or_long head) (counts_much names site head) passed.limited).1 in
     let first = neither (nat_lt 256 (site.counts.containers + new_containers head) || nat_lt 256 (site.counts.states + new_states site.kind head) || connects_much site.counts.connectors site.kind head || nat_lt 1024 (site.counts.lines + new_lines site.kind)) (nat_lt 8 (call_depth names head)) much in

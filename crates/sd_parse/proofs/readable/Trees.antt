@@ -1,8 +1,8 @@
 -- What holds of each statement as its line is accepted holds of the whole program.
-use Rattle.std.proofs.Common.{◌≡◌, ℕ, ℤ, pos, List, [], ◌∷◌, ◌++◌, Bool, true, false, if◌then◌else◌, Option, refl, sym, subst}
+use Rattle.std.proofs.Common.{◌≡◌, ◌≤◌, ℕ, ℤ, pos, List, [], ◌∷◌, ◌++◌, Bool, true, false, if◌then◌else◌, Option, refl, sym, subst}
 use Rattle.std.specs.Bool.{⊤}
 use Rattle.std.specs.List.{AllByRecursion}
-use Rattle.sd_lex.specs.PlainTree.{Expression, StatementTree, argument_array, local_array, local_stream, assign, copy, reduce, map_scope, tasklet, consume_scope, call, for_loop, while_loop, branch, input, output, set, set_at, tasklet_branch, Block, no_statement}
+use Rattle.sd_lex.specs.PlainTree.{Expression, Expressions, StatementTree, argument_array, local_array, local_stream, assign, copy, reduce, map_scope, tasklet, consume_scope, call, for_loop, while_loop, branch, input, output, set, set_at, tasklet_branch, Block, no_statement}
 use Rattle.sd_lex.specs.TreeFold.{block_listed}
 use Rattle.sd_lex.specs.declared.syntax.memlet.Lambda.{Lambda}
 use Rattle.sd_phrase.specs.Memlet.{MemletTree}
@@ -16,10 +16,15 @@ use Rattle.sd_parse.specs.Context.{Branch, Opener, file, function, statement, co
 use Rattle.sd_parse.specs.After.{context_after}
 use Rattle.sd_parse.specs.Placing.{memlet_of, consumer_of, consume_kind}
 use Rattle.sd_parse.specs.Closing.{branch_with, nested, with_body, finished_by, finished, closed_by, closed_into}
-use Rattle.sd_parse.specs.Continuing.{branches_of, next_opener}
+use Rattle.sd_parse.specs.Continuing.{goes_on, branches_of, next_opener}
 use Rattle.sd_parse.proofs.readable.Heads.{GoesOn, IsOfLine, IsBodyStatement, IsTaskletStatement, Fits, Opens, IsOpenedIn, AreNested}
 use Rattle.sd_parse.proofs.readable.Passing.{Passes, passes}
-use Rattle.sd_parse.proofs.readable.Steps.{IsAccepted, Keeps, behind_branch}
+use Rattle.sd_refusal.specs.declared.site.Counts.{Counts}
+use Rattle.sd_phrase.specs.declared.reading.Reading.TheVariants.{Form}
+use Rattle.sd_program.specs.Limits.{HasSmallTask}
+use Rattle.sd_program.specs.Place.{length_of}
+use Rattle.sd_parse.proofs.readable.Ahead.{EndsRight}
+use Rattle.sd_parse.proofs.readable.Steps.{IsWellNested, IsAccepted, Keeps, behind_branch, behind_other}
 use Rattle.sd_parse.proofs.readable.Nesting.{same_kind}
 use Rattle.sd_program.specs.Every.{Every, EveryIn, EveryOf}
 
@@ -103,15 +108,20 @@ output_fits Program connector memlet fit = absurd fit
 output_fits Scope connector memlet fit = absurd fit
 output_fits Tasklet connector memlet fit = fit
 
+-- the tasklet that ends is small
+abbrev pub EndsSmall : Opener → List StatementTree → Type 0
+EndsSmall (statement s) statements = HasSmallTask (with_body s (block_listed statements))
+EndsSmall (consumer line from size name element worker) statements = HasSmallTask (consume_scope line from size name element worker (block_listed statements))
+EndsSmall opener statements = ⊤
+
 module _ (Holds : StatementTree → Type 0) where
   -- it holds of the statement of each line that is accepted, whatever the blocks below are
   pub record HoldsOfLines : Type 0 where
-    pub strip : (s : StatementTree) → Holds s → Holds (bare s)
-    pub fill : (s : StatementTree) → Holds (bare s) → Holds s
+    pub fill : (s : StatementTree) → HasSmallTask s → Holds (bare s) → Holds s
     -- whatever the line of a branch is
     pub moved : (line other : ℕ) (when : Expression) → Holds (branch line when no_statement no_statement) → Holds (branch other when no_statement no_statement)
     pub moved_inside : (line other : ℕ) (when : Expression) → Holds (tasklet_branch line when no_statement no_statement) → Holds (tasklet_branch other when no_statement no_statement)
-    pub said : (names : Names) (site : Site) (s : StatementTree) → IsOfLine s → Passes names site (statement_head s) → Holds s
+    pub said : (names : Names) (site : Site) (s : StatementTree) → IsOfLine s → Passes names site (statement_head s) → Holds (bare s)
     pub reduced : (line : ℕ) (lambda : Lambda) (from to : Name) (axis identity : Option ℤ) → Holds (reduce line lambda from to axis identity)
     pub taken : (line : ℕ) (from : Name) (size : ℤ) (name element : Name) (worker : Option Name) → Holds (consume_scope line from size name element worker no_statement)
     pub put_in : (names : Names) (site : Site) (line : ℕ) (connector : Name) (memlet : MemletTree) → AllByRecursion GoesOn memlet.dimensions → Passes names site (input_head connector memlet) → Holds (input line connector (memlet_of memlet))
@@ -152,52 +162,52 @@ module _ (Holds : StatementTree → Type 0) where
       by_kind : (test : Bool) →
           Holds (if test then tasklet_branch b.line b.when no_statement no_statement else branch b.line b.when no_statement no_statement) →
           Every Holds (if test then tasklet_branch b.line b.when (block_listed b.statements) other else branch b.line b.when (block_listed b.statements) other)
-      by_kind true holds = (lines.fill (tasklet_branch b.line b.when (block_listed b.statements) other) holds, (listed b.statements good.1, others))
-      by_kind false holds = (lines.fill (branch b.line b.when (block_listed b.statements) other) holds, (listed b.statements good.1, others))
+      by_kind true holds = (lines.fill (tasklet_branch b.line b.when (block_listed b.statements) other) tt holds, (listed b.statements good.1, others))
+      by_kind false holds = (lines.fill (branch b.line b.when (block_listed b.statements) other) tt holds, (listed b.statements good.1, others))
 
     nested_hold : (kind : BlockKind) (branches : List Branch) (other : List StatementTree) → AllByRecursion (IsGoodBranch kind) branches → AllHold other → AllHold (nested kind branches other)
     nested_hold kind [] other good others = others
     nested_hold kind (b ∷ branches) other good others =
         (branch_holds kind b (block_listed (nested kind branches other)) good.0 (listed (nested kind branches other) (nested_hold kind branches other good.1 others)), tt)
 
-    body_holds : (kind : BlockKind) (s : StatementTree) (body : Block) → Opens kind s → Holds (bare s) → EveryIn Holds body → Every Holds (with_body s body)
-    body_holds kind (argument_array line name bits extents) body opens holds inside = absurd opens
-    body_holds kind (local_array line name extents bits) body opens holds inside = absurd opens
-    body_holds kind (local_stream line name bits size) body opens holds inside = absurd opens
-    body_holds kind (assign line name at add value) body opens holds inside = absurd opens
-    body_holds kind (copy line to to_dimensions from from_dimensions) body opens holds inside = absurd opens
-    body_holds kind (reduce line lambda from to axis identity) body opens holds inside = absurd opens
-    body_holds kind (map_scope line parameters ranges empty) body opens holds inside = (lines.fill (map_scope line parameters ranges body) holds, inside)
-    body_holds kind (tasklet line empty) body opens holds inside = (lines.fill (tasklet line body) holds, inside)
-    body_holds kind (consume_scope line from size name element worker empty) body opens holds inside = absurd opens
-    body_holds kind (call line name arguments) body opens holds inside = absurd opens
-    body_holds kind (for_loop line name begin end step empty) body opens holds inside = (lines.fill (for_loop line name begin end step body) holds, inside)
-    body_holds kind (while_loop line when empty) body opens holds inside = (lines.fill (while_loop line when body) holds, inside)
-    body_holds kind (branch line when empty other) body opens holds inside = absurd opens
-    body_holds kind (input line connector memlet) body opens holds inside = absurd opens
-    body_holds kind (output line connector memlet) body opens holds inside = absurd opens
-    body_holds kind (set line name value) body opens holds inside = absurd opens
-    body_holds kind (set_at line name at value) body opens holds inside = absurd opens
-    body_holds kind (tasklet_branch line when empty other) body opens holds inside = absurd opens
+    body_holds : (kind : BlockKind) (s : StatementTree) (body : Block) → Opens kind s → HasSmallTask (with_body s body) → Holds (bare s) → EveryIn Holds body → Every Holds (with_body s body)
+    body_holds kind (argument_array line name bits extents) body opens small holds inside = absurd opens
+    body_holds kind (local_array line name extents bits) body opens small holds inside = absurd opens
+    body_holds kind (local_stream line name bits size) body opens small holds inside = absurd opens
+    body_holds kind (assign line name at add value) body opens small holds inside = absurd opens
+    body_holds kind (copy line to to_dimensions from from_dimensions) body opens small holds inside = absurd opens
+    body_holds kind (reduce line lambda from to axis identity) body opens small holds inside = absurd opens
+    body_holds kind (map_scope line parameters ranges empty) body opens small holds inside = (lines.fill (map_scope line parameters ranges body) tt holds, inside)
+    body_holds kind (tasklet line empty) body opens small holds inside = (lines.fill (tasklet line body) small holds, inside)
+    body_holds kind (consume_scope line from size name element worker empty) body opens small holds inside = absurd opens
+    body_holds kind (call line name arguments) body opens small holds inside = absurd opens
+    body_holds kind (for_loop line name begin end step empty) body opens small holds inside = (lines.fill (for_loop line name begin end step body) tt holds, inside)
+    body_holds kind (while_loop line when empty) body opens small holds inside = (lines.fill (while_loop line when body) tt holds, inside)
+    body_holds kind (branch line when empty other) body opens small holds inside = absurd opens
+    body_holds kind (input line connector memlet) body opens small holds inside = absurd opens
+    body_holds kind (output line connector memlet) body opens small holds inside = absurd opens
+    body_holds kind (set line name value) body opens small holds inside = absurd opens
+    body_holds kind (set_at line name at value) body opens small holds inside = absurd opens
+    body_holds kind (tasklet_branch line when empty other) body opens small holds inside = absurd opens
 
     finished_hold : (about kind : BlockKind) (line : ℕ) (opener : Opener) (statements : List StatementTree) → IsOpenedIn about kind opener → IsGoodOpener kind line opener → AllHold statements →
-        AllHold (finished_by kind line opener statements)
-    finished_hold about kind line file statements opened good all = tt
-    finished_hold about kind line (function name) statements opened good all = tt
-    finished_hold about kind line (statement s) statements opened good all = (body_holds kind s (block_listed statements) opened.1 good (listed statements all), tt)
-    finished_hold about kind line (consumer at from size name element worker) statements opened good all =
-        ((lines.fill (consume_scope at from size name element worker (block_listed statements)) good, listed statements all), tt)
-    finished_hold about kind line (if_block earlier when) statements opened good all =
+        EndsSmall opener statements → AllHold (finished_by kind line opener statements)
+    finished_hold about kind line file statements opened good all small = tt
+    finished_hold about kind line (function name) statements opened good all small = tt
+    finished_hold about kind line (statement s) statements opened good all small = (body_holds kind s (block_listed statements) opened.1 small good (listed statements all), tt)
+    finished_hold about kind line (consumer at from size name element worker) statements opened good all small =
+        ((lines.fill (consume_scope at from size name element worker (block_listed statements)) small good, listed statements all), tt)
+    finished_hold about kind line (if_block earlier when) statements opened good all small =
         nested_hold kind (earlier ++ record { line = line; when = when; statements = statements } ∷ []) []
         (all-more (IsGoodBranch kind) earlier (record { line = line; when = when; statements = statements }) good.0 (good.1, all)) tt
-    finished_hold about kind line (else_block earlier) statements opened good all = nested_hold kind earlier statements good all
+    finished_hold about kind line (else_block earlier) statements opened good all small = nested_hold kind earlier statements good all
 
     close_holds : (outer : List OpenBlock) (context : Context) → context.outer ≡ outer → AreNested context.block outer → IsGoodBlock context.block → AllByRecursion IsGoodBlock outer →
-        AllHold context.arguments → AllByRecursion (EveryOf Holds) context.functions → HoldsSoFar (closed_into outer context)
-    close_holds [] context is shape inner outer arguments functions = (inner, (subst (AllByRecursion IsGoodBlock) (sym is) outer, (arguments, functions)))
-    close_holds (about ∷ rest) context is shape inner outer arguments functions = by_opener context.block.opener where
+        AllHold context.arguments → AllByRecursion (EveryOf Holds) context.functions → EndsSmall context.block.opener context.block.statements → HoldsSoFar (closed_into outer context)
+    close_holds [] context is shape inner outer arguments functions small = (inner, (subst (AllByRecursion IsGoodBlock) (sym is) outer, (arguments, functions)))
+    close_holds (about ∷ rest) context is shape inner outer arguments functions small = by_opener context.block.opener where
       finished_now : AllHold (finished context.block)
-      finished_now = finished_hold about.kind context.block.kind context.block.line context.block.opener context.block.statements shape.0 inner.0 inner.1
+      finished_now = finished_hold about.kind context.block.kind context.block.line context.block.opener context.block.statements shape.0 inner.0 inner.1 small
 
       joined : AllHold (about.statements ++ finished context.block)
       joined = all-joined (Every Holds) about.statements (finished context.block) outer.0.1 finished_now
@@ -211,7 +221,7 @@ module _ (Holds : StatementTree → Type 0) where
       by_opener (if_block earlier when) = ((outer.0.0, joined), (outer.1, (arguments, functions)))
       by_opener (else_block earlier) = ((outer.0.0, joined), (outer.1, (arguments, functions)))
 
-    said_now : (context : Context) (s : StatementTree) → Fits context.block.kind (statement_head s) → IsAccepted context (statement_head s) → Holds s
+    said_now : (context : Context) (s : StatementTree) → Fits context.block.kind (statement_head s) → IsAccepted context (statement_head s) → Holds (bare s)
     said_now context s fit accepted' = lines.said context.names (site_of context) s (of_line context.block.kind s fit) (passes context.names (site_of context) (statement_head s) accepted')
 
     -- one statement more in the innermost block
@@ -227,18 +237,18 @@ module _ (Holds : StatementTree → Type 0) where
     statement_holds context line is_tasklet (assign at_line name at add value) fit accepted' good = (more context.block (assign at_line name at add value) good.0 (said_now context (assign at_line name at add value) fit accepted'), good.1)
     statement_holds context line is_tasklet (copy at_line to to_dimensions from from_dimensions) fit accepted' good = (more context.block (copy at_line to to_dimensions from from_dimensions) good.0 (said_now context (copy at_line to to_dimensions from from_dimensions) fit accepted'), good.1)
     statement_holds context line is_tasklet (reduce at_line lambda from to axis identity) fit accepted' good = absurd (of_line context.block.kind (reduce at_line lambda from to axis identity) fit)
-    statement_holds context line is_tasklet (map_scope at_line parameters ranges body) fit accepted' good = ((lines.strip (map_scope at_line parameters ranges body) (said_now context (map_scope at_line parameters ranges body) fit accepted'), tt), ((good.0, good.1.0), good.1.1))
-    statement_holds context line is_tasklet (tasklet at_line body) fit accepted' good = ((lines.strip (tasklet at_line body) (said_now context (tasklet at_line body) fit accepted'), tt), ((good.0, good.1.0), good.1.1))
+    statement_holds context line is_tasklet (map_scope at_line parameters ranges body) fit accepted' good = ((said_now context (map_scope at_line parameters ranges body) fit accepted', tt), ((good.0, good.1.0), good.1.1))
+    statement_holds context line is_tasklet (tasklet at_line body) fit accepted' good = ((said_now context (tasklet at_line body) fit accepted', tt), ((good.0, good.1.0), good.1.1))
     statement_holds context line is_tasklet (consume_scope at_line from size name element worker body) fit accepted' good = absurd (of_line context.block.kind (consume_scope at_line from size name element worker body) fit)
     statement_holds context line is_tasklet (call at_line name arguments) fit accepted' good = (more context.block (call at_line name arguments) good.0 (said_now context (call at_line name arguments) fit accepted'), good.1)
-    statement_holds context line is_tasklet (for_loop at_line name begin end step body) fit accepted' good = ((lines.strip (for_loop at_line name begin end step body) (said_now context (for_loop at_line name begin end step body) fit accepted'), tt), ((good.0, good.1.0), good.1.1))
-    statement_holds context line is_tasklet (while_loop at_line when body) fit accepted' good = ((lines.strip (while_loop at_line when body) (said_now context (while_loop at_line when body) fit accepted'), tt), ((good.0, good.1.0), good.1.1))
-    statement_holds context line is_tasklet (branch at_line when body other) fit accepted' good = (((tt, lines.moved at_line line when (lines.strip (branch at_line when body other) (said_now context (branch at_line when body other) fit accepted'))), tt), ((good.0, good.1.0), good.1.1))
+    statement_holds context line is_tasklet (for_loop at_line name begin end step body) fit accepted' good = ((said_now context (for_loop at_line name begin end step body) fit accepted', tt), ((good.0, good.1.0), good.1.1))
+    statement_holds context line is_tasklet (while_loop at_line when body) fit accepted' good = ((said_now context (while_loop at_line when body) fit accepted', tt), ((good.0, good.1.0), good.1.1))
+    statement_holds context line is_tasklet (branch at_line when body other) fit accepted' good = (((tt, lines.moved at_line line when (said_now context (branch at_line when body other) fit accepted')), tt), ((good.0, good.1.0), good.1.1))
     statement_holds context line is_tasklet (input at_line connector memlet) fit accepted' good = absurd (of_line context.block.kind (input at_line connector memlet) fit)
     statement_holds context line is_tasklet (output at_line connector memlet) fit accepted' good = absurd (of_line context.block.kind (output at_line connector memlet) fit)
     statement_holds context line is_tasklet (set at_line name value) fit accepted' good = (more context.block (set at_line name value) good.0 (said_now context (set at_line name value) fit accepted'), good.1)
     statement_holds context line is_tasklet (set_at at_line name at value) fit accepted' good = (more context.block (set_at at_line name at value) good.0 (said_now context (set_at at_line name at value) fit accepted'), good.1)
-    statement_holds context line is_tasklet (tasklet_branch at_line when body other) fit accepted' good = (((tt, lines.moved_inside at_line line when (lines.strip (tasklet_branch at_line when body other) (said_now context (tasklet_branch at_line when body other) fit accepted'))), tt), ((good.0, good.1.0), good.1.1))
+    statement_holds context line is_tasklet (tasklet_branch at_line when body other) fit accepted' good = (((tt, lines.moved_inside at_line line when (said_now context (tasklet_branch at_line when body other) fit accepted')), tt), ((good.0, good.1.0), good.1.1))
 
     consumer_holds : (kind : BlockKind) (line : ℕ) (before : Awaited) (name element : Name) (worker : Option Name) → IsGoodOpener kind line (consumer_of before name element worker)
     consumer_holds kind line nothing name element worker = lines.taken 0 [] (pos 0) name element worker
@@ -288,32 +298,46 @@ module _ (Holds : StatementTree → Type 0) where
         (all, subst (λ kind. Holds (branch_with kind (record { line = line; when = when; statements = [] }) no_statement)) (sym is) (lines.other names site line when passed))
     other_holds names site kind line branches else_head is passed all = all
 
-    pub lines_are_kept : Keeps HoldsSoFar
-    lines_are_kept = record {
-      begin = ((tt, tt), (tt, (tt, tt)));
-      pass = λ context line is_tasklet head fit due accepted' shape good. pass_holds context line is_tasklet head fit accepted' good;
+    argument_holds : (context : Context) (line : ℕ) (is_tasklet : Bool) (at : ℕ) (name : Name) (bits : ℕ) (extents : Expressions) → length_of extents ≤ 4 → IsAccepted context (statement_head (argument_array at name bits extents)) → HoldsSoFar context →
+        HoldsSoFar (context_after context line is_tasklet (statement_head (argument_array at name bits extents)))
+    argument_holds context line is_tasklet at name bits extents few accepted' good =
+        let s = argument_array at name bits extents in (
+          good.0,
+          (
+            good.1.0,
+            (
+              all-more (Every Holds) context.arguments s good.1.1.0
+                  (lines.said context.names (site_of context) s few (passes context.names (site_of context) (statement_head s) accepted')),
+              good.1.1.1,
+            ),
+          ),
+        )
+
+    other_kept : (context : Context) (counts : Counts) (about : OpenBlock) (outer : List OpenBlock) (line : ℕ) (head : HeadTree) → context.outer ≡ about ∷ outer → goes_on (Form head) context.block.opener ≡ true →
+        IsAccepted (behind_branch context counts about outer) head → IsWellNested context → Fits about.kind head → HoldsSoFar context → HoldsSoFar (behind_other context counts about outer line head)
+    other_kept context counts about outer line head is on accepted' shape fit good =
+        let now = behind_branch context counts about outer in
+        let inside = subst (AllByRecursion IsGoodBlock) is good.1.0 in
+        let kind = same_kind head about.kind context.block.kind context.block.opener on (subst (AreNested context.block) is shape).0 in (
+          (
+            other_holds now.names (site_of now) context.block.kind line _ head kind.1 (passes now.names (site_of now) head accepted')
+                (branches_hold context.block.line context.block.kind context.block.statements context.block.opener good.0.0 good.0.1),
+            tt,
+          ),
+          (inside, good.1.1),
+        )
+
+    pub lines_are_kept : (Small : Context → Type 0) → Keeps Small → ((context : Context) → IsWellNested context → EndsRight context.block → Small context → EndsSmall context.block.opener context.block.statements) →
+        Keeps (λ context. Small context × HoldsSoFar context)
+    lines_are_kept Small keeps ends = record {
+      begin = (keeps.begin, ((tt, tt), (tt, (tt, tt))));
+      pass = λ context line is_tasklet head fit due accepted' shape good. (keeps.pass context line is_tasklet head fit due accepted' shape good.0, pass_holds context line is_tasklet head fit accepted' good.1);
       argument = λ context line is_tasklet at name bits extents few begun accepted' shape good.
-          let s = argument_array at name bits extents in (
-            good.0,
-            (
-              good.1.0,
-              (
-                all-more (Every Holds) context.arguments s good.1.1.0
-                    (lines.said context.names (site_of context) s few (passes context.names (site_of context) (statement_head s) accepted')),
-                good.1.1.1,
-              ),
-            ),
-          );
-      close = λ context counts free counted' right shape good. close_holds context.outer (record context { counts = counts }) refl shape good.0 good.1.0 good.1.1.0 good.1.1.1;
+          (keeps.argument context line is_tasklet at name bits extents few begun accepted' shape good.0, argument_holds context line is_tasklet at name bits extents few accepted' good.1);
+      close = λ context counts free counted' right shape good. (
+        keeps.close context counts free counted' right shape good.0,
+        close_holds context.outer (record context { counts = counts }) refl shape good.1.0 good.1.1.0 good.1.1.1.0 good.1.1.1.1 (ends context shape right good.0),
+      );
       go_on = λ context counts about outer line head free is on counted' fit accepted' shape good.
-          let now = behind_branch context counts about outer in
-          let inside = subst (AllByRecursion IsGoodBlock) is good.1.0 in
-          let kind = same_kind head about.kind context.block.kind context.block.opener on (subst (AreNested context.block) is shape).0 in (
-            (
-              other_holds now.names (site_of now) context.block.kind line _ head kind.1 (passes now.names (site_of now) head accepted')
-                  (branches_hold context.block.line context.block.kind context.block.statements context.block.opener good.0.0 good.0.1),
-              tt,
-            ),
-            (inside, good.1.1),
-          );
+          (keeps.go_on context counts about outer line head free is on counted' fit accepted' shape good.0, other_kept context counts about outer line head is on accepted' shape fit good.1);
     }
