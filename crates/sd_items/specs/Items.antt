@@ -17,7 +17,7 @@ use Rattle.sd_program.specs.Declared.{containers_in}
 use Rattle.sd_items.specs.Counts.{variables_in}
 use Rattle.sd_items.specs.NamesBehind.{own_of, table_behind}
 use Rattle.sd_task.specs.ElementCode.{element_task}
-use Rattle.sd_tasklet_item.specs.TaskletItem.{tasklet_item, task_with, inputs_of, outputs_of}
+use Rattle.sd_tasklet_item.specs.Item.{tasklet_item, task_with, inputs_of, outputs_of}
 
 -- the links of a call: each argument, with the callee's parameter as the connector
 abbrev pub call_links : Table → List (Name × List Dimension) → List (Name × Container) → List Link

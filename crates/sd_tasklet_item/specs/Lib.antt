@@ -1,2 +1,2 @@
-pub mod TaskletCode
-pub mod TaskletItem
+pub mod Code
+pub mod Item

@@ -1,9 +1,15 @@
 //! A tasklet of a program as an item.
 //!
-//! `tasklet_item` (`TaskletItem.antt`) is the item of `with dace.tasklet:` and its block: its connectors with
-//! their links, the variables that its code uses, its locals, and its code (`TaskletCode.antt`).
+//! `tasklet_item` (`Item.antt`) is the item of `with dace.tasklet:` and its block: its connectors with
+//! their links, the variables that its code uses, its locals, and its code (`Code.antt`).
 #![tactic(auto)]
 
-mod tasklet_names;
-mod tasklet_used;
-mod tasklet_value;
+mod act;
+mod item;
+mod link;
+mod names;
+mod used;
+mod value;
+
+pub use item::{task_with, tasklet_item};
+pub use link::{push_inputs, push_outputs};

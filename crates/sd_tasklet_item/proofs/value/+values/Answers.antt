@@ -1,10 +1,10 @@
 use Rattle.std.proofs.Common.{rules, ◌≤◌, ◌∙◌, ap, length}
 use Rattle.sd_graph.specs.TreeFold.{values_listed}
 use Rattle.sd_lex.specs.TreeFold.{expression_of}
-use Rattle.sd_tasklet_item.specs.TaskletCode.{task_value}
+use Rattle.sd_tasklet_item.specs.Code.{task_value}
 use Rattle.sd_tasklet_item.proofs.CodeLemmas.{values_mapped}
 use Rattle.sd_task.proofs.ListLemmas.{all_mapped}
-use Rattle.sd_tasklet_item.proofs.tasklet_value.+values.Goals as goal
+use Rattle.sd_tasklet_item.proofs.value.+values.Goals as goal
 
 pub values-returns : goal.values-returns
 values-returns t c =

@@ -1,9 +1,9 @@
-ghost use Rattle.std.specs.Prelude.{◌≡◌, OnOk};
+ghost use Rattle.std.specs.Prelude.{◌≡◌, [], IfOk, OnOk};
 ghost use Rattle.sd_lex.specs.TreeFold.{statement_of, block_of};
-ghost use Rattle.sd_tasklet_item.specs.TaskletCode as definition;
+ghost use Rattle.sd_tasklet_item.specs.Code as definition;
 
-use crate::tasklet_names::{Connectors, Locals};
-use crate::tasklet_value::{push_all_used, push_used};
+use crate::names::{Connectors, Locals};
+use crate::value::{push_all_used, push_used};
 use indexmap::IndexSet;
 use sd_lex::Statement;
 use sd_list::NoMemory;
@@ -50,7 +50,7 @@ fn push_used_line(
 /// Adds the variables that a block of a tasklet uses; its locals are in force in it alone.
 #[cycle(lines)]
 #[tactic(auto, using(crate::proofs::LocalLemmas::oldest_all, crate::proofs::LocalLemmas::behind_keeps, crate::proofs::LocalLemmas::behind_longer))]
-pub(crate) fn push_used_block(
+fn push_used_block(
     alloc: Global,
     variables: &Scope,
     connectors: &Connectors,
@@ -68,4 +68,19 @@ pub(crate) fn push_used_block(
     }
     locals.names.truncate(mark);
     Ok(())
+}
+
+/// The variables that a tasklet's code uses.
+pub(crate) fn used_variables(
+    alloc: Global,
+    variables: &Scope,
+    connectors: &Connectors,
+    body: &[Statement],
+) -> Result<IndexSet<u32>, NoMemory>
+    ensures { IfOk result (λ used. used.keys ≡ definition.used_acts_all variables.now connectors.now.ins connectors.now.outs (block_of body.now) [] 0 []) }
+{
+    let mut used = IndexSet::new(alloc);
+    let mut locals = Locals::new(alloc);
+    push_used_block(alloc, variables, connectors, &mut locals, &mut used, body)?;
+    Ok(used)
 }

@@ -1,8 +1,8 @@
 use Rattle.std.proofs.Common.{◌≡◌, ◌++◌, drop, map}
 use Rattle.sd_graph.specs.TreeFold.{value_tree}
 use Rattle.sd_lex.specs.TreeFold.{expression_of}
-use Rattle.sd_tasklet_item.specs.TaskletCode.{task_value}
-use Rattle.sd_tasklet_item.proofs.tasklet_value.+values.Given as goal
+use Rattle.sd_tasklet_item.specs.Code.{task_value}
+use Rattle.sd_tasklet_item.proofs.value.+values.Given as goal
 
 abbrev pub invariant-values-loop-expression : goal.invariant-values-loop-expression
 invariant-values-loop-expression l =

@@ -1,13 +1,13 @@
 -- A tasklet as an item: its connectors with their links, and its code.
 use Rattle.std.specs.Prelude.{ℕ, List, [], ◌∷◌, length, map}
 use Rattle.sd_lex.specs.PlainTree.{StatementTree, input, output, Block, no_statement, and_statement}
-use Rattle.sd_graph.specs.PlainTree.{KindTree, task}
+use Rattle.sd_graph.specs.PlainTree.{TaskletTree, KindTree, task}
 use Rattle.sd_graph.specs.declared.link.Link.{Link}
 use Rattle.sd_program.specs.Names.{Named}
 use Rattle.sd_task.specs.Names.{with_numbered}
 use Rattle.sd_task.specs.Table.{Table}
 use Rattle.sd_task.specs.Links.{memlet_link, ports_of}
-use Rattle.sd_tasklet_item.specs.TaskletCode.{used_acts_all, next_behind_all, acts_of}
+use Rattle.sd_tasklet_item.specs.Code.{used_acts_all, next_behind_all, acts_of}
 
 -- the link of a line that declares an input, before these
 abbrev pub input_before : Table → StatementTree → List Link → List Link
@@ -31,19 +31,23 @@ outputs_of table (and_statement first rest) = output_before table first (outputs
 abbrev pub connectors_from : (next : ℕ) → List Link → Named ℕ
 connectors_from next links = with_numbered (map (λ link. link.connector) links) next []
 
--- a tasklet with these links: its inputs are numbered first, then its outputs
-abbrev pub task_with : Table → (ins outs : List Link) → Block → KindTree
-task_with table ins outs body =
+-- the code of a tasklet with these links: its inputs are numbered first, then its outputs
+abbrev pub code_with : (variables : Named ℕ) → (ins outs : List Link) → Block → TaskletTree
+code_with variables ins outs body =
     let in_numbers : Named ℕ = connectors_from 0 ins in
     let out_numbers : Named ℕ = connectors_from (length ins) outs in
-    let used : List ℕ = used_acts_all table.variables in_numbers out_numbers body [] 0 [] in
-    task (record {
+    let used : List ℕ = used_acts_all variables in_numbers out_numbers body [] 0 [] in
+    record {
       ins = ports_of ins;
       outs = ports_of outs;
       variables = used;
-      locals = next_behind_all table.variables in_numbers out_numbers body [] 0;
-      body = acts_of table.variables in_numbers out_numbers used body [] 0;
-    }) ins outs
+      locals = next_behind_all variables in_numbers out_numbers body [] 0;
+      body = acts_of variables in_numbers out_numbers used body [] 0;
+    }
+
+-- a tasklet with these links
+abbrev pub task_with : Table → (ins outs : List Link) → Block → KindTree
+task_with table ins outs body = task (code_with table.variables ins outs body) ins outs
 
 -- `with dace.tasklet:` and its block
 abbrev pub tasklet_item : Table → Block → KindTree

@@ -2,10 +2,10 @@ ghost use Rattle.std.specs.Prelude.{◌≡◌, IfOk, OnOk};
 ghost use Rattle.sd_graph.specs.TreeFold.{value_tree, value_trees};
 ghost use Rattle.sd_lex.specs.TreeFold.{expression_of, expressions_of};
 ghost use Rattle.sd_program.specs.Names.{in_force};
-ghost use Rattle.sd_tasklet_item.specs.TaskletCode as definition;
+ghost use Rattle.sd_tasklet_item.specs.Code as definition;
 ghost use Rattle.sd_task.specs.UsedVariables.{variable_value};
 
-use crate::tasklet_names::Connectors;
+use crate::names::Connectors;
 use indexmap::IndexSet;
 use sd_graph::Value;
 use sd_lex::Expr;

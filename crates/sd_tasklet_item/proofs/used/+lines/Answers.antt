@@ -3,7 +3,7 @@ use Rattle.std.proofs.lemmas.Grind.{common_steps}
 use Rattle.sd_lex.specs.TreeFold.{statement_of}
 use Rattle.sd_task.specs.Stack.{oldest}
 use Rattle.sd_tasklet_item.proofs.LocalLemmas.{behind_keeps, behind_longer}
-use Rattle.sd_tasklet_item.proofs.tasklet_used.+lines.Goals as goal
+use Rattle.sd_tasklet_item.proofs.used.+lines.Goals as goal
 
 pub push_used_block-loop-statement-preserved : goal.push_used_block-loop-statement-preserved
 push_used_block-loop-statement-preserved t c =
