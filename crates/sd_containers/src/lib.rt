@@ -1,7 +1,15 @@
 //! The containers and variables that a program declares.
 //!
-//! `containers_with_all` (`Declarations.antt`) are the containers in the order of the text, `variable_names_all`
-//! the names of its variables.
+//! `containers_of_function` and `variable_names` give exactly what `Declarations.antt` defines, in the order of
+//! the text, or want memory. The element of a consume scope that is one tasklet may have the name of another
+//! container: its own container then gets the first `x$k` that is free.
 #![tactic(auto)]
 
-mod variable_names;
+mod containers;
+mod declared;
+mod fresh;
+mod name_list;
+mod variables;
+
+pub use containers::containers_of_function;
+pub use variables::variable_names;

@@ -1,5 +1,5 @@
 -- The graph of a program.
-use Rattle.std.specs.Prelude.{ℕ, ◌+◌, List, [], ◌∷◌, length, false}
+use Rattle.std.specs.Prelude.{ℕ, ◌+◌, List, [], ◌∷◌, length}
 use Rattle.sd_lex.specs.PlainTree.{argument_array, Block, no_statement, and_statement, FunctionTree, ProgramTree}
 use Rattle.sd_graph.specs.PlainTree.{no_item, GraphTree, graph}
 use Rattle.sd_graph.specs.TreeFold.{states_listed}
@@ -7,8 +7,7 @@ use Rattle.sd_program.specs.Names.{Name, Named}
 use Rattle.sd_items.specs.Graphs.{no_graph, graph_named}
 use Rattle.sd_task.specs.Table.{Table, with_container, with_variables}
 use Rattle.sd_program.specs.Declared.{containers_in_all}
-use Rattle.sd_program.specs.DeclaredNames.{container_names}
-use Rattle.sd_containers.specs.Declarations.{variable_names_all, Containers, containers_with_all}
+use Rattle.sd_containers.specs.Declarations.{variable_names_all, Containers, containers_of_function}
 use Rattle.sd_elab.specs.Standing.{Standing}
 use Rattle.sd_elab.specs.States.{chained_all}
 
@@ -21,13 +20,6 @@ table_of_arguments (and_statement statement rest) next table = table_of_argument
 -- the size symbols are in force, as the first variables
 abbrev pub table_of_symbols : (symbols : List Name) → Containers → Table
 table_of_symbols symbols containers = with_variables symbols 0 (record { containers = []; variables = []; all = containers })
-
--- all containers of a program, the arguments first
-abbrev pub containers_of_function : (symbols : List Name) → FunctionTree → Containers
-containers_of_function symbols function =
-    let known : Named ℕ = (table_of_symbols symbols []).variables in
-    let declared : List Name = container_names function in
-    containers_with_all known declared function.body false (containers_with_all known declared function.arguments false [])
 
 -- the graph of one program, where calls are of these graphs: state 0 is empty, and the last state has no exit
 abbrev pub function_graph : (symbols : List Name) → (Name → GraphTree) → FunctionTree → GraphTree

@@ -1,28 +1,11 @@
-ghost use Rattle.std.specs.Prelude.{◌≡◌, ◌++◌, [], ◌∷◌, map, string_bytes, OnOk};
+ghost use Rattle.std.specs.Prelude.{◌≡◌, map, string_bytes, IfOk, OnOk};
 ghost use Rattle.sd_lex.specs.TreeFold.{statement_of, block_of};
 ghost use Rattle.sd_containers.specs.Declarations as definition;
 
+use crate::name_list::{push_name, push_names};
 use sd_lex::Statement;
 use sd_list::NoMemory;
 use std::alloc::Global;
-
-/// Adds a name.
-fn push_name(alloc: Global, names: &mut Vec<String>, name: &str) -> Result<(), NoMemory>
-    ensures { OnOk result (map string_bytes names.new.items ≡ map string_bytes names.old.items ++ name.now ∷ []) }
-{
-    names.push(String::from_str(alloc, name)?)?;
-    Ok(())
-}
-
-/// Adds several names.
-fn push_names(alloc: Global, names: &mut Vec<String>, more: &[String]) -> Result<(), NoMemory>
-    ensures { OnOk result (map string_bytes names.new.items ≡ map string_bytes names.old.items ++ map string_bytes more.now) }
-{
-    for name in more {
-        push_name(alloc, names, name.as_str())?;
-    }
-    Ok(())
-}
 
 /// Adds the names of a statement's variables, in the order of the text.
 #[cycle(names)]
@@ -55,15 +38,25 @@ fn push_of_statement(
 
 /// Adds the names of a block's variables.
 #[cycle(names)]
-pub(crate) fn push_of_block(
-    alloc: Global,
-    names: &mut Vec<String>,
-    body: &[Statement],
-) -> Result<(), NoMemory>
+fn push_of_block(alloc: Global, names: &mut Vec<String>, body: &[Statement]) -> Result<(), NoMemory>
     ensures { OnOk result (map string_bytes names.new.items ≡ definition.variable_names_all (block_of body.now) (map string_bytes names.old.items)) }
 {
     for statement in body {
         push_of_statement(alloc, names, statement)?;
     }
     Ok(())
+}
+
+/// The names of a program's variables by number: its size symbols, and then those of its body.
+pub fn variable_names(
+    alloc: Global,
+    symbols: &[String],
+    body: &[Statement],
+) -> Result<Vec<String>, NoMemory>
+    ensures { IfOk result (λ names. map string_bytes names.items ≡ definition.variable_names_all (block_of body.now) (map string_bytes symbols.now)) }
+{
+    let mut names = Vec::new(alloc);
+    push_names(alloc, &mut names, symbols)?;
+    push_of_block(alloc, &mut names, body)?;
+    Ok(names)
 }

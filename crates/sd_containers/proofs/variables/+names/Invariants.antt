@@ -1,7 +1,7 @@
 use Rattle.std.proofs.Common.{◌≡◌, drop, map, string_bytes}
 use Rattle.sd_lex.specs.TreeFold.{block_of}
 use Rattle.sd_containers.specs.Declarations.{variable_names_all}
-use Rattle.sd_elab.proofs.variable_names.+names.Given as goal
+use Rattle.sd_containers.proofs.variables.+names.Given as goal
 
 abbrev pub invariant-push_of_block-loop-statement : goal.invariant-push_of_block-loop-statement
 invariant-push_of_block-loop-statement l =

@@ -1,0 +1,10 @@
+pub mod ListLemmas
+pub mod FreshLemmas
+pub mod DeclaredLemmas
+pub mod ToComeLemmas
+pub mod MapLemmas
+pub mod StatementTrees
+pub mod ExtentLemmas
+pub mod FunctionLemmas
+pub mod ArmLemmas
+pub mod Examples
