@@ -2,3 +2,4 @@ pub mod Places
 pub mod Sizes
 pub mod KeptLemmas
 pub mod Acts
+pub mod Members

@@ -1,9 +1,10 @@
-ghost use Rattle.std.specs.Prelude.{◌≡◌, ◌<◌, true};
+ghost use Rattle.std.specs.Prelude.{◌≡◌, ◌<◌, true, IsTrue};
 ghost use Rattle.sd_range.specs.Subset.{inside};
 ghost use Rattle.sd_graph.specs.TaskletMeaning.{extents_of_connector, element_of};
 ghost use Rattle.sd_tasklet.specs.Given.{given, IsWhole};
 
 use crate::place::row_number;
+use crate::whole::{extents_at, have_few_dimensions, have_room};
 use sd_list::Sequence;
 
 /// What code is given.
@@ -24,10 +25,16 @@ impl Inputs {
     pub(crate) fn extents_of(&self, connector: u32) -> &[u64]
         ensures { result.now ≡ extents_of_connector (given self.now) connector }
     {
-        match self.extents.as_slice().get(connector as usize) {
-            Some(extents) => extents.as_slice(),
-            None => &[],
-        }
+        extents_at(self.extents.as_slice(), connector as usize)
+    }
+
+    /// Whether `eval` may be given this: no connector has more than four dimensions, and each input has
+    /// as many elements as its extents multiply to. Where a product passes 64 bits it is not told so.
+    pub fn is_whole(&self) -> bool
+        ensures { IsTrue result → IsWhole (given self.now) }
+    {
+        let extents = self.extents.as_slice();
+        have_few_dimensions(extents) && have_room(extents, self.values.as_slice())
     }
 
     /// The element of an input connector at a place in it.

@@ -14,6 +14,7 @@ mod operator;
 mod place;
 mod progress;
 mod value;
+mod whole;
 
 pub use effect::{Effect, Effects};
 pub use evaluation::eval;
@@ -21,3 +22,4 @@ pub use fault::TaskFault;
 pub use inputs::Inputs;
 pub use operator::{decides, holds, one_value, two_values};
 pub use place::{filled, is_inside, row_number};
+pub use whole::has_room;

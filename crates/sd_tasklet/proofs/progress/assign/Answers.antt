@@ -1,4 +1,4 @@
-use Rattle.std.proofs.Common.{rules, ◌≡◌, ◌≤◌, ◌∙◌, ap, length, FitsSigned, arith}
+use Rattle.std.proofs.Common.{rules, ◌∙◌, ap, FitsSigned, arith}
 use Rattle.std.specs.Int.{w64}
 use Rattle.std.proofs.lemmas.Int.{to_z-of_z}
 use Rattle.sd_graph.specs.TreeFold.{value_tree, value_trees}
