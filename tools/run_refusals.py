@@ -6,47 +6,23 @@ refused with, in backquotes. Each source whose answer differs has a line, and th
 status is 0 where there are sources and none failed.
 """
 import re
-import subprocess
 import sys
-import tempfile
 from pathlib import Path
 
-from timed_program import built
+from reader import compare
 
 LANGUAGE = Path(__file__).resolve().parent.parent / "docs/LANGUAGE.md"
-READER = "sd_parse_bench"
 REFUSED = re.compile(r"^```\n(.*?)^```\n+`(source error \d+ at line \d+)`$", re.MULTILINE | re.DOTALL)
-SECONDS = 60
 
 
-def answers(program, sources):
-    """Returns the line that the program prints for each source."""
-    with tempfile.TemporaryDirectory() as folder:
-        files = []
-        for number, source in enumerate(sources):
-            files.append(Path(folder) / f"{number}.py")
-            files[-1].write_text(source)
-        how = {"stdin": subprocess.DEVNULL, "capture_output": True, "timeout": SECONDS, "text": True}
-        return subprocess.run([program, *files], **how).stdout.splitlines()
-
-
-def main():
-    cases = REFUSED.findall(LANGUAGE.read_text())
-    program = built(READER)
-    if not cases or program is None:
-        print("no source is shown as refused" if not cases else "the reader was not built")
-        print(f"0 passed, {len(cases) or 1} failed")
-        return 1
-    found = answers(program, [source for source, _ in cases])
-    failed = 0
-    for number, (source, wanted) in enumerate(cases):
-        answer = found[number] if number < len(found) else "nothing"
-        if answer != wanted:
-            failed += 1
-            print(f"'{wanted}' of docs/LANGUAGE.md: the answer is '{answer}' for\n{source}", flush=True)
-    print(f"{len(cases) - failed} passed, {failed} failed")
-    return 1 if failed else 0
+def cases():
+    """Returns the place of each source, what is wanted and its text."""
+    text = LANGUAGE.read_text()
+    return [
+        (f"docs/LANGUAGE.md:{text.count(chr(10), 0, found.start()) + 1}", found[2], found[1].encode())
+        for found in REFUSED.finditer(text)
+    ]
 
 
 if __name__ == "__main__":
-    sys.exit(main())
+    sys.exit(0 if compare(cases()) else 1)
