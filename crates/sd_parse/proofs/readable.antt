@@ -1,6 +1,7 @@
 pub mod Heads
 pub mod Passing
 pub mod Ahead
+pub mod AheadKept
 pub mod Steps
 pub mod Nesting
 pub mod Trees
@@ -22,5 +23,7 @@ pub mod Containers
 pub mod States
 pub mod Shallow
 pub mod OwnNames
+pub mod OwnNamesKept
 pub mod Tasks
+pub mod TasksKept
 pub mod Fields

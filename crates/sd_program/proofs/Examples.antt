@@ -1,11 +1,12 @@
 -- A program that is well formed, and for each rule a statement that breaks it.
-use Rattle.std.proofs.Common.{◌≡◌, ◌≤◌, ◌<◌, ◌^◌, zero, suc, inl, inr, ℕ, ◌+◌, ℤ, pos, List, [], ◌∷◌, codes, Option, Some, None, bytes_eq, false, refl, subst, arith}
+use Rattle.std.proofs.Common.{◌≡◌, ◌≤◌, ◌<◌, ◌^◌, zero, suc, inl, inr, ℕ, ◌+◌, ℤ, pos, List, [], ◌∷◌, codes, Option, Some, None, bytes_eq, Bool, true, false, refl, sym, subst, arith}
 use Rattle.std.specs.Bool.{⊤}
+use Rattle.std.specs.List.{IsDistinct}
 use Rattle.std.proofs.lemmas.Int.{ints}
-use Rattle.std.proofs.lemmas.Map.Keys.{IsDistinct-cons}
+use Rattle.std.proofs.lemmas.Map.Keys.{IsDistinct-cons, IsDistinct-head}
 use Rattle.std.proofs.lemmas.Map.Made.{IsDistinct-from_AllPairs}
 use Rattle.std.proofs.lemmas.Slice.Eq.{bytes_eq-Decides}
-use Rattle.sd_lex.specs.PlainTree.{Block, FunctionTree, Expression, number, named, element_at, two, Expressions, no_expression, and_expression, Dimension, span, StatementTree, argument_array, local_array, assign, map_scope, call, for_loop, while_loop, no_statement, and_statement, ProgramTree}
+use Rattle.sd_lex.specs.PlainTree.{Block, FunctionTree, Expression, number, named, element_at, two, Expressions, no_expression, and_expression, Dimension, span, StatementTree, argument_array, local_array, assign, map_scope, call, for_loop, while_loop, local_stream, tasklet, consume_scope, output, set, tasklet_branch, no_statement, and_statement, ProgramTree}
 use Rattle.sd_lex.specs.declared.syntax.operator.TwoSign.TheVariants.{Add, Mul}
 use Rattle.sd_nodes.specs.NodeLimits.{node_limits, nodes_over}
 use Rattle.sd_program.specs.Names.{Name}
@@ -14,7 +15,8 @@ use Rattle.sd_program.specs.Small.{IsSmall}
 use Rattle.sd_program.specs.Place.{program, scope, Place}
 use Rattle.sd_program.specs.Known.{IsPlaced, IsKnown}
 use Rattle.sd_program.specs.Calls.{IsCallable, CallShallowly}
-use Rattle.sd_program.specs.Limits.{HasSteps, HasFewDimensions, HasFewParameters, HasFewAbout, HasFewReads, containers_of, states_of}
+use Rattle.sd_program.specs.Limits.{HasSteps, HasFewDimensions, HasFewParameters, HasFewAbout, HasFewReads, HasSmallTask, lines_in, containers_of, states_of}
+use Rattle.sd_program.specs.DeclaredNames.{container_names}
 use Rattle.sd_program.specs.WellFormed.{IsWellFormed}
 
 abbrev n : Name
@@ -166,3 +168,43 @@ calling_once level = record { name = (level + 1) ∷ []; line = level; arguments
 deep_chain :
     CallShallowly (calling_once 8 ∷ calling_once 7 ∷ calling_once 6 ∷ calling_once 5 ∷ calling_once 4 ∷ calling_once 3 ∷ calling_once 2 ∷ calling_once 1 ∷ calling_once 0 ∷ []) → ⊥
 deep_chain shallow = omega (arith, shallow.0)
+
+-- an array and a stream of one name, the stream in a map
+abbrev IsFalse : Bool → Type 0
+IsFalse true = ⊥
+IsFalse false = ⊤
+
+abbrev twice : FunctionTree
+twice = record {
+  name = n;
+  line = 1;
+  arguments = and_statement (argument_array 2 a 64 (at (pos 3))) no_statement;
+  body = and_statement (map_scope 3 [] [] (and_statement (local_stream 4 a 64 None) no_statement)) no_statement;
+}
+
+same_name : IsDistinct bytes_eq (container_names twice) → ⊥
+same_name distinct = subst IsFalse (sym (IsDistinct-head bytes_eq a (a ∷ []) distinct).0) tt
+
+-- the element of a consume scope that is one tasklet is no container
+abbrev consumed : FunctionTree
+consumed = record {
+  name = n;
+  line = 1;
+  arguments = and_statement (argument_array 2 a 64 (at (pos 3))) no_statement;
+  body = and_statement (consume_scope 3 a (pos 1) n a None (and_statement (output 4 n (record { name = a; volume = None; lambda = None; dimensions = [] })) no_statement)) no_statement;
+}
+
+element_of_task : container_names consumed ≡ a ∷ []
+element_of_task = refl
+
+-- a tasklet of 1,025 lines
+many_lines : HasSmallTask (tasklet 1 (repeated 1025 (set 2 n (number (pos 0))))) → ⊥
+many_lines small = omega (arith, small.1)
+
+-- a consume scope with 64 connectors beside its element
+many_connectors : HasSmallTask (consume_scope 1 a (pos 1) n a None (repeated 64 (output 2 n (record { name = a; volume = None; lambda = None; dimensions = [] })))) → ⊥
+many_connectors small = omega (arith, (small refl).0)
+
+-- `if`, `elif` and `else` with a line each are six
+branched : lines_in (tasklet_branch 1 (named n) (repeated 1 (set 2 n (named n))) (repeated 1 (tasklet_branch 3 (named n) (repeated 1 (set 4 n (named n))) (repeated 1 (set 6 n (named n)))))) ≡ 6
+branched = refl

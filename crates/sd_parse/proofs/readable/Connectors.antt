@@ -17,7 +17,7 @@ use Rattle.sd_line.specs.HeadReading.{head_of}
 use Rattle.sd_line.specs.TaskletLine as tasklets
 use Rattle.sd_refusal.specs.Counting.{is_connector}
 use Rattle.sd_parse.specs.TokenLines.{is_name_kind, is_arrow, begins_connector}
-use Rattle.sd_parse.proofs.readable.Ahead.{Connects}
+use Rattle.sd_parse.proofs.readable.AheadKept.{Connects}
 use Rattle.sd_parse.proofs.readable.Forms.{IfForm, if-always, if-map, if-either}
 use Rattle.sd_parse.proofs.readable.Passing.{false_is_not_true}
 

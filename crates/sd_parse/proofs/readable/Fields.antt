@@ -15,8 +15,10 @@ use Rattle.sd_program.specs.WellFormed.{IsWellFormed}
 use Rattle.sd_parse.proofs.readable.Containers.{FewContainers, containers_are_kept}
 use Rattle.sd_parse.proofs.readable.States.{FewStates, states_are_kept}
 use Rattle.sd_parse.proofs.readable.Shallow.{FewCalls, calls_are_kept}
-use Rattle.sd_parse.proofs.readable.OwnNames.{OwnNames, names_are_kept}
-use Rattle.sd_parse.proofs.readable.Tasks.{Tasks, ends_small, tasks_are_kept, small_hold}
+use Rattle.sd_parse.proofs.readable.OwnNames.{OwnNames}
+use Rattle.sd_parse.proofs.readable.OwnNamesKept.{names_are_kept}
+use Rattle.sd_parse.proofs.readable.Tasks.{Tasks}
+use Rattle.sd_parse.proofs.readable.TasksKept.{ends_small, tasks_are_kept, small_hold}
 use Rattle.sd_parse.proofs.readable.ReadFields.{reads_hold}
 use Rattle.sd_nodes.specs.NodeLimits.{nodes_over, node_limits}
 use Rattle.sd_parse.specs.declared.error.Refusal.{Refusal}
@@ -42,7 +44,7 @@ use Rattle.sd_parse.proofs.readable.PlacedEnds.{places_are_kept}
 use Rattle.sd_parse.proofs.readable.PlacedFields.{forms_hold, depths_hold, calls_hold}
 use Rattle.sd_parse.proofs.readable.Affine.{not_rough}
 use Rattle.sd_parse.proofs.readable.Heads.{Fits}
-use Rattle.sd_parse.proofs.readable.Ahead.{Connects}
+use Rattle.sd_parse.proofs.readable.AheadKept.{Connects}
 use Rattle.sd_parse.proofs.readable.Connectors.{connector_forms}
 use Rattle.sd_parse.proofs.readable.Forms.{of_form, each-mapped}
 use Rattle.sd_parse.proofs.readable.LineForms.{head_forms}

@@ -16,7 +16,7 @@ use Rattle.sd_refusal.specs.declared.site.Counts.{Counts}
 use Rattle.sd_parse.specs.declared.error.Refusal.{Refusal}
 use Rattle.sd_parse.specs.Context.{Opener, function, file, statement, consumer, if_block, else_block, OpenBlock, Awaited, nothing, block, function_def, consume_def, Context, opening}
 use Rattle.sd_parse.specs.After.{context_after}
-use Rattle.sd_parse.specs.Awaiting.{awaited_behind, comes_right, wrong_number, wanted_of, is_wanted}
+use Rattle.sd_parse.specs.Awaiting.{comes_right, wrong_number, wanted_of, is_wanted}
 use Rattle.sd_parse.specs.Closing.{Step, and_then, states_counted, with_counts, with_states, late_states, left_by, closed_by, closed, closed_into, closed_times}
 use Rattle.sd_parse.specs.Continuing.{is_elif_or_else, goes_on, branches_of, left, next_branch, next_judged, with_branch_state, continued_by}
 use Rattle.sd_parse.specs.Judging.{refused, against, statement_heads, steps_of, least, judged_one, judged_all, settled, judged_from}
@@ -25,7 +25,8 @@ use Rattle.sd_parse.specs.Lines.{Line, opens_tasklet}
 use Rattle.sd_parse.specs.LinesReading.{lines_read, at_end, program_in, program_by, program_of_lines}
 use Rattle.sd_parse.specs.declared.awaiting.Wanted.{Wanted}
 use Rattle.sd_parse.proofs.readable.Heads.{IsArgument, AreArguments, Fits, IsFile, AreNested}
-use Rattle.sd_parse.proofs.readable.Ahead.{Ahead, ahead, seen, AllPromise, Within, BetweenBy, Between, EndsRight, Connects, starts, ends_ahead, ends_right, ends_within, passes_between, goes_on_between, opens_between}
+use Rattle.sd_parse.proofs.readable.Ahead.{Ahead, ahead, seen, AllPromise, Within, BetweenBy, Between, EndsRight, starts, ends_ahead, ends_right, ends_within}
+use Rattle.sd_parse.proofs.readable.AheadKept.{Connects, passes_between, goes_on_between, opens_between, other_awaits}
 
 abbrev IsRefused : {A E : Type 0} → Result A E → Type 0
 IsRefused (Ok value) = ⊥
@@ -266,20 +267,6 @@ goes_on_is head (statement s) on = absurd (false_is_not_true on)
 goes_on_is head (consumer line from size name element worker) on = absurd (false_is_not_true on)
 goes_on_is head (if_block earlier when) on = on
 goes_on_is head (else_block earlier) on = absurd (false_is_not_true on)
-
-other_awaits : (line : ℕ) (head : HeadTree) → is_elif_or_else head ≡ true → awaited_behind line head ≡ block
-other_awaits line import_line is = absurd (false_is_not_true is)
-other_awaits line (symbol_line name quoted) is = absurd (false_is_not_true is)
-other_awaits line program_decorator is = absurd (false_is_not_true is)
-other_awaits line (program_head name arguments) is = absurd (false_is_not_true is)
-other_awaits line (statement_head s) is = absurd (false_is_not_true is)
-other_awaits line (reduce_head lambda from to axis identity) is = absurd (false_is_not_true is)
-other_awaits line (input_head connector memlet) is = absurd (false_is_not_true is)
-other_awaits line (output_head connector memlet) is = absurd (false_is_not_true is)
-other_awaits line (consume_decorator from size) is = absurd (false_is_not_true is)
-other_awaits line (consume_head name element worker) is = absurd (false_is_not_true is)
-other_awaits line (elif_head when) is = refl
-other_awaits line else_head is = refl
 
 not_true : (a : Bool) → not a ≡ true → a ≡ false
 not_true true is = sym is
