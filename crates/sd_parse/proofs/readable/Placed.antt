@@ -1,8 +1,7 @@
 -- What holds of each statement in its place as its line is accepted holds of it in the program.
 use Rattle.std.proofs.Common.{◌≡◌, ◌≤◌, ℕ, ℤ, List, [], ◌∷◌, ◌++◌, length, take, reverse, Bool, true, false, Option, Some, is_some, refl, sym, ap, ◌∙◌, subst}
 use Rattle.std.specs.Bool.{⊤}
-use Rattle.std.specs.List.{AllByRecursion}
-use Rattle.sd_lex.specs.PlainTree.{Expression, Expressions, StatementTree, argument_array, reduce, map_scope, tasklet, consume_scope, for_loop, while_loop, branch, input, output, set, set_at, tasklet_branch, no_statement, FunctionTree}
+use Rattle.sd_lex.specs.PlainTree.{Expression, Expressions, StatementTree, argument_array, reduce, map_scope, tasklet, consume_scope, for_loop, while_loop, branch, input, output, tasklet_branch, no_statement, FunctionTree}
 use Rattle.sd_lex.specs.TreeFold.{block_listed}
 use Rattle.sd_phrase.specs.Memlet.{LambdaTree, MemletTree}
 use Rattle.sd_line.specs.declared.head.BlockKind.{BlockKind}
@@ -24,17 +23,8 @@ use Rattle.sd_program.specs.Declared.{containers_in_all}
 use Rattle.sd_program.specs.Place.{Holder, Around, program, scope, task, signature, Place, behind, behind_all, past, past_all, in_map, in_tasklet, in_loop, in_consume, in_signature, in_function, EveryAt, EveryFrom, EveryFunction}
 use Rattle.sd_parse.proofs.readable.Heads.{IsOfLine, Fits, IsInner, IsIf, AreNested}
 use Rattle.sd_parse.proofs.readable.Passing.{Passes}
-use Rattle.sd_parse.proofs.readable.Trees.{all-more, bare}
+use Rattle.sd_parse.proofs.readable.Trees.{bare}
 use Rattle.sd_parse.proofs.readable.InForce.{Agrees, take-put, length-put}
-
--- a line of a tasklet
-abbrev pub begins_task : StatementTree → Bool
-begins_task (input line connector memlet) = true
-begins_task (output line connector memlet) = true
-begins_task (set line name value) = true
-begins_task (set_at line name at value) = true
-begins_task (tasklet_branch line when body other) = true
-begins_task s = false
 
 abbrev pub around_of : BlockKind → Around
 around_of Top = signature
@@ -119,9 +109,6 @@ module _ (Holds : Place → StatementTree → Type 0) where
   IsGoodOpener kind line (if_block earlier when) place = AreBranches kind earlier place × HasHead (through earlier place) kind (record { line = line; when = when; statements = [] })
   IsGoodOpener kind line (else_block earlier) place = AreBranches kind earlier place
 
-  abbrev pub IsOfKind : BlockKind → StatementTree → Type 0
-  IsOfKind kind s = begins_task s ≡ is_tasklet kind
-
   -- a place is that of a block
   pub record IsPlaceOf (inner : OpenBlock) (place : Place) : Type 0 where
     pub depth : place.depth ≡ inner.depth
@@ -130,7 +117,6 @@ module _ (Holds : Place → StatementTree → Type 0) where
   pub record IsGoodBlock (inner : OpenBlock) (at begin : Place) : Type 0 where
     pub opener : IsGoodOpener inner.kind inner.line inner.opener at
     pub all : AllFrom begin inner.statements
-    pub kinds : AllByRecursion (IsOfKind inner.kind) inner.statements
     pub place : IsPlaceOf inner begin
 
   abbrev pub AreGoodBlocks : List FunctionTree → (arguments : List StatementTree) → OpenBlock → List OpenBlock → Type 0
@@ -175,14 +161,13 @@ module _ (Holds : Place → StatementTree → Type 0) where
   outside-same programs arguments known inner (about ∷ outer) statements outside = outside
 
   -- one statement more
-  pub one_more : (programs : List FunctionTree) (arguments : List StatementTree) (inner : OpenBlock) (outer : List OpenBlock) (s : StatementTree) → AreNested inner outer → IsInner inner.kind → IsOfKind inner.kind s →
+  pub one_more : (programs : List FunctionTree) (arguments : List StatementTree) (inner : OpenBlock) (outer : List OpenBlock) (s : StatementTree) → AreNested inner outer → IsInner inner.kind →
       EveryAt Holds (now programs arguments inner outer) s → AreGoodBlocks programs arguments inner outer → AreGoodBlocks programs arguments (record inner { statements = inner.statements ++ s ∷ [] }) outer
-  one_more programs arguments inner [] s shape inside kind every good = absurd (subst IsInner shape.0 inside)
-  one_more programs arguments inner (about ∷ outer) s shape inside kind every good = (
+  one_more programs arguments inner [] s shape inside every good = absurd (subst IsInner shape.0 inside)
+  one_more programs arguments inner (about ∷ outer) s shape inside every good = (
     record {
       opener = good.0.opener;
       all = from-joined (place_at programs arguments inner (about ∷ outer)) inner.statements (s ∷ []) good.0.all (every, tt);
-      kinds = all-more (IsOfKind inner.kind) inner.statements s good.0.kinds kind;
       place = record { depth = good.0.place.depth; around = good.0.place.around };
     },
     good.1,

@@ -1,7 +1,6 @@
 -- The arguments of a program and the ends of blocks keep what holds of statements in their places.
 use Rattle.std.proofs.Common.{◌≡◌, ◌≤◌, ℕ, zero, suc, ◌+◌, ℤ, List, [], ◌∷◌, ◌++◌, length, take, reverse, Bool, true, false, cond, if◌then◌else◌, Option, Some, bytes_eq, refl, sym, ap, ◌∙◌, subst, arith}
 use Rattle.std.specs.Bool.{⊤}
-use Rattle.std.specs.List.{AllByRecursion}
 use Rattle.std.proofs.lemmas.List.{length-map, length-append, reverse-append}
 use Rattle.sd_lex.specs.PlainTree.{Expression, Expressions, StatementTree, argument_array, local_array, local_stream, assign, copy, reduce, map_scope, tasklet, consume_scope, call, for_loop, while_loop, branch, input, output, set, set_at, tasklet_branch, Block, no_statement, FunctionTree}
 use Rattle.sd_lex.specs.TreeFold.{block_listed}
@@ -36,12 +35,12 @@ use Rattle.sd_parse.proofs.readable.Heads.{Fits, IsIf, if_inner, Opens, IsInner,
 use Rattle.sd_parse.proofs.readable.Passing.{Passes, passes, false_is_not_true}
 use Rattle.sd_parse.proofs.readable.Steps.{IsFunction, IsBegun, IsWellNested, IsAccepted, AwaitsNoDef, Keeps, behind_branch, behind_other}
 use Rattle.sd_parse.proofs.readable.Nesting.{top_is_file}
-use Rattle.sd_parse.proofs.readable.Trees.{all-joined, bare}
+use Rattle.sd_parse.proofs.readable.Trees.{bare}
 use Rattle.sd_parse.proofs.readable.InForce.{Agrees, more_agrees, none_agrees, listed-put}
 use Rattle.sd_names.specs.declared.meaning.Meaning.{Meaning}
 use Rattle.sd_parse.specs.Placing.{opened, with_statements}
 use Rattle.sd_parse.proofs.readable.Affine.{none_is_not_some}
-use Rattle.sd_parse.proofs.readable.Placed.{begins_task, IsAt, block_place, behind-joined, by_keeping, place-same, outside-same, AwaitsWell, around_of, over, through, begins_by, begins, place_at, now, over-joined, through-more, SignaturesAgree, AllFrom, from-joined, HasHead, AreBranches, IsGoodOpener, IsOfKind, AreGoodBlocks, by_way, AgreeOutside, HoldsInPlaces, HoldsSoFar}
+use Rattle.sd_parse.proofs.readable.Placed.{IsAt, block_place, behind-joined, by_keeping, place-same, outside-same, AwaitsWell, around_of, over, through, begins_by, begins, place_at, now, over-joined, through-more, SignaturesAgree, AllFrom, from-joined, HasHead, AreBranches, IsGoodOpener, AreGoodBlocks, by_way, AgreeOutside, HoldsInPlaces, HoldsSoFar}
 use Rattle.sd_parse.proofs.readable.PlacedKept.{programs_at, argument_holder, pass_kept}
 
 -- ---- lists of statements
@@ -78,12 +77,6 @@ module _ (Holds : Place → StatementTree → Type 0) (lines : HoldsInPlaces Hol
     by_kind true = refl
     by_kind false = refl
 
-  branch_begins : (kind : BlockKind) (b : Branch) (other : Block) → begins_task (branch_with kind b other) ≡ is_tasklet kind
-  branch_begins kind b other = by_kind (is_tasklet kind) where
-    by_kind : (test : Bool) → begins_task (if test then tasklet_branch b.line b.when (block_listed b.statements) other else branch b.line b.when (block_listed b.statements) other) ≡ test
-    by_kind true = refl
-    by_kind false = refl
-
   nested_every : (kind : BlockKind) (branches : List Branch) (other : List StatementTree) (place : Place) → AreBranches Holds kind branches place → AllFrom Holds (through branches place) other → AllFrom Holds place (nested kind branches other)
   nested_every kind [] other place all others = others
   nested_every kind (b ∷ branches) other place all others =
@@ -93,10 +86,6 @@ module _ (Holds : Place → StatementTree → Type 0) (lines : HoldsInPlaces Hol
   nested_behind kind [] other place = refl
   nested_behind kind (b ∷ branches) other place =
       branch_behind kind b (block_listed (nested kind branches other)) place.containers ∙ nested_behind kind branches other (over b.statements place)
-
-  nested_kinds : (kind : BlockKind) (branches : List Branch) (other : List StatementTree) → AllByRecursion (IsOfKind Holds kind) other → AllByRecursion (IsOfKind Holds kind) (nested kind branches other)
-  nested_kinds kind [] other others = others
-  nested_kinds kind (b ∷ branches) other others = (branch_begins kind b (block_listed (nested kind branches other)), tt)
 
   branches_more : (kind : BlockKind) (branches : List Branch) (b : Branch) (place : Place) → AreBranches Holds kind branches place → HasHead Holds (through branches place) kind b → AllFrom Holds (through branches place) b.statements →
       AreBranches Holds kind (branches ++ b ∷ []) place
@@ -122,26 +111,6 @@ module _ (Holds : Place → StatementTree → Type 0) (lines : HoldsInPlaces Hol
   body_every kind (set at name value) body place opens holds all = absurd opens
   body_every kind (set_at at name subscripts value) body place opens holds all = absurd opens
   body_every kind (tasklet_branch at when empty other) body place opens holds all = absurd opens
-
-  body_begins : (kind : BlockKind) (s : StatementTree) (body : Block) → Opens kind s → begins_task (with_body s body) ≡ false
-  body_begins kind (argument_array at name bits extents) body opens = absurd opens
-  body_begins kind (local_array at name extents bits) body opens = absurd opens
-  body_begins kind (local_stream at name bits size) body opens = absurd opens
-  body_begins kind (assign at name subscripts add value) body opens = absurd opens
-  body_begins kind (copy at to to_dimensions from from_dimensions) body opens = absurd opens
-  body_begins kind (reduce at lambda from to axis identity) body opens = absurd opens
-  body_begins kind (map_scope at parameters ranges empty) body opens = refl
-  body_begins kind (tasklet at empty) body opens = refl
-  body_begins kind (consume_scope at from size name element worker empty) body opens = absurd opens
-  body_begins kind (call at name arguments) body opens = absurd opens
-  body_begins kind (for_loop at name begin end step empty) body opens = refl
-  body_begins kind (while_loop at when empty) body opens = refl
-  body_begins kind (branch at when empty other) body opens = absurd opens
-  body_begins kind (input at connector memlet) body opens = absurd opens
-  body_begins kind (output at connector memlet) body opens = absurd opens
-  body_begins kind (set at name value) body opens = absurd opens
-  body_begins kind (set_at at name subscripts value) body opens = absurd opens
-  body_begins kind (tasklet_branch at when empty other) body opens = absurd opens
 
   -- what is in force behind a block with a statement of its own
   body_agrees : (kind : BlockKind) (s : StatementTree) (body : Block) (place : Place) (known cut : List (Name × Container)) → Opens kind s → Agrees known (past_all body (begins_by s place)).containers →
@@ -186,32 +155,14 @@ module _ (Holds : Place → StatementTree → Type 0) (lines : HoldsInPlaces Hol
       nested_every kind (earlier ++ b ∷ []) [] place (branches_more kind earlier b place good.0 good.1 all) tt
   finished_every arguments about kind line (else_block earlier) statements place opened good all right = nested_every kind earlier statements place good all
 
-  body_about : (about : BlockKind) → IsBody about → is_tasklet about ≡ false
-  body_about Top body = absurd body
-  body_about Program body = refl
-  body_about Scope body = refl
-  body_about Tasklet body = absurd body
-
-  finished_kinds : (about kind : BlockKind) (line : ℕ) (opener : Opener) (statements : List StatementTree) → IsOpenedIn about kind opener → AllByRecursion (IsOfKind Holds kind) statements →
-      AllByRecursion (IsOfKind Holds about) (finished_by kind line opener statements)
-  finished_kinds about kind line file statements opened kinds = tt
-  finished_kinds about kind line (function name) statements opened kinds = tt
-  finished_kinds about kind line (statement s) statements opened kinds = (body_begins kind s (block_listed statements) opened.1 ∙ sym (body_about about opened.0), tt)
-  finished_kinds about kind line (consumer at from size name element worker) statements opened kinds = (sym (body_about about opened.0), tt)
-  finished_kinds about kind line (if_block earlier when) statements opened kinds =
-      subst (λ kind'. AllByRecursion (IsOfKind Holds kind') (finished_by kind line (if_block earlier when) statements)) opened.1 (nested_kinds kind (earlier ++ record { line = line; when = when; statements = statements } ∷ []) [] tt)
-  finished_kinds about kind line (else_block earlier) statements opened kinds =
-      subst (λ kind'. AllByRecursion (IsOfKind Holds kind') (finished_by kind line (else_block earlier) statements)) opened.1 (nested_kinds kind earlier statements kinds)
-
   -- more statements at the end
-  many_more : (programs : List FunctionTree) (arguments : List StatementTree) (inner : OpenBlock) (outer : List OpenBlock) (more : List StatementTree) → AreNested inner outer → IsInner inner.kind → AllByRecursion (IsOfKind Holds inner.kind) more →
+  many_more : (programs : List FunctionTree) (arguments : List StatementTree) (inner : OpenBlock) (outer : List OpenBlock) (more : List StatementTree) → AreNested inner outer → IsInner inner.kind →
       AllFrom Holds (now programs arguments inner outer) more → AreGoodBlocks Holds programs arguments inner outer → AreGoodBlocks Holds programs arguments (record inner { statements = inner.statements ++ more }) outer
-  many_more programs arguments inner [] more shape inside kinds every good = absurd (subst IsInner shape.0 inside)
-  many_more programs arguments inner (about ∷ outer) more shape inside kinds every good = (
+  many_more programs arguments inner [] more shape inside every good = absurd (subst IsInner shape.0 inside)
+  many_more programs arguments inner (about ∷ outer) more shape inside every good = (
     record {
       opener = good.0.opener;
       all = from-joined Holds (place_at programs arguments inner (about ∷ outer)) inner.statements more good.0.all every;
-      kinds = all-joined (IsOfKind Holds inner.kind) inner.statements more good.0.kinds kinds;
       place = record { depth = good.0.place.depth; around = good.0.place.around };
     },
     good.1,
@@ -295,7 +246,6 @@ module _ (Holds : Place → StatementTree → Type 0) (lines : HoldsInPlaces Hol
       (λ list. AgreeOutside Holds programs' context.arguments list about rest) none shape'.0 agrees' outside' in
       record {
         blocks = many_more programs' context.arguments about rest (finished inner) shape'.1 (opened_about about.kind inner.kind inner.opener none shape'.0)
-            (finished_kinds about.kind inner.kind inner.line inner.opener inner.statements shape'.0 blocks'.0.kinds)
             (finished_every context.arguments about.kind inner.kind inner.line inner.opener inner.statements place shape'.0 blocks'.0.opener blocks'.0.all right) blocks'.1;
         agrees = subst (λ p. Agrees (names_outside inner context.names).containers p.containers) (sym (now-many programs' context.arguments about rest (finished inner))) ends.0;
         outside = outside-same Holds programs' context.arguments (names_outside inner context.names).containers about rest (about.statements ++ finished inner) ends.1;
@@ -390,7 +340,6 @@ module _ (Holds : Place → StatementTree → Type 0) (lines : HoldsInPlaces Hol
         record {
           opener = subst (λ opener. IsGoodOpener Holds inner.kind inner.line opener (now programs behind' about rest)) (sym is) tt;
           all = subst (AllFrom Holds (place_at programs behind' inner (about ∷ rest))) (sym none) tt;
-          kinds = good.0.kinds;
           place = record { depth = ap (λ p. p.depth) new ∙ sym (ap (λ p. p.depth) old) ∙ good.0.place.depth; around = ap (λ p. p.around) new ∙ sym (ap (λ p. p.around) old) ∙ good.0.place.around };
         },
         subst (AreGoodBlocks Holds programs behind' about) (sym alone) file',
@@ -599,7 +548,6 @@ module _ (Holds : Place → StatementTree → Type 0) (lines : HoldsInPlaces Hol
           record {
             opener = next_good left'.names (site_of left') inner.kind line branches head place within.0 within.1 at fit (passes left'.names (site_of left') head accepted') branches';
             all = tt;
-            kinds = tt;
             place = record {
               depth = ap (λ p. p.depth) (next_begins context.arguments inner.kind branches head place) ∙ through_depth branches place ∙ about_place.depth ∙ omega arith;
               around = ap (λ p. p.around) (next_begins context.arguments inner.kind branches head place) ∙ through_around branches place ∙ about_place.around ∙ ap around_of (sym within.1);

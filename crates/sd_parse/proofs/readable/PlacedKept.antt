@@ -31,14 +31,14 @@ use Rattle.sd_parse.specs.Placing.{memlet_of, kind_in, lambda_or_last, consumer_
 use Rattle.sd_program.specs.Names.{in_force as in_force'}
 use Rattle.sd_program.specs.Calls.{argument_counts}
 use Rattle.sd_program.specs.Place.{of_dimensions, Place, length_of, dimensions_of, behind, in_consume, EveryAt}
-use Rattle.sd_parse.proofs.readable.Heads.{IsBodyStatement, IsTaskletStatement, Fits, Opens, IsInner}
+use Rattle.sd_parse.proofs.readable.Heads.{Fits, Opens, IsInner}
 use Rattle.sd_parse.proofs.readable.Passing.{Passes, passes, neither, true_is_not_false, false_is_not_true}
 use Rattle.sd_parse.proofs.readable.Steps.{IsWellNested, IsAccepted}
 use Rattle.sd_parse.proofs.readable.Nesting.{inner_statement, placed_block, top_is_file, program_top}
 use Rattle.sd_parse.proofs.readable.Trees.{of_line}
 use Rattle.sd_parse.proofs.readable.Affine.{negated}
 use Rattle.sd_parse.proofs.readable.InForce.{Agrees, holder_of, none_agrees, listed-put, more_agrees, take-put, length-put}
-use Rattle.sd_parse.proofs.readable.Placed.{begins_task, around_of, over, through, begins_by, begins, place_at, now, SignaturesAgree, IsGoodOpener, IsOfKind, AreGoodBlocks, by_way, AgreeOutside, block_place, outside-same, one_more, now-more, outside-put, IsAt, HoldsInPlaces, AwaitsWell, HoldsSoFar}
+use Rattle.sd_parse.proofs.readable.Placed.{around_of, over, through, begins_by, begins, place_at, now, SignaturesAgree, IsGoodOpener, AreGoodBlocks, by_way, AgreeOutside, block_place, outside-same, one_more, now-more, outside-put, IsAt, HoldsInPlaces, AwaitsWell, HoldsSoFar}
 
 -- ---- programs above
 
@@ -141,69 +141,23 @@ argument_holder names (and_expression first rest) = local_holder names (and_expr
 
 -- ---- kinds
 
-body_kind : (s : StatementTree) → IsBodyStatement s → begins_task s ≡ false
-body_kind (argument_array at name bits extents) fit = absurd fit
-body_kind (local_array at name extents bits) fit = refl
-body_kind (local_stream at name bits size) fit = refl
-body_kind (assign at name subscripts add value) fit = refl
-body_kind (copy at to to_dimensions from from_dimensions) fit = refl
-body_kind (reduce at lambda from to axis identity) fit = absurd fit
-body_kind (map_scope at parameters ranges body) fit = refl
-body_kind (tasklet at body) fit = refl
-body_kind (consume_scope at from size name element worker body) fit = absurd fit
-body_kind (call at name arguments) fit = refl
-body_kind (for_loop at name begin end step body) fit = refl
-body_kind (while_loop at when body) fit = refl
-body_kind (branch at when body other) fit = refl
-body_kind (input at connector memlet) fit = absurd fit
-body_kind (output at connector memlet) fit = absurd fit
-body_kind (set at name value) fit = absurd fit
-body_kind (set_at at name subscripts value) fit = absurd fit
-body_kind (tasklet_branch at when body other) fit = absurd fit
-
-task_kind : (s : StatementTree) → IsTaskletStatement s → begins_task s ≡ true
-task_kind (argument_array at name bits extents) fit = absurd fit
-task_kind (local_array at name extents bits) fit = absurd fit
-task_kind (local_stream at name bits size) fit = absurd fit
-task_kind (assign at name subscripts add value) fit = absurd fit
-task_kind (copy at to to_dimensions from from_dimensions) fit = absurd fit
-task_kind (reduce at lambda from to axis identity) fit = absurd fit
-task_kind (map_scope at parameters ranges body) fit = absurd fit
-task_kind (tasklet at body) fit = absurd fit
-task_kind (consume_scope at from size name element worker body) fit = absurd fit
-task_kind (call at name arguments) fit = absurd fit
-task_kind (for_loop at name begin end step body) fit = absurd fit
-task_kind (while_loop at when body) fit = absurd fit
-task_kind (branch at when body other) fit = absurd fit
-task_kind (input at connector memlet) fit = absurd fit
-task_kind (output at connector memlet) fit = absurd fit
-task_kind (set at name value) fit = refl
-task_kind (set_at at name subscripts value) fit = refl
-task_kind (tasklet_branch at when body other) fit = refl
-
-line_kind : (kind : BlockKind) (s : StatementTree) → Fits kind (statement_head s) → begins_task s ≡ is_tasklet kind
-line_kind Top s fit = absurd fit
-line_kind Program s fit = body_kind s fit
-line_kind Scope s fit = body_kind s fit
-line_kind Tasklet s fit = task_kind s fit
-
-reduce_kind : (kind : BlockKind) (lambda : LambdaTree) (from to : Name) (axis identity : Option ℤ) → Fits kind (reduce_head lambda from to axis identity) → IsInner kind × (false ≡ is_tasklet kind)
+reduce_kind : (kind : BlockKind) (lambda : LambdaTree) (from to : Name) (axis identity : Option ℤ) → Fits kind (reduce_head lambda from to axis identity) → IsInner kind
 reduce_kind Top lambda from to axis identity fit = absurd fit
-reduce_kind Program lambda from to axis identity fit = (tt, refl)
-reduce_kind Scope lambda from to axis identity fit = (tt, refl)
+reduce_kind Program lambda from to axis identity fit = tt
+reduce_kind Scope lambda from to axis identity fit = tt
 reduce_kind Tasklet lambda from to axis identity fit = absurd fit
 
-input_kind : (kind : BlockKind) (connector : Name) (memlet : MemletTree) → Fits kind (input_head connector memlet) → IsInner kind × (true ≡ is_tasklet kind)
+input_kind : (kind : BlockKind) (connector : Name) (memlet : MemletTree) → Fits kind (input_head connector memlet) → IsInner kind
 input_kind Top connector memlet fit = absurd fit
 input_kind Program connector memlet fit = absurd fit
 input_kind Scope connector memlet fit = absurd fit
-input_kind Tasklet connector memlet fit = (tt, refl)
+input_kind Tasklet connector memlet fit = tt
 
-output_kind : (kind : BlockKind) (connector : Name) (memlet : MemletTree) → Fits kind (output_head connector memlet) → IsInner kind × (true ≡ is_tasklet kind)
+output_kind : (kind : BlockKind) (connector : Name) (memlet : MemletTree) → Fits kind (output_head connector memlet) → IsInner kind
 output_kind Top connector memlet fit = absurd fit
 output_kind Program connector memlet fit = absurd fit
 output_kind Scope connector memlet fit = absurd fit
-output_kind Tasklet connector memlet fit = (tt, refl)
+output_kind Tasklet connector memlet fit = tt
 
 consume_inside : (kind : BlockKind) (name element : Name) (worker : Option Name) → Fits kind (consume_head name element worker) → IsInner kind
 consume_inside Top name element worker fit = absurd fit
@@ -307,7 +261,7 @@ module _ (Holds : Place → StatementTree → Type 0) (lines : HoldsInPlaces Hol
 
   -- a line whose statement is complete
   leaf : (context : Context) (s : StatementTree) (names : Names) (counts : Counts) (written : List Name) (connects : Bool) → IsWellNested context → IsInner context.block.kind →
-      IsOfKind Holds context.block.kind s → EveryAt Holds (at_now context) s → Agrees names.containers (behind s (at_now context).containers) →
+      EveryAt Holds (at_now context) s → Agrees names.containers (behind s (at_now context).containers) →
       AgreeOutside Holds (above context) context.arguments names.containers context.block context.outer → SignaturesAgree names.meanings (above context) → HoldsSoFar Holds context →
       HoldsSoFar Holds (record context {
         names = names;
@@ -317,8 +271,8 @@ module _ (Holds : Place → StatementTree → Type 0) (lines : HoldsInPlaces Hol
         awaited = nothing;
         block = record context.block { statements = context.block.statements ++ s ∷ [] };
       })
-  leaf context s names counts written connects shape inside kind every agrees outside programs' good = record {
-    blocks = one_more Holds (above context) context.arguments context.block context.outer s shape inside kind every good.blocks;
+  leaf context s names counts written connects shape inside every agrees outside programs' good = record {
+    blocks = one_more Holds (above context) context.arguments context.block context.outer s shape inside every good.blocks;
     agrees = subst (λ place. Agrees names.containers place.containers) (sym (now-more Holds (above context) context.arguments context.block context.outer s)) agrees;
     outside = outside-same Holds (above context) context.arguments names.containers context.block context.outer (context.block.statements ++ s ∷ []) outside;
     programs = programs';
@@ -345,7 +299,7 @@ module _ (Holds : Place → StatementTree → Type 0) (lines : HoldsInPlaces Hol
         outer = context.block ∷ context.outer;
       })
   open_block context opener kind line deeper before names counts written connects good_opener depth around agrees outside programs' good = record {
-    blocks = (record { opener = good_opener; all = tt; kinds = tt; place = record { depth = depth; around = around } }, good.blocks);
+    blocks = (record { opener = good_opener; all = tt; place = record { depth = depth; around = around } }, good.blocks);
     agrees = agrees;
     outside = outside;
     programs = programs';
@@ -391,21 +345,21 @@ module _ (Holds : Place → StatementTree → Type 0) (lines : HoldsInPlaces Hol
   statement_kept context line is_tasklet' (argument_array at name bits extents) fit accepted' shape good = absurd (no_argument context.block.kind at name bits extents fit)
   statement_kept context line is_tasklet' (local_array at name extents bits) fit accepted' shape good =
       let new = new_container context (local_array at name extents bits) name refl accepted' in
-      leaf context (local_array at name extents bits) (with_container context.names name (Array (affine_list context.names extents))) _ _ _ shape (inner_statement context.block.kind (local_array at name extents bits) fit) (line_kind context.block.kind (local_array at name extents bits) fit)
+      leaf context (local_array at name extents bits) (with_container context.names name (Array (affine_list context.names extents))) _ _ _ shape (inner_statement context.block.kind (local_array at name extents bits) fit)
       (statement_holds context (local_array at name extents bits) fit accepted' shape good)
       (subst (λ holder. Agrees (put context.names.containers name (Array (affine_list context.names extents))) ((name, holder) ∷ (at_now context).containers)) (local_holder context.names extents) (more_agrees context.names.containers (at_now context).containers name (Array (affine_list context.names extents)) good.agrees))
       (outside-put Holds (above context) context.arguments context.names.containers context.block context.outer name (Array (affine_list context.names extents)) new good.outside) good.programs good
   statement_kept context line is_tasklet' (local_stream at name bits size) fit accepted' shape good =
       let new = new_container context (local_stream at name bits size) name refl accepted' in
-      leaf context (local_stream at name bits size) (with_container context.names name Stream) _ _ _ shape (inner_statement context.block.kind (local_stream at name bits size) fit) (line_kind context.block.kind (local_stream at name bits size) fit)
+      leaf context (local_stream at name bits size) (with_container context.names name Stream) _ _ _ shape (inner_statement context.block.kind (local_stream at name bits size) fit)
       (statement_holds context (local_stream at name bits size) fit accepted' shape good)
       (more_agrees context.names.containers (at_now context).containers name Stream good.agrees)
       (outside-put Holds (above context) context.arguments context.names.containers context.block context.outer name Stream new good.outside) good.programs good
   statement_kept context line is_tasklet' (assign at name subscripts add value) fit accepted' shape good =
-      leaf context (assign at name subscripts add value) context.names _ _ _ shape (inner_statement context.block.kind (assign at name subscripts add value) fit) (line_kind context.block.kind (assign at name subscripts add value) fit)
+      leaf context (assign at name subscripts add value) context.names _ _ _ shape (inner_statement context.block.kind (assign at name subscripts add value) fit)
       (statement_holds context (assign at name subscripts add value) fit accepted' shape good) good.agrees good.outside good.programs good
   statement_kept context line is_tasklet' (copy at to to_dimensions from from_dimensions) fit accepted' shape good =
-      leaf context (copy at to to_dimensions from from_dimensions) context.names _ _ _ shape (inner_statement context.block.kind (copy at to to_dimensions from from_dimensions) fit) (line_kind context.block.kind (copy at to to_dimensions from from_dimensions) fit)
+      leaf context (copy at to to_dimensions from from_dimensions) context.names _ _ _ shape (inner_statement context.block.kind (copy at to to_dimensions from from_dimensions) fit)
       (statement_holds context (copy at to to_dimensions from from_dimensions) fit accepted' shape good) good.agrees good.outside good.programs good
   statement_kept context line is_tasklet' (reduce at lambda from to axis identity) fit accepted' shape good = absurd (of_line context.block.kind (reduce at lambda from to axis identity) fit)
   statement_kept context line is_tasklet' (map_scope at parameters ranges body) fit accepted' shape good =
@@ -416,7 +370,7 @@ module _ (Holds : Place → StatementTree → Type 0) (lines : HoldsInPlaces Hol
       ((is_at_now context shape (inner_statement context.block.kind (tasklet at body) fit) good).depth ∙ omega arith) refl good.agrees (cut_whole context good) good.programs good
   statement_kept context line is_tasklet' (consume_scope at from size name element worker body) fit accepted' shape good = absurd (of_line context.block.kind (consume_scope at from size name element worker body) fit)
   statement_kept context line is_tasklet' (call at name arguments) fit accepted' shape good =
-      leaf context (call at name arguments) context.names _ _ _ shape (inner_statement context.block.kind (call at name arguments) fit) (line_kind context.block.kind (call at name arguments) fit)
+      leaf context (call at name arguments) context.names _ _ _ shape (inner_statement context.block.kind (call at name arguments) fit)
       (statement_holds context (call at name arguments) fit accepted' shape good) good.agrees good.outside good.programs good
   statement_kept context line is_tasklet' (for_loop at name begin end step body) fit accepted' shape good =
       open_block context (statement (for_loop at name begin end step body)) Program line 1 (in_force context.names) (with_meaning context.names name Variable) _ _ _ (lines.strip (at_now context) (for_loop at name begin end step body) (statement_holds context (for_loop at name begin end step body) fit accepted' shape good))
@@ -430,13 +384,13 @@ module _ (Holds : Place → StatementTree → Type 0) (lines : HoldsInPlaces Hol
   statement_kept context line is_tasklet' (input at connector memlet) fit accepted' shape good = absurd (of_line context.block.kind (input at connector memlet) fit)
   statement_kept context line is_tasklet' (output at connector memlet) fit accepted' shape good = absurd (of_line context.block.kind (output at connector memlet) fit)
   statement_kept context line is_tasklet' (set at name value) fit accepted' shape good =
-      leaf context (set at name value) (with_local context.names name) _ _ _ shape (inner_statement context.block.kind (set at name value) fit) (line_kind context.block.kind (set at name value) fit)
+      leaf context (set at name value) (with_local context.names name) _ _ _ shape (inner_statement context.block.kind (set at name value) fit)
       (statement_holds context (set at name value) fit accepted' shape good)
       (subst (λ list. Agrees list (at_now context).containers) (sym (local_containers context.names name)) good.agrees)
       (subst (λ list. AgreeOutside Holds (above context) context.arguments list context.block context.outer) (sym (local_containers context.names name)) good.outside)
       (local_meanings context.names name (above context) good.programs) good
   statement_kept context line is_tasklet' (set_at at name subscripts value) fit accepted' shape good =
-      leaf context (set_at at name subscripts value) context.names _ _ _ shape (inner_statement context.block.kind (set_at at name subscripts value) fit) (line_kind context.block.kind (set_at at name subscripts value) fit)
+      leaf context (set_at at name subscripts value) context.names _ _ _ shape (inner_statement context.block.kind (set_at at name subscripts value) fit)
       (statement_holds context (set_at at name subscripts value) fit accepted' shape good) good.agrees good.outside good.programs good
   statement_kept context line is_tasklet' (tasklet_branch at when body other) fit accepted' shape good =
       open_block context (if_block [] when) Tasklet line 0 (in_force context.names) context.names _ _ _ (tt, lines.moved_inside (at_now context) at line when (lines.strip (at_now context) (tasklet_branch at when body other) (statement_holds context (tasklet_branch at when body other) fit accepted' shape good)))
@@ -527,7 +481,7 @@ module _ (Holds : Place → StatementTree → Type 0) (lines : HoldsInPlaces Hol
       let file' : AreGoodBlocks Holds (above context) [] context.block [] = subst (AreGoodBlocks Holds (above context) context.arguments context.block) alone good.blocks in
       record {
         blocks = (
-          record { opener = tt; all = tt; kinds = tt; place = record { depth = sym (ap (λ n. n + 0) file'.1 ∙ omega arith); around = refl } },
+          record { opener = tt; all = tt; place = record { depth = sym (ap (λ n. n + 0) file'.1 ∙ omega arith); around = refl } },
           subst (AreGoodBlocks Holds (above context) [] context.block) (sym alone) file',
         );
         agrees = none_agrees [];
@@ -549,18 +503,18 @@ module _ (Holds : Place → StatementTree → Type 0) (lines : HoldsInPlaces Hol
   pass_kept context line is_tasklet' (statement_head s) fit due accepted' shape good = statement_kept context line is_tasklet' s fit accepted' shape good
   pass_kept context line is_tasklet' (reduce_head lambda from to axis identity) fit due accepted' shape good =
       let kind = reduce_kind context.block.kind lambda from to axis identity fit in
-      leaf context (reduce line (lambda_or_last (kind_in lambda)) from to axis identity) context.names _ _ _ shape kind.0 kind.1
-      (lines.reduced context.names (site_of context) (at_now context) line lambda from to axis identity (is_at_now context shape kind.0 good) fit (passes context.names (site_of context) (reduce_head lambda from to axis identity) accepted'))
+      leaf context (reduce line (lambda_or_last (kind_in lambda)) from to axis identity) context.names _ _ _ shape kind
+      (lines.reduced context.names (site_of context) (at_now context) line lambda from to axis identity (is_at_now context shape kind good) fit (passes context.names (site_of context) (reduce_head lambda from to axis identity) accepted'))
       good.agrees good.outside good.programs good
   pass_kept context line is_tasklet' (input_head connector memlet) fit due accepted' shape good =
       let kind = input_kind context.block.kind connector memlet fit in
-      leaf context (input line connector (memlet_of memlet)) (with_meaning context.names connector (Input (connector_dimensions context.names memlet))) _ _ _ shape kind.0 kind.1
-      (lines.put_in context.names (site_of context) (at_now context) line connector memlet (is_at_now context shape kind.0 good) fit (passes context.names (site_of context) (input_head connector memlet) accepted'))
+      leaf context (input line connector (memlet_of memlet)) (with_meaning context.names connector (Input (connector_dimensions context.names memlet))) _ _ _ shape kind
+      (lines.put_in context.names (site_of context) (at_now context) line connector memlet (is_at_now context shape kind good) fit (passes context.names (site_of context) (input_head connector memlet) accepted'))
       good.agrees good.outside (put_meaning context.names.meanings connector _ (above context) (λ none. none) good.programs) good
   pass_kept context line is_tasklet' (output_head connector memlet) fit due accepted' shape good =
       let kind = output_kind context.block.kind connector memlet fit in
-      leaf context (output line connector (memlet_of memlet)) (with_meaning context.names connector (Output (connector_dimensions context.names memlet))) _ _ _ shape kind.0 kind.1
-      (lines.put_out context.names (site_of context) (at_now context) line connector memlet (is_at_now context shape kind.0 good) fit (passes context.names (site_of context) (output_head connector memlet) accepted'))
+      leaf context (output line connector (memlet_of memlet)) (with_meaning context.names connector (Output (connector_dimensions context.names memlet))) _ _ _ shape kind
+      (lines.put_out context.names (site_of context) (at_now context) line connector memlet (is_at_now context shape kind good) fit (passes context.names (site_of context) (output_head connector memlet) accepted'))
       good.agrees good.outside (put_meaning context.names.meanings connector _ (above context) (λ none. none) good.programs) good
   pass_kept context line is_tasklet' (consume_decorator from size) fit due accepted' shape good =
       waiting context context.names _ context.parameters _ _ (consume_def line from size) context.symbols refl good.programs refl
