@@ -21,7 +21,9 @@ pub mod KnownFields
 pub mod ReadFields
 pub mod Containers
 pub mod States
+pub mod StatesKept
 pub mod Shallow
+pub mod ShallowKept
 pub mod OwnNames
 pub mod OwnNamesKept
 pub mod Tasks

@@ -13,8 +13,10 @@ use Rattle.sd_program.specs.Limits.{HasSteps, HasFewDimensions, HasFewParameters
 use Rattle.sd_program.specs.DeclaredNames.{container_names}
 use Rattle.sd_program.specs.WellFormed.{IsWellFormed}
 use Rattle.sd_parse.proofs.readable.Containers.{FewContainers, containers_are_kept}
-use Rattle.sd_parse.proofs.readable.States.{FewStates, states_are_kept}
-use Rattle.sd_parse.proofs.readable.Shallow.{FewCalls, calls_are_kept}
+use Rattle.sd_parse.proofs.readable.States.{FewStates}
+use Rattle.sd_parse.proofs.readable.StatesKept.{states_are_kept}
+use Rattle.sd_parse.proofs.readable.Shallow.{FewCalls}
+use Rattle.sd_parse.proofs.readable.ShallowKept.{calls_are_kept}
 use Rattle.sd_parse.proofs.readable.OwnNames.{OwnNames}
 use Rattle.sd_parse.proofs.readable.OwnNamesKept.{names_are_kept}
 use Rattle.sd_parse.proofs.readable.Tasks.{Tasks}
