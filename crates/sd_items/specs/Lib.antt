@@ -1,4 +1,7 @@
+pub mod Appended
 pub mod Counts
 pub mod NamesBehind
 pub mod Items
 pub mod Graphs
+pub mod GraphsOf
+pub mod Scopes

@@ -1,5 +1,16 @@
 //! The items of statements.
 //!
-//! `items_with` (`Items.antt`) puts the item of a statement before others; `items_of_body` are those of a
-//! scope's block. Calls are of graphs of earlier programs (`Graphs.antt`).
+//! `push_item` puts the item of a statement behind others, exactly as `items_with` (`Items.antt`) defines
+//! it; those of a scope's block are made on the way. Calls are of graphs of earlier programs (`Graphs`).
 #![tactic(auto)]
+
+mod call;
+mod count;
+mod declaration;
+mod graphs;
+mod item;
+mod simple;
+
+pub use count::{count_containers, count_variables};
+pub use graphs::Graphs;
+pub use item::{Numbers, push_item};

@@ -1,0 +1,7 @@
+pub mod CallLemmas
+pub mod GraphsLemmas
+pub mod ItemLemmas
+pub mod Kept
+pub mod ListLemmas
+pub mod SmallNames
+pub mod StatementLemmas

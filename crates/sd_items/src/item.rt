@@ -1,0 +1,362 @@
+ghost use Rattle.std.specs.Prelude.{◌≡◌, ◌+◌, ◌∷◌, length, map, string_bytes, IfOk, OnOk};
+ghost use Rattle.sd_lex.specs.TreeFold.{statement_of, block_of, dimensions_of};
+ghost use Rattle.sd_graph.specs.PlainTree as plain;
+ghost use Rattle.sd_graph.specs.TreeFold.{item_trees, kind_tree};
+ghost use Rattle.sd_program.specs.Bounds.{EachBound, EachDimension};
+ghost use Rattle.sd_program.specs.Declared.{containers_in, containers_in_all};
+ghost use Rattle.sd_program.specs.Every.{Every, EveryIn};
+ghost use Rattle.sd_program.specs.Small.{IsSmall};
+ghost use Rattle.sd_task.specs.SmallExtents.{HaveSmallExtents};
+ghost use Rattle.sd_task.specs.Table.{with_container};
+ghost use Rattle.sd_task.specs.TableOf.{table_of};
+ghost use Rattle.sd_tasklet_item.specs.Item.{inputs_of};
+ghost use Rattle.sd_items.specs.Appended.{appended};
+ghost use Rattle.sd_items.specs.Counts.{variables_in, variables_in_all};
+ghost use Rattle.sd_items.specs.Graphs.{graph_named};
+ghost use Rattle.sd_items.specs.GraphsOf.{graphs_of};
+ghost use Rattle.sd_items.specs.Items as definition;
+ghost use Rattle.sd_items.specs.Scopes as scopes;
+
+use crate::call::call;
+use crate::count::{containers_in, count_containers, count_names, count_variables, variables_in};
+use crate::declaration::{declare, own_containers};
+use crate::graphs::Graphs;
+use crate::simple::{copy, reduction};
+use sd_graph::{Item, ItemKind, Link, Memlet};
+use sd_lex::{Slot, Statement, has_connector};
+use sd_list::{NoMemory, Sequence, Text};
+use sd_range::{Dim, Subset};
+use sd_task::{Names, element_task, more, number, parameters};
+use sd_tasklet_item::{push_inputs, push_outputs, task_with, tasklet_item};
+use std::alloc::Global;
+
+/// The numbers of the container and of the variable that come next.
+#[derive(Clone, Copy)]
+pub struct Numbers {
+    pub container: u32,
+    pub variable: u32,
+}
+
+/// One more item.
+fn push(items: &mut Vec<Item>, line: u32, kind: ItemKind) -> Result<(), NoMemory>
+    ensures { OnOk result (item_trees items.new.items ≡ appended (item_trees items.old.items) (plain.and_item line (kind_tree kind) plain.no_item)) }
+{
+    items.push(Item { line, kind })?;
+    Ok(())
+}
+
+/// The link of the element of a consume scope that is one tasklet.
+fn taken_link(alloc: Global, element: &str, container: u32) -> Result<Link, NoMemory>
+    ensures { IfOk result (λ link. link ≡ definition.taken_link element.now container) }
+{
+    let zero = number(alloc, 0);
+    Ok(Link {
+        connector: Text::from(String::from_str(alloc, element)?),
+        memlet: Memlet {
+            container,
+            subset: Subset {
+                dims: Sequence::from(vec![in alloc; Dim::Index(zero)]?),
+            },
+            volume: 1,
+            resolution: None,
+        },
+    })
+}
+
+/// The inputs of the tasklet that a consume scope is: the first one is the element of this number.
+fn taking_inputs(
+    alloc: Global,
+    names: &Names,
+    element: &str,
+    container: u32,
+    body: &[Statement],
+) -> Result<Vec<Link>, NoMemory>
+    requires extents { HaveSmallExtents (table_of names.now).all }
+    requires small { EveryIn (EachBound IsSmall) (block_of body.now) }
+    ensures { IfOk result (λ links. links.items ≡ definition.taken_link element.now container ∷ inputs_of (table_of names.now) (block_of body.now)) }
+{
+    let mut links = vec![in alloc; taken_link(alloc, element, container)?]?;
+    push_inputs(alloc, names, &mut links, body)?;
+    Ok(links)
+}
+
+/// The tasklet that a consume scope is: it takes the element of this number.
+fn taking_task(
+    alloc: Global,
+    names: &Names,
+    element: &str,
+    container: u32,
+    body: &[Statement],
+) -> Result<ItemKind, NoMemory>
+    requires extents { HaveSmallExtents (table_of names.now).all }
+    requires small { EveryIn (EachBound IsSmall) (block_of body.now) }
+    ensures { IfOk result (λ kind. kind_tree kind ≡ scopes.taking_task (table_of names.now) element.now container (block_of body.now)) }
+{
+    let ins = taking_inputs(alloc, names, element, container, body)?;
+    let mut outs = Vec::new(alloc);
+    push_outputs(alloc, names, &mut outs, body)?;
+    task_with(alloc, names, ins, outs, body)
+}
+
+/// The items of a scope's block. What it declares is in force in it alone.
+#[cycle(items)]
+#[tactic(auto, using(crate::proofs::ItemLemmas::nothing_behind))]
+fn scope_items(
+    alloc: Global,
+    graphs: &Graphs,
+    names: &mut Names,
+    numbers: &mut Numbers,
+    body: &[Statement],
+) -> Result<Vec<Item>, NoMemory>
+    requires extents { HaveSmallExtents (table_of names.old).all }
+    requires small { EveryIn (EachBound IsSmall) (block_of body.now) }
+    ensures items { IfOk result (λ items. item_trees items.items ≡ definition.items_of_body (graph_named (graphs_of graphs.now)) (block_of body.now) (table_of names.old) numbers.old.container numbers.old.variable) }
+    ensures names { OnOk result (table_of names.new ≡ table_of names.old) }
+    ensures container { OnOk result (numbers.new.container ≡ numbers.old.container + containers_in_all (block_of body.now)) }
+    ensures variable { OnOk result (numbers.new.variable ≡ numbers.old.variable + variables_in_all (block_of body.now)) }
+{
+    let kept = names.containers.len();
+    let mut items = Vec::new(alloc);
+    for statement in body {
+        let container = numbers.container;
+        push_item(alloc, graphs, names, numbers, true, statement, &mut items)?;
+        declare(alloc, names, statement, container)?;
+    }
+    names.containers.truncate(kept);
+    Ok(items)
+}
+
+/// The item of a map. Its parameters are in force in its block alone.
+#[cycle(items)]
+fn map_scope(
+    alloc: Global,
+    graphs: &Graphs,
+    names: &mut Names,
+    numbers: &mut Numbers,
+    parameter_names: &[String],
+    ranges: &[Slot],
+    body: &[Statement],
+) -> Result<ItemKind, NoMemory>
+    requires extents { HaveSmallExtents (table_of names.old).all }
+    requires ranges { EachDimension IsSmall (dimensions_of ranges.now) }
+    requires small { EveryIn (EachBound IsSmall) (block_of body.now) }
+    ensures kind { IfOk result (λ kind. kind_tree kind ≡ scopes.map_kind (graph_named (graphs_of graphs.now)) (table_of names.old) (map string_bytes parameter_names.now) (dimensions_of ranges.now) (block_of body.now) numbers.old.container numbers.old.variable) }
+    ensures names { OnOk result (table_of names.new ≡ table_of names.old) }
+    ensures container { OnOk result (numbers.new.container ≡ numbers.old.container + containers_in_all (block_of body.now)) }
+    ensures variable { OnOk result (numbers.new.variable ≡ numbers.old.variable + (length (map string_bytes parameter_names.now) + variables_in_all (block_of body.now))) }
+{
+    let params = parameters(alloc, &names.variables, ranges, numbers.variable)?;
+    let private = own_containers(alloc, body, numbers.container)?;
+    let kept = names.variables.len();
+    names
+        .variables
+        .push_all(alloc, parameter_names, numbers.variable)?;
+    numbers.variable = more(numbers.variable, count_names(parameter_names)?)?;
+    let body = scope_items(alloc, graphs, names, numbers, body)?;
+    names.variables.truncate(kept);
+    Ok(ItemKind::Map {
+        params,
+        private,
+        body,
+    })
+}
+
+/// The items of the block of a consume scope that is no tasklet. Its element is in force in it alone.
+#[cycle(items)]
+fn element_items(
+    alloc: Global,
+    graphs: &Graphs,
+    names: &mut Names,
+    numbers: &mut Numbers,
+    element: &str,
+    container: u32,
+    body: &[Statement],
+) -> Result<Vec<Item>, NoMemory>
+    requires extents { HaveSmallExtents (table_of names.old).all }
+    requires small { EveryIn (EachBound IsSmall) (block_of body.now) }
+    ensures items { IfOk result (λ items. item_trees items.items ≡ definition.items_of_body (graph_named (graphs_of graphs.now)) (block_of body.now) (with_container element.now container (table_of names.old)) numbers.old.container numbers.old.variable) }
+    ensures names { OnOk result (table_of names.new ≡ table_of names.old) }
+    ensures container { OnOk result (numbers.new.container ≡ numbers.old.container + containers_in_all (block_of body.now)) }
+    ensures variable { OnOk result (numbers.new.variable ≡ numbers.old.variable + variables_in_all (block_of body.now)) }
+{
+    names
+        .containers
+        .push(String::from_str(alloc, element)?, container)?;
+    let items = scope_items(alloc, graphs, names, numbers, body)?;
+    names.containers.pop();
+    Ok(items)
+}
+
+/// The items of the block of a consume scope, whose element is the container of this number.
+#[cycle(items)]
+fn consumed_items(
+    alloc: Global,
+    graphs: &Graphs,
+    names: &mut Names,
+    numbers: &mut Numbers,
+    line: u32,
+    element: &str,
+    container: u32,
+    body: &[Statement],
+) -> Result<Vec<Item>, NoMemory>
+    requires extents { HaveSmallExtents (table_of names.old).all }
+    requires small { EveryIn (EachBound IsSmall) (block_of body.now) }
+    ensures items { IfOk result (λ items. item_trees items.items ≡ scopes.consumed_items (graph_named (graphs_of graphs.now)) (table_of names.old) line element.now container (block_of body.now) numbers.old.container numbers.old.variable) }
+    ensures names { OnOk result (table_of names.new ≡ table_of names.old) }
+    ensures container { OnOk result (numbers.new.container ≡ numbers.old.container + containers_in_all (block_of body.now)) }
+    ensures variable { OnOk result (numbers.new.variable ≡ numbers.old.variable + variables_in_all (block_of body.now)) }
+{
+    if !has_connector(body) {
+        return element_items(alloc, graphs, names, numbers, element, container, body);
+    }
+    numbers.container = more(numbers.container, count_containers(body)?)?;
+    numbers.variable = more(numbers.variable, count_variables(body)?)?;
+    let mut items = Vec::new(alloc);
+    let kind = taking_task(alloc, names, element, container, body)?;
+    push(&mut items, line, kind)?;
+    Ok(items)
+}
+
+/// The item of a consume scope.
+#[cycle(items)]
+fn consume_scope(
+    alloc: Global,
+    graphs: &Graphs,
+    names: &mut Names,
+    numbers: &mut Numbers,
+    line: u32,
+    stream: &str,
+    element: &str,
+    body: &[Statement],
+) -> Result<ItemKind, NoMemory>
+    requires extents { HaveSmallExtents (table_of names.old).all }
+    requires small { EveryIn (EachBound IsSmall) (block_of body.now) }
+    ensures kind { IfOk result (λ kind. kind_tree kind ≡ scopes.consume_kind (graph_named (graphs_of graphs.now)) (table_of names.old) line stream.now element.now (block_of body.now) numbers.old.container numbers.old.variable) }
+    ensures names { OnOk result (table_of names.new ≡ table_of names.old) }
+    ensures container { OnOk result (numbers.new.container ≡ numbers.old.container + (1 + containers_in_all (block_of body.now))) }
+    ensures variable { OnOk result (numbers.new.variable ≡ numbers.old.variable + variables_in_all (block_of body.now)) }
+{
+    let stream = names.containers.number_or(0, stream);
+    let container = numbers.container;
+    numbers.container = more(container, 1)?;
+    let private = own_containers(alloc, body, numbers.container)?;
+    let body = consumed_items(
+        alloc, graphs, names, numbers, line, element, container, body,
+    )?;
+    Ok(ItemKind::Consume {
+        stream,
+        element: container,
+        private,
+        body,
+    })
+}
+
+/// Adds the item of a statement, if it has one. The numbers are then those that come next behind it.
+#[cycle(items)]
+#[tactic(auto, using(crate::proofs::ItemLemmas::nothing_behind))]
+pub fn push_item(
+    alloc: Global,
+    graphs: &Graphs,
+    names: &mut Names,
+    numbers: &mut Numbers,
+    in_scope: bool,
+    statement: &Statement,
+    items: &mut Vec<Item>,
+) -> Result<(), NoMemory>
+    requires extents { HaveSmallExtents (table_of names.old).all }
+    requires small { Every (EachBound IsSmall) (statement_of statement.now) }
+    ensures items { OnOk result (item_trees items.new.items ≡ appended (item_trees items.old.items) (definition.items_with (graph_named (graphs_of graphs.now)) (statement_of statement.now) in_scope (table_of names.old) numbers.old.container numbers.old.variable plain.no_item)) }
+    ensures names { OnOk result (table_of names.new ≡ table_of names.old) }
+    ensures container { OnOk result (numbers.new.container ≡ numbers.old.container + containers_in (statement_of statement.now)) }
+    ensures variable { OnOk result (numbers.new.variable ≡ numbers.old.variable + variables_in (statement_of statement.now)) }
+{
+    match statement {
+        Statement::Assign {
+            line,
+            name,
+            at,
+            add,
+            value,
+        } => {
+            let kind = element_task(alloc, names, in_scope, name.as_str(), at, *add, value)?;
+            push(items, *line, kind)
+        }
+        Statement::Copy {
+            line,
+            to,
+            to_dims,
+            from,
+            from_dims,
+        } => {
+            let kind = copy(alloc, names, to.as_str(), to_dims, from.as_str(), from_dims)?;
+            push(items, *line, kind)
+        }
+        Statement::Reduce {
+            line,
+            lambda,
+            from,
+            to,
+            axis,
+            identity,
+        } => {
+            let (from, to) = (from.as_str(), to.as_str());
+            let kind = reduction(alloc, names, *lambda, from, to, *axis, *identity)?;
+            push(items, *line, kind)
+        }
+        Statement::Map {
+            line,
+            params,
+            ranges,
+            body,
+        } => {
+            let kind = map_scope(alloc, graphs, names, numbers, params, ranges, body)?;
+            push(items, *line, kind)
+        }
+        Statement::Tasklet { line, body } => {
+            push(items, *line, tasklet_item(alloc, names, body)?)
+        }
+        Statement::Consume {
+            line,
+            stream,
+            element,
+            body,
+            ..
+        } => {
+            let (stream, element) = (stream.as_str(), element.as_str());
+            let kind = consume_scope(alloc, graphs, names, numbers, *line, stream, element, body)?;
+            push(items, *line, kind)
+        }
+        Statement::Call {
+            line,
+            name,
+            arguments,
+        } => {
+            let kind = call(alloc, graphs, names, name.as_str(), arguments)?;
+            push(items, *line, kind)
+        }
+        Statement::Argument { .. }
+        | Statement::Local { .. }
+        | Statement::Stream { .. }
+        | Statement::For { .. }
+        | Statement::While { .. }
+        | Statement::If { .. }
+        | Statement::Input { .. }
+        | Statement::Output { .. }
+        | Statement::Set { .. }
+        | Statement::SetAt { .. }
+        | Statement::When { .. } => skip(numbers, statement),
+    }
+}
+
+/// Behind a statement that has no item.
+fn skip(numbers: &mut Numbers, statement: &Statement) -> Result<(), NoMemory>
+    ensures container { OnOk result (numbers.new.container ≡ numbers.old.container + containers_in (statement_of statement.now)) }
+    ensures variable { OnOk result (numbers.new.variable ≡ numbers.old.variable + variables_in (statement_of statement.now)) }
+{
+    numbers.container = more(numbers.container, containers_in(statement)?)?;
+    numbers.variable = more(numbers.variable, variables_in(statement)?)?;
+    Ok(())
+}
+
+#[cfg(test)]
+mod tests;
