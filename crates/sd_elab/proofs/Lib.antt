@@ -1,4 +1,8 @@
+pub mod BlockLemmas
 pub mod BuildingLemmas
 pub mod CountLemmas
+pub mod FunctionLemmas
+pub mod StandingLemmas
+pub mod StatementTrees
 pub mod ThreadedLemmas
 pub mod examples

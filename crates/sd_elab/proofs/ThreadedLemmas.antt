@@ -8,10 +8,10 @@ use Rattle.sd_program.specs.Names.{Name}
 use Rattle.sd_program.specs.Declared.{states_in, states_in_all}
 use Rattle.sd_task.specs.Ranges.{affine_or}
 use Rattle.sd_task.specs.ElementCode.{guard_of, below}
-use Rattle.sd_elab.specs.Exits.{plainly, setting, if_holds, back_to, stepped_on}
+use Rattle.sd_elab.specs.Exits.{plainly, setting, back_to, stepped_on}
 use Rattle.sd_elab.specs.Standing.{Standing, behind, behind_all, state_behind, with_loop_variable}
 use Rattle.sd_elab.specs.States.{chained, chained_all, chained_other}
-use Rattle.sd_elab.specs.Threaded.{Threaded, closed, threaded, threaded_all, threaded_other}
+use Rattle.sd_elab.specs.Threaded.{Threaded, closed, to_block, join_of, in_else, else_begun, threaded, threaded_all}
 
 -- what was made so far, then one member more and the rest
 grouped : (before : List PlainState) (state : PlainState) (rest : List PlainState) → (before ++ state ∷ []) ++ rest ≡ before ++ state ∷ rest
@@ -25,14 +25,14 @@ module _ (graphs : Name → GraphTree) where
     one_chained (local_array line name extents bits) at t rest = refl
     one_chained (local_stream line name bits size) at t rest = refl
     one_chained (branch line when body other) at t rest =
-        let exits : List ExitTree = if_holds (guard_of at.table line when) at.state ∷ plainly (at.state + 1 + states_in_all body) ∷ [] in
+        let exits : List ExitTree = to_block (guard_of at.table line when) body at in
         other_chained other (behind_all body (state_behind at)) (threaded_all graphs body (state_behind at) (closed t exits))
         (t.finished ++ (t.items, exits) ∷ []) (λ join. chained_all graphs body (state_behind at) no_item (plainly join ∷ [])) rest
         (λ join. all_chained body (state_behind at) (closed t exits) (plainly join ∷ []))
         ∙ grouped t.finished (t.items, exits) _
     one_chained (while_loop line when body) at t rest =
         let first : List ExitTree = plainly at.state ∷ [] in
-        let second : List ExitTree = if_holds (guard_of at.table line when) (at.state + 1) ∷ plainly (at.state + 1 + 1 + states_in_all body) ∷ [] in
+        let second : List ExitTree = to_block (guard_of at.table line when) body (state_behind at) in
         let back : List ExitTree = back_to at.state [] ∷ [] in
         ap (λ states. states ++ rest no_item) (all_chained body (state_behind (state_behind at)) (closed (closed t first) second) back)
         ∙ append_assoc ((t.finished ++ (t.items, first) ∷ []) ++ (no_item, second) ∷ []) (chained_all graphs body (state_behind (state_behind at)) no_item back) (rest no_item)
@@ -41,7 +41,7 @@ module _ (graphs : Name → GraphTree) where
     one_chained (for_loop line name begin end step body) at t rest =
         let inside : Standing = with_loop_variable name (state_behind (state_behind at)) in
         let first : List ExitTree = setting at.state at.variable (affine_or affine_zero at.table.variables begin) ∷ [] in
-        let second : List ExitTree = if_holds (below inside.table line name end) (at.state + 1) ∷ plainly (at.state + 1 + 1 + states_in_all body) ∷ [] in
+        let second : List ExitTree = to_block (below inside.table line name end) body (state_behind at) in
         let back : List ExitTree = back_to at.state ((at.variable, stepped_on at.variable step) ∷ []) ∷ [] in
         ap (λ states. states ++ rest no_item) (all_chained body inside (closed (closed t first) second) back)
         ∙ append_assoc ((t.finished ++ (t.items, first) ∷ []) ++ (no_item, second) ∷ []) (chained_all graphs body inside no_item back) (rest no_item)
@@ -69,7 +69,7 @@ module _ (graphs : Name → GraphTree) where
 
     other_chained : (other : Block) (at : Standing) (t : Threaded) (before : List PlainState) (first : ℕ → List PlainState) (rest : ItemTrees → List PlainState) →
         ((join : ℕ) → t.finished ++ (t.items, plainly join ∷ []) ∷ [] ≡ before ++ first join) →
-        (threaded_other graphs other at t).finished ++ rest (threaded_other graphs other at t).items ≡ before ++ chained_other graphs other at first rest
+        (closed (threaded_all graphs other (in_else other at) (else_begun other at t)) (plainly (join_of other at) ∷ [])).finished ++ rest no_item ≡ before ++ chained_other graphs other at first rest
     other_chained no_statement at t before first rest same =
         ap (λ states. states ++ rest no_item) (same at.state) ∙ append_assoc before (first at.state) (rest no_item)
     other_chained (and_statement statement others) at t before first rest same =

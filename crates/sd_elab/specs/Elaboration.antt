@@ -2,38 +2,48 @@
 use Rattle.std.specs.Prelude.{ℕ, ◌+◌, List, [], ◌∷◌, length}
 use Rattle.sd_lex.specs.PlainTree.{argument_array, Block, no_statement, and_statement, FunctionTree, ProgramTree}
 use Rattle.sd_graph.specs.PlainTree.{no_item, GraphTree, graph}
-use Rattle.sd_graph.specs.TreeFold.{states_listed}
+use Rattle.sd_graph.specs.TreeFold.{PlainState, states_listed}
 use Rattle.sd_program.specs.Names.{Name, Named}
 use Rattle.sd_items.specs.Graphs.{no_graph, graph_named}
-use Rattle.sd_task.specs.Table.{Table, with_container, with_variables}
+use Rattle.sd_task.specs.Names.{with_numbered}
+use Rattle.sd_task.specs.Table.{Table}
 use Rattle.sd_program.specs.Declared.{containers_in_all}
-use Rattle.sd_containers.specs.Declarations.{variable_names_all, Containers, containers_of_function}
+use Rattle.sd_containers.specs.Declarations.{variable_names_all, containers_of_function}
 use Rattle.sd_elab.specs.Standing.{Standing}
 use Rattle.sd_elab.specs.States.{chained_all}
 
 -- the arguments are in force, the first with this number
-abbrev pub table_of_arguments : Block → (next : ℕ) → Table → Table
-table_of_arguments no_statement next table = table
-table_of_arguments (and_statement (argument_array line name bits extents) rest) next table = table_of_arguments rest (next + 1) (with_container name next table)
-table_of_arguments (and_statement statement rest) next table = table_of_arguments rest next table
+abbrev pub arguments_in_force : Block → (next : ℕ) → Named ℕ → Named ℕ
+arguments_in_force no_statement next known = known
+arguments_in_force (and_statement (argument_array line name bits extents) rest) next known = arguments_in_force rest (next + 1) ((name, next) ∷ known)
+arguments_in_force (and_statement statement rest) next known = arguments_in_force rest next known
 
--- the size symbols are in force, as the first variables
-abbrev pub table_of_symbols : (symbols : List Name) → Containers → Table
-table_of_symbols symbols containers = with_variables symbols 0 (record { containers = []; variables = []; all = containers })
+-- what is in force where the block of a program begins: its arguments as the first containers, and the size symbols as the first variables
+abbrev pub table_of_function : (symbols : List Name) → FunctionTree → Table
+table_of_function symbols function = record {
+  containers = arguments_in_force function.arguments 0 [];
+  variables = with_numbered symbols 0 [];
+  all = containers_of_function symbols function;
+}
 
--- the graph of one program, where calls are of these graphs: state 0 is empty, and the last state has no exit
+-- where the block of a program begins: behind state 0, which is empty
+abbrev pub start_of : (symbols : List Name) → FunctionTree → Standing
+start_of symbols function = record {
+  state = 1;
+  container = containers_in_all function.arguments;
+  variable = length symbols;
+  table = table_of_function symbols function;
+}
+
+-- the states of a program, where calls are of these graphs; the last one has no exit
+abbrev pub states_of_function : (symbols : List Name) → (Name → GraphTree) → FunctionTree → List PlainState
+states_of_function symbols graphs function = chained_all graphs function.body (start_of symbols function) no_item []
+
+-- the graph of one program
 abbrev pub function_graph : (symbols : List Name) → (Name → GraphTree) → FunctionTree → GraphTree
 function_graph symbols graphs function =
-    let containers : Containers = containers_of_function symbols function in
-    let arguments : ℕ = containers_in_all function.arguments in
-    let start : Standing = record {
-      state = 1;
-      container = arguments;
-      variable = length symbols;
-      table = table_of_arguments function.arguments 0 (table_of_symbols symbols containers);
-    } in
-    graph function.name containers arguments (variable_names_all function.body symbols) (length symbols)
-    (states_listed (chained_all graphs function.body start no_item []))
+    graph function.name (containers_of_function symbols function) (containers_in_all function.arguments) (variable_names_all function.body symbols) (length symbols)
+    (states_listed (states_of_function symbols graphs function))
 
 -- the graphs of programs, each of which calls those before it; the latest first
 abbrev pub graphs_with : (symbols : List Name) → Named GraphTree → List FunctionTree → Named GraphTree

@@ -2,10 +2,10 @@
 use Rattle.std.specs.Prelude.{ℕ, ◌+◌, List, [], ◌∷◌, ◌++◌, false}
 use Rattle.sd_lex.specs.PlainTree.{StatementTree, argument_array, local_array, local_stream, for_loop, while_loop, branch, Block, no_statement, and_statement}
 use Rattle.sd_range.specs.Arithmetic.{affine_zero}
-use Rattle.sd_graph.specs.PlainTree.{ItemTrees, no_item, ExitTree, GraphTree}
+use Rattle.sd_graph.specs.PlainTree.{ItemTrees, no_item, GuardTree, ExitTree, GraphTree}
 use Rattle.sd_graph.specs.TreeFold.{PlainState}
 use Rattle.sd_program.specs.Names.{Name}
-use Rattle.sd_program.specs.Declared.{states_in, states_in_all}
+use Rattle.sd_program.specs.Declared.{states_in_all}
 use Rattle.sd_task.specs.Ranges.{affine_or}
 use Rattle.sd_task.specs.ElementCode.{guard_of, below}
 use Rattle.sd_items.specs.Items.{items_with}
@@ -24,6 +24,24 @@ closed t exits = record { finished = t.finished ++ (t.items, exits) ∷ []; item
 abbrev pub holding : Threaded → ItemTrees → Threaded
 holding t items = record { finished = t.finished; items = items }
 
+-- to a block where a condition holds, else behind the block
+abbrev pub to_block : GuardTree → Block → Standing → List ExitTree
+to_block guard body at = if_holds guard at.state ∷ plainly (at.state + 1 + states_in_all body) ∷ []
+
+-- behind the first block of an `if`: the number of the state behind both
+abbrev pub join_of : (other : Block) → Standing → ℕ
+join_of no_statement at = at.state
+join_of (and_statement first rest) at = at.state + 1 + states_in_all (and_statement first rest)
+
+-- the first block goes on to the state behind both where there is an `else`, which begins in a state of its own
+abbrev pub else_begun : (other : Block) → Standing → Threaded → Threaded
+else_begun no_statement at t = t
+else_begun (and_statement first rest) at t = closed t (plainly (join_of (and_statement first rest) at) ∷ [])
+
+abbrev pub in_else : (other : Block) → Standing → Standing
+in_else no_statement at = at
+in_else (and_statement first rest) at = state_behind at
+
 module _ (graphs : Name → GraphTree) where
   abbrev mutual
     pub threaded : StatementTree → Standing → Threaded → Threaded
@@ -31,31 +49,23 @@ module _ (graphs : Name → GraphTree) where
     threaded (local_array line name extents bits) at t = t
     threaded (local_stream line name bits size) at t = t
     threaded (branch line when body other) at t =
-        threaded_other other (behind_all body (state_behind at))
-        (threaded_all body (state_behind at) (closed t (if_holds (guard_of at.table line when) at.state ∷ plainly (at.state + 1 + states_in_all body) ∷ [])))
+        let behind_body : Standing = behind_all body (state_behind at) in
+        let body_made : Threaded = threaded_all body (state_behind at) (closed t (to_block (guard_of at.table line when) body at)) in
+        closed (threaded_all other (in_else other behind_body) (else_begun other behind_body body_made)) (plainly (join_of other behind_body) ∷ [])
     threaded (while_loop line when body) at t =
         closed
         (threaded_all body (state_behind (state_behind at))
-        (closed (closed t (plainly at.state ∷ [])) (if_holds (guard_of at.table line when) (at.state + 1) ∷ plainly (at.state + 1 + 1 + states_in_all body) ∷ [])))
+        (closed (closed t (plainly at.state ∷ [])) (to_block (guard_of at.table line when) body (state_behind at))))
         (back_to at.state [] ∷ [])
     threaded (for_loop line name begin end step body) at t =
-        let inside : Standing = with_loop_variable name (state_behind (state_behind at)) in
+        let inside : Standing = with_loop_variable name (state_behind at) in
         closed
-        (threaded_all body inside
+        (threaded_all body (state_behind inside)
         (closed (closed t (setting at.state at.variable (affine_or affine_zero at.table.variables begin) ∷ []))
-        (if_holds (below inside.table line name end) (at.state + 1) ∷ plainly (at.state + 1 + 1 + states_in_all body) ∷ [])))
+        (to_block (below inside.table line name end) body inside)))
         (back_to at.state ((at.variable, stepped_on at.variable step) ∷ []) ∷ [])
     threaded statement at t = holding (closed t (plainly at.state ∷ [])) (items_with graphs statement false at.table at.container at.variable no_item)
 
     pub threaded_all : Block → Standing → Threaded → Threaded
     threaded_all no_statement at t = t
     threaded_all (and_statement first rest) at t = threaded_all rest (behind first at) (threaded first at t)
-
-    -- behind the first block of an `if`
-    pub threaded_other : Block → Standing → Threaded → Threaded
-    threaded_other no_statement at t = closed t (plainly at.state ∷ [])
-    threaded_other (and_statement statement others) at t =
-        let join : ℕ = at.state + 1 + (states_in statement + states_in_all others) in
-        closed
-        (threaded_all others (behind statement (state_behind at)) (threaded statement (state_behind at) (closed t (plainly join ∷ []))))
-        (plainly join ∷ [])

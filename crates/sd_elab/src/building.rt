@@ -1,23 +1,26 @@
-ghost use Rattle.std.specs.Prelude.{◌≡◌, ◌+◌, [], ◌∷◌, map, option_map, IfOk, OnOk};
-ghost use Rattle.sd_graph.specs.PlainTree.{and_item, no_item};
-ghost use Rattle.sd_graph.specs.TreeFold.{exit_tree, guard_tree, kind_tree};
-ghost use Rattle.sd_graph.specs.TreeParts.{with_item};
-ghost use Rattle.sd_lex.specs.TreeFold.{block_of, expression_of};
-ghost use Rattle.sd_program.specs.Bounds.{EachSubscript, IfWritten};
-ghost use Rattle.sd_program.specs.Declared.{states_in_all};
+ghost use Rattle.std.specs.Prelude.{◌≡◌, [], ◌∷◌, map, option_map, false, IfOk, OnOk};
+ghost use Rattle.sd_graph.specs.PlainTree.{no_item};
+ghost use Rattle.sd_graph.specs.TreeFold.{exit_tree, guard_tree};
+ghost use Rattle.sd_lex.specs.TreeFold.{block_of, expression_of, statement_of};
+ghost use Rattle.sd_program.specs.Bounds.{EachBound, EachSubscript, IfWritten};
+ghost use Rattle.sd_program.specs.Every.{Every};
 ghost use Rattle.sd_program.specs.Small.{IsSmall};
 ghost use Rattle.sd_range.specs.Arithmetic.{affine_zero};
-ghost use Rattle.sd_elab.specs.BuildingOf.{threaded_of, standing_of, declared, without_loop_variable};
+ghost use Rattle.sd_items.specs.Graphs.{graph_named};
+ghost use Rattle.sd_items.specs.GraphsOf.{graphs_of};
+ghost use Rattle.sd_items.specs.Items.{items_with};
 ghost use Rattle.sd_task.specs.ElementCode.{guard_of, below};
-ghost use Rattle.sd_elab.specs.Exits as exits;
 ghost use Rattle.sd_task.specs.Ranges.{affine_or};
-ghost use Rattle.sd_elab.specs.Standing.{state_behind, with_loop_variable};
 ghost use Rattle.sd_task.specs.TableOf.{table_of};
-ghost use Rattle.sd_elab.specs.Threaded.{closed, holding};
+ghost use Rattle.sd_elab.specs.BuildingOf.{threaded_of, standing_of, HasSmallContainers, argument_passed, declared, item_behind, without_loop_variable};
+ghost use Rattle.sd_elab.specs.Exits as exits;
+ghost use Rattle.sd_elab.specs.Standing.{state_behind, with_loop_variable};
+ghost use Rattle.sd_elab.specs.Threaded.{closed, holding, to_block, join_of, in_else, else_begun};
 
 use crate::count::states_in_all;
 use crate::exit::{back_to, if_holds, plainly, setting, step_back};
-use sd_graph::{Exit, Guard, Item, ItemKind, State};
+use sd_graph::{Exit, Guard, Item, State};
+use sd_items::{Graphs, Numbers, push_item};
 use sd_lex::{Expr, Statement};
 use sd_list::NoMemory;
 use sd_task::{Names, affine_or, guard, guard_below, more, number};
@@ -25,14 +28,13 @@ use std::alloc::Global;
 
 /// The states that are finished, and the items of the current one.
 ///
-/// `state`, `container` and `variable` are the numbers that come next.
+/// `state` and `numbers` are the numbers that come next.
 #[derive(Drop)]
 pub(crate) struct Building {
-    finished: Vec<State>,
-    items: Vec<Item>,
+    pub(crate) finished: Vec<State>,
+    pub(crate) items: Vec<Item>,
     pub(crate) state: u32,
-    pub(crate) container: u32,
-    pub(crate) variable: u32,
+    pub(crate) numbers: Numbers,
     pub(crate) names: Names,
 }
 
@@ -64,29 +66,38 @@ impl Building {
         self.close(alloc, vec![in alloc; back_to(alloc, to)]?)
     }
 
-    /// One more item of the current state.
-    #[tactic(auto, using(crate::proofs::BuildingLemmas::items_pushed))]
-    pub(crate) fn push_item(&mut self, line: u32, kind: ItemKind) -> Result<(), NoMemory>
-        ensures threaded { OnOk result (threaded_of self.new ≡ holding (threaded_of self.old) (with_item (threaded_of self.old).items line (kind_tree kind))) }
-        ensures standing { OnOk result (standing_of self.new ≡ standing_of self.old) }
-    {
-        self.items.push(Item { line, kind })?;
-        Ok(())
-    }
-
-    /// A new state with one item.
-    pub(crate) fn push_state(
+    /// A new state with the item of a statement.
+    pub(crate) fn push_statement(
         &mut self,
         alloc: Global,
-        line: u32,
-        kind: ItemKind,
+        graphs: &Graphs,
+        statement: &Statement,
     ) -> Result<(), NoMemory>
-        ensures threaded { OnOk result (threaded_of self.new ≡ holding (closed (threaded_of self.old) (exits.plainly (standing_of self.old).state ∷ [])) (and_item line (kind_tree kind) no_item)) }
-        ensures standing { OnOk result (standing_of self.new ≡ state_behind (standing_of self.old)) }
+        requires extents { HasSmallContainers self.old }
+        requires small { Every (EachBound IsSmall) (statement_of statement.now) }
+        ensures threaded { OnOk result (threaded_of self.new ≡ holding (closed (threaded_of self.old) (exits.plainly (standing_of self.old).state ∷ [])) (items_with (graph_named (graphs_of graphs.now)) (statement_of statement.now) false (standing_of self.old).table (standing_of self.old).container (standing_of self.old).variable no_item)) }
+        ensures standing { OnOk result (standing_of self.new ≡ item_behind (statement_of statement.now) (standing_of self.old)) }
     {
         let next = self.state;
         self.close_to(alloc, next)?;
-        self.push_item(line, kind)
+        push_item(
+            alloc,
+            graphs,
+            &mut self.names,
+            &mut self.numbers,
+            false,
+            statement,
+            &mut self.items,
+        )
+    }
+
+    /// The container of an argument, which is in force before the block begins.
+    pub(crate) fn pass_argument(&mut self) -> Result<(), NoMemory>
+        ensures threaded { OnOk result (threaded_of self.new ≡ threaded_of self.old) }
+        ensures standing { OnOk result (standing_of self.new ≡ argument_passed (standing_of self.old)) }
+    {
+        self.numbers.container = more(self.numbers.container, 1)?;
+        Ok(())
     }
 
     /// A name that is declared; its container is the next one.
@@ -96,45 +107,35 @@ impl Building {
     {
         self.names
             .containers
-            .push(String::from_str(alloc, name)?, self.container)?;
-        self.container = more(self.container, 1)?;
+            .push(String::from_str(alloc, name)?, self.numbers.container)?;
+        self.numbers.container = more(self.numbers.container, 1)?;
         Ok(())
     }
 
-    /// A loop variable; it is the next one.
-    pub(crate) fn push_variable(&mut self, alloc: Global, name: &str) -> Result<(), NoMemory>
-        ensures threaded { OnOk result (threaded_of self.new ≡ threaded_of self.old) }
-        ensures standing { OnOk result (standing_of self.new ≡ with_loop_variable name.now (standing_of self.old)) }
-    {
-        self.names
-            .variables
-            .push(String::from_str(alloc, name)?, self.variable)?;
-        self.variable = more(self.variable, 1)?;
-        Ok(())
-    }
-
-    /// The newest variable is no longer in force.
-    pub(crate) fn pop_variable(&mut self)
-        ensures threaded { threaded_of self.new ≡ threaded_of self.old }
-        ensures standing { standing_of self.new ≡ without_loop_variable (standing_of self.old) }
-    {
-        self.names.variables.pop();
-    }
-
-    /// The last state of a block goes on behind the `else` that follows; the number of that state.
+    /// The last state of a block goes on behind the `else` that follows, if one does; the number
+    /// of the state behind both.
+    #[tactic(auto, using(crate::proofs::BuildingLemmas::some_join, crate::proofs::BuildingLemmas::some_begun, crate::proofs::BuildingLemmas::some_else, crate::proofs::BuildingLemmas::no_join, crate::proofs::BuildingLemmas::none_begun, crate::proofs::BuildingLemmas::no_else))]
     pub(crate) fn else_to(&mut self, alloc: Global, other: &[Statement]) -> Result<u32, NoMemory>
-        ensures join { IfOk result (λ join. join ≡ (standing_of self.old).state + 1 + states_in_all (block_of other.now)) }
-        ensures threaded { OnOk result (threaded_of self.new ≡ closed (threaded_of self.old) (exits.plainly ((standing_of self.old).state + 1 + states_in_all (block_of other.now)) ∷ [])) }
-        ensures standing { OnOk result (standing_of self.new ≡ state_behind (standing_of self.old)) }
+        requires { HasSmallContainers self.old }
+        ensures join { IfOk result (λ join. join ≡ join_of (block_of other.now) (standing_of self.old)) }
+        ensures threaded { OnOk result (threaded_of self.new ≡ else_begun (block_of other.now) (standing_of self.old) (threaded_of self.old)) }
+        ensures standing { OnOk result (standing_of self.new ≡ in_else (block_of other.now) (standing_of self.old)) }
+        ensures extents { OnOk result (HasSmallContainers self.new) }
     {
+        if other.is_empty() {
+            return Ok(self.state);
+        }
         let join = more(more(self.state, 1)?, states_in_all(other)?)?;
         self.close_to(alloc, join)?;
         Ok(join)
     }
 
     /// The current state goes on to a block where a condition holds, else behind the block.
+    ///
+    /// The states of the block are counted for that, so those of a block are counted once for each
+    /// loop and branch about it. A program has at most 256 states.
     fn close_if(&mut self, alloc: Global, guard: Guard, body: &[Statement]) -> Result<(), NoMemory>
-        ensures threaded { OnOk result (threaded_of self.new ≡ closed (threaded_of self.old) (exits.if_holds (guard_tree guard) (standing_of self.old).state ∷ exits.plainly ((standing_of self.old).state + 1 + states_in_all (block_of body.now)) ∷ [])) }
+        ensures threaded { OnOk result (threaded_of self.new ≡ closed (threaded_of self.old) (to_block (guard_tree guard) (block_of body.now) (standing_of self.old))) }
         ensures standing { OnOk result (standing_of self.new ≡ state_behind (standing_of self.old)) }
     {
         let first = self.state;
@@ -154,7 +155,7 @@ impl Building {
         body: &[Statement],
     ) -> Result<(), NoMemory>
         requires { EachSubscript IsSmall (expression_of when.now) }
-        ensures threaded { OnOk result (threaded_of self.new ≡ closed (threaded_of self.old) (exits.if_holds (guard_of (table_of self.old.names) line (expression_of when.now)) (standing_of self.old).state ∷ exits.plainly ((standing_of self.old).state + 1 + states_in_all (block_of body.now)) ∷ [])) }
+        ensures threaded { OnOk result (threaded_of self.new ≡ closed (threaded_of self.old) (to_block (guard_of (standing_of self.old).table line (expression_of when.now)) (block_of body.now) (standing_of self.old))) }
         ensures standing { OnOk result (standing_of self.new ≡ state_behind (standing_of self.old)) }
     {
         let guard = guard(alloc, &self.names, line, when)?;
@@ -171,27 +172,39 @@ impl Building {
         body: &[Statement],
     ) -> Result<(), NoMemory>
         requires { EachSubscript IsSmall (expression_of end.now) }
-        ensures threaded { OnOk result (threaded_of self.new ≡ closed (threaded_of self.old) (exits.if_holds (below (table_of self.old.names) line name.now (expression_of end.now)) (standing_of self.old).state ∷ exits.plainly ((standing_of self.old).state + 1 + states_in_all (block_of body.now)) ∷ [])) }
+        ensures threaded { OnOk result (threaded_of self.new ≡ closed (threaded_of self.old) (to_block (below (standing_of self.old).table line name.now (expression_of end.now)) (block_of body.now) (standing_of self.old))) }
         ensures standing { OnOk result (standing_of self.new ≡ state_behind (standing_of self.old)) }
     {
         let guard = guard_below(alloc, &self.names, line, name, end)?;
         self.close_if(alloc, guard, body)
     }
 
-    /// The current state goes on to a loop, and gives its variable the begin.
+    /// The current state goes on to a loop, and gives its variable the begin. The variable is the
+    /// next one, and is in force from here on.
     #[tactic(auto, using(sd_task::proofs::SmallLemmas::zero_within))]
-    pub(crate) fn begin_loop(&mut self, alloc: Global, begin: &Option<Expr>) -> Result<(), NoMemory>
+    pub(crate) fn begin_loop(
+        &mut self,
+        alloc: Global,
+        name: &str,
+        begin: &Option<Expr>,
+    ) -> Result<(), NoMemory>
         requires { IfWritten IsSmall (option_map expression_of begin.now) }
         ensures threaded { OnOk result (threaded_of self.new ≡ closed (threaded_of self.old) (exits.setting (standing_of self.old).state (standing_of self.old).variable (affine_or affine_zero (standing_of self.old).table.variables (option_map expression_of begin.now)) ∷ [])) }
-        ensures standing { OnOk result (standing_of self.new ≡ state_behind (standing_of self.old)) }
+        ensures standing { OnOk result (standing_of self.new ≡ with_loop_variable name.now (state_behind (standing_of self.old))) }
     {
         let zero = number(alloc, 0);
         let begin = affine_or(alloc, &zero, &self.names.variables, begin)?;
-        let exit = setting(alloc, self.state, self.variable, begin)?;
-        self.close(alloc, vec![in alloc; exit]?)
+        let variable = self.numbers.variable;
+        let exit = setting(alloc, self.state, variable, begin)?;
+        self.close(alloc, vec![in alloc; exit]?)?;
+        self.names
+            .variables
+            .push(String::from_str(alloc, name)?, variable)?;
+        self.numbers.variable = more(variable, 1)?;
+        Ok(())
     }
 
-    /// The current state closes a loop and steps its variable on.
+    /// The current state closes a loop and steps its variable on, which is no longer in force.
     pub(crate) fn end_loop(
         &mut self,
         alloc: Global,
@@ -200,9 +213,11 @@ impl Building {
         step: Option<i64>,
     ) -> Result<(), NoMemory>
         ensures threaded { OnOk result (threaded_of self.new ≡ closed (threaded_of self.old) (exits.back_to to ((variable, exits.stepped_on variable step) ∷ []) ∷ [])) }
-        ensures standing { OnOk result (standing_of self.new ≡ state_behind (standing_of self.old)) }
+        ensures standing { OnOk result (standing_of self.new ≡ state_behind (without_loop_variable (standing_of self.old))) }
     {
         let exit = step_back(alloc, to, variable, step)?;
-        self.close(alloc, vec![in alloc; exit]?)
+        self.close(alloc, vec![in alloc; exit]?)?;
+        self.names.variables.pop();
+        Ok(())
     }
 }

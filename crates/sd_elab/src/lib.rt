@@ -1,11 +1,15 @@
 //! The graph of a program.
 //!
-//! `graph_of` (`Elaboration.antt`) is the graph of a plain syntax tree, one rule for each form. The
-//! code has parts of it so far, each exactly as it is defined: transitions, counts of states, names of
-//! variables, and the states of loops and branches as they go (`Threaded.antt`, which is shown to be
-//! `States.antt`). Nothing puts the parts together: no call elaborates a statement or makes a graph yet.
+//! `graph_of` (`Elaboration.antt`) is the graph of a plain syntax tree, one rule for each form, and
+//! `elaborate` makes it. `thread` adds the states of a statement behind those of the statements before
+//! it (`Threaded.antt`, which is shown to be `States.antt`).
 #![tactic(auto)]
 
 mod building;
 mod count;
 mod exit;
+mod function;
+mod program;
+mod thread;
+
+pub use program::elaborate;
