@@ -9,6 +9,7 @@ pub mod Places
 pub mod Affine
 pub mod AffinePlaces
 pub mod Forms
+pub mod LevelForms
 pub mod LineForms
 pub mod Connectors
 pub mod InForce
@@ -16,6 +17,7 @@ pub mod Placed
 pub mod PlacedKept
 pub mod PlacedEnds
 pub mod LineLimits
+pub mod LineLevels
 pub mod PlacedFields
 pub mod KnownFields
 pub mod ReadFields

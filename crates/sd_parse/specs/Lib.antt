@@ -18,5 +18,6 @@ pub mod TokenPlaces
 pub mod SourceLines
 pub mod SourceReading
 pub mod ErrorNumber
+pub mod Levels
 pub mod Standing
 pub mod FirstRefused

@@ -28,6 +28,7 @@ use Rattle.sd_parse.specs.NodeRefusal.{first_of, node_refusal, limited, program_
 use Rattle.sd_parse.specs.SourceReading.{refusal_of_text, reads_tokens, reads}
 use Rattle.sd_parse.specs.TokenLines.{no_token, lines_from, number_of, begins_connector, line_of_tokens, lines_of_tokens}
 use Rattle.sd_parse.specs.Context.{Context}
+use Rattle.sd_parse.specs.Levels.{HasFewLevels}
 use Rattle.sd_parse.specs.Lines.{Line}
 use Rattle.sd_parse.specs.LinesReading.{program_in, program_of_lines}
 use Rattle.sd_program.specs.Bounds.{EachBound}
@@ -51,6 +52,7 @@ use Rattle.sd_parse.proofs.readable.Connectors.{connector_forms}
 use Rattle.sd_parse.proofs.readable.Forms.{of_form, each-mapped}
 use Rattle.sd_parse.proofs.readable.LineForms.{head_forms}
 use Rattle.sd_parse.proofs.readable.LineLimits.{steps_hold, dimensions_hold, parameters_hold}
+use Rattle.sd_parse.proofs.readable.LineLevels.{levels_hold}
 use Rattle.sd_parse.proofs.readable.AffinePlaces.{small, places_hold}
 
 -- what is kept by lines in nested blocks is kept with their nesting
@@ -120,6 +122,9 @@ dimensions_of_program = by_lines (everywhere HasFewDimensions dimensions_hold)
 
 pub parameters_of_program : (text : List ℕ) (program : ProgramTree) → reads text ≡ Ok program → Everywhere HasFewParameters program
 parameters_of_program = by_lines (everywhere HasFewParameters parameters_hold)
+
+pub levels_of_program : (text : List ℕ) (program : ProgramTree) → reads text ≡ Ok program → Everywhere HasFewLevels program
+levels_of_program = by_lines (everywhere HasFewLevels levels_hold)
 
 -- it holds of each statement in its place
 places : (Holds : Place → StatementTree → Type 0) → HoldsInPlaces Holds → (text : List ℕ) (program : ProgramTree) → reads text ≡ Ok program → EveryPlace Holds program

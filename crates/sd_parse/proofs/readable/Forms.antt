@@ -21,6 +21,11 @@ if-always Holds NoForm always = tt
 if-always Holds TooDeep always = tt
 if-always Holds (Form a) always = always a
 
+pub if-tells : {A : Type 0} (First Second : A → Type 0) (read : Reading A) → ((a : A) → First a → Second a) → IfForm First read → IfForm Second read
+if-tells First Second NoForm tells first = tt
+if-tells First Second TooDeep tells first = tt
+if-tells First Second (Form a) tells first = tells a first
+
 pub if-map : {A B : Type 0} (Holds : B → Type 0) (f : A → B) (read : Reading A) → IfForm (λ a. Holds (f a)) read → IfForm Holds (reading_map f read)
 if-map Holds f NoForm holds = tt
 if-map Holds f TooDeep holds = tt

@@ -1,5 +1,6 @@
 -- Which heads a line may have in each kind of block.
 use Rattle.std.specs.List.{AllByRecursion}
+use Rattle.sd_program.specs.Bounds.{EachExpression, IfWritten, EachEnd}
 use Rattle.sd_program.specs.Place.{length_of}
 use Rattle.std.proofs.Common.{◌≡◌, ◌≤◌, pos, length, ℕ, ℤ, List, [], ◌∷◌, Option, Some, None}
 use Rattle.std.specs.Bool.{⊤}
@@ -7,6 +8,7 @@ use Rattle.sd_lex.specs.PlainTree.{Expressions, Dimension, index, span, Statemen
 use Rattle.sd_line.specs.declared.head.BlockKind.{BlockKind}
 use Rattle.sd_line.specs.declared.head.BlockKind.TheVariants.{Top, Program, Scope, Tasklet}
 use Rattle.sd_line.specs.Head.{HeadTree, import_line, symbol_line, program_decorator, program_head, statement_head, reduce_head, input_head, output_head, consume_decorator, consume_head, elif_head, else_head}
+use Rattle.sd_parse.specs.Levels.{IsShallowCode, IsShallow}
 use Rattle.sd_parse.specs.Context.{Opener, file, function, statement, consumer, if_block, else_block, OpenBlock}
 
 -- a step that is at least 1
@@ -14,42 +16,50 @@ abbrev pub IsFromOne : Option ℤ → Type 0
 IsFromOne None = ⊤
 IsFromOne (Some step) = (n : ℕ) × ((step ≡ pos n) × (1 ≤ n))
 
+abbrev pub GoesForward : Dimension → Type 0
+GoesForward (index at) = ⊤
+GoesForward (span begin end step) = IsFromOne step
+
+-- with bounds of few levels
 abbrev pub GoesOn : Dimension → Type 0
-GoesOn (index at) = ⊤
-GoesOn (span begin end step) = IsFromOne step
+GoesOn dimension = GoesForward dimension × EachEnd (IsShallow 64) dimension
 
 -- the statements of a body
 abbrev pub IsBodyStatement : StatementTree → Type 0
-IsBodyStatement (local_array line name extents bits) = ⊤
+IsBodyStatement (local_array line name extents bits) = EachExpression (IsShallow 64) extents
 IsBodyStatement (local_stream line name bits size) = ⊤
-IsBodyStatement (assign line name at add value) = 1 ≤ length_of at
+IsBodyStatement (assign line name at add value) = (1 ≤ length_of at) × (EachExpression (IsShallow 64) at × IsShallow 64 value)
 IsBodyStatement (copy line to to_dimensions from from_dimensions) = AllByRecursion GoesOn to_dimensions × AllByRecursion GoesOn from_dimensions
 IsBodyStatement (map_scope line parameters ranges body) = (length parameters ≡ length ranges) × AllByRecursion GoesOn ranges
 IsBodyStatement (tasklet line body) = ⊤
 IsBodyStatement (call line name arguments) = AllByRecursion (λ argument. AllByRecursion GoesOn argument.1) arguments
-IsBodyStatement (for_loop line name begin end step body) = IsFromOne step
-IsBodyStatement (while_loop line when body) = ⊤
-IsBodyStatement (branch line when body other) = ⊤
+IsBodyStatement (for_loop line name begin end step body) = IsFromOne step × (IfWritten (IsShallow 64) begin × IsShallow 63 end)
+IsBodyStatement (while_loop line when body) = IsShallow 64 when
+IsBodyStatement (branch line when body other) = IsShallow 64 when
 IsBodyStatement other = ⊥
 
 -- the statements of a tasklet
 abbrev pub IsTaskletStatement : StatementTree → Type 0
-IsTaskletStatement (set line name value) = ⊤
-IsTaskletStatement (set_at line name at value) = ⊤
-IsTaskletStatement (tasklet_branch line when body other) = ⊤
+IsTaskletStatement (set line name value) = IsShallowCode value
+IsTaskletStatement (set_at line name at value) = EachExpression IsShallowCode at × IsShallowCode value
+IsTaskletStatement (tasklet_branch line when body other) = IsShallowCode when
 IsTaskletStatement other = ⊥
+
+-- the extents of an argument
+abbrev pub AreExtents : Expressions → Type 0
+AreExtents extents = (length_of extents ≤ 4) × EachExpression (IsShallow 64) extents
 
 -- a statement that one line says
 abbrev pub IsOfLine : StatementTree → Type 0
-IsOfLine (argument_array line name bits extents) = length_of extents ≤ 4
-IsOfLine (set line name value) = ⊤
-IsOfLine (set_at line name at value) = ⊤
-IsOfLine (tasklet_branch line when body other) = ⊤
+IsOfLine (argument_array line name bits extents) = AreExtents extents
+IsOfLine (set line name value) = IsShallowCode value
+IsOfLine (set_at line name at value) = EachExpression IsShallowCode at × IsShallowCode value
+IsOfLine (tasklet_branch line when body other) = IsShallowCode when
 IsOfLine s = IsBodyStatement s
 
 -- an argument of a program
 abbrev pub IsArgument : StatementTree → Type 0
-IsArgument s = (line : ℕ) × (name : List ℕ) × (bits : ℕ) × (extents : Expressions) × ((length_of extents ≤ 4) × (s ≡ argument_array line name bits extents))
+IsArgument s = (line : ℕ) × (name : List ℕ) × (bits : ℕ) × (extents : Expressions) × (AreExtents extents × (s ≡ argument_array line name bits extents))
 
 -- the arguments of a program
 abbrev pub AreArguments : Block → Type 0
@@ -68,7 +78,7 @@ FitsBody (statement_head s) = IsBodyStatement s
 FitsBody (reduce_head lambda from to axis identity) = ⊤
 FitsBody (consume_decorator from size) = ⊤
 FitsBody (consume_head name element worker) = ⊤
-FitsBody (elif_head when) = ⊤
+FitsBody (elif_head when) = IsShallow 64 when
 FitsBody else_head = ⊤
 FitsBody other = ⊥
 
@@ -76,7 +86,7 @@ abbrev pub FitsTasklet : HeadTree → Type 0
 FitsTasklet (statement_head s) = IsTaskletStatement s
 FitsTasklet (input_head connector memlet) = AllByRecursion GoesOn memlet.dimensions
 FitsTasklet (output_head connector memlet) = AllByRecursion GoesOn memlet.dimensions
-FitsTasklet (elif_head when) = ⊤
+FitsTasklet (elif_head when) = IsShallowCode when
 FitsTasklet else_head = ⊤
 FitsTasklet other = ⊥
 

@@ -6,7 +6,7 @@ use Rattle.std.specs.Option.{option_and_then}
 use Rattle.std.proofs.lemmas.List.{length-map}
 use Rattle.std.specs.List.{AllByRecursion}
 use Rattle.std.proofs.lemmas.Bool.{eqb-true, leb-true}
-use Rattle.sd_lex.specs.PlainTree.{Expression, Dimension, index, span, StatementTree, argument_array, local_array, map_scope, tasklet, call, no_statement}
+use Rattle.sd_lex.specs.PlainTree.{Expression, Dimension, index, span, StatementTree, argument_array, local_array, map_scope, tasklet, call, for_loop, no_statement}
 use Rattle.sd_lex.specs.TreeFold.{block_listed, expressions_listed}
 use Rattle.sd_phrase.specs.declared.word.Piece.{Piece}
 use Rattle.sd_phrase.specs.declared.word.Word.{Word}
@@ -21,7 +21,7 @@ use Rattle.sd_phrase.specs.Signs.{depth_after}
 use Rattle.sd_phrase.specs.Parts.{is_mark_outside, onto_first, parted, parts_from, is_balanced, parts_of, at_mark, closed, bracketed, whole, few, Few, one_part, two_parts, three_parts, more_parts}
 use Rattle.sd_phrase.specs.Phrase.{after, header, name_first, lone_name, lone_number, step_of, next, is_phrase}
 use Rattle.sd_phrase.specs.Phrase as phrase
-use Rattle.sd_phrase.specs.Readings.{reading_map, if_some, both, listed}
+use Rattle.sd_phrase.specs.Readings.{reading_map, if_some, if_empty, both, listed}
 use Rattle.sd_phrase.specs.LambdaReading.{LambdaNames, lambda_names, lambda_by}
 use Rattle.sd_phrase.specs.ExpressionReading.{expression, expressions}
 use Rattle.sd_phrase.specs.SubsetReading.{affine, wanted, optional, spanned, stepped, range, slot_by, slot, slots, subset}
@@ -43,9 +43,12 @@ use Rattle.sd_line.specs.Reduction as reductions
 use Rattle.sd_line.specs.Consume as consumes
 use Rattle.sd_program.specs.Place.{length_of}
 use Rattle.sd_parse.proofs.readable.Passing.{false_is_not_true}
-use Rattle.sd_parse.proofs.readable.Heads.{IsFromOne, GoesOn, IsArgument, AreArguments, Fits, FitsTop, FitsBody, FitsTasklet}
+use Rattle.sd_parse.proofs.readable.Heads.{IsFromOne, GoesOn, AreExtents, IsArgument, AreArguments, Fits, FitsTop, FitsBody, FitsTasklet}
 use Rattle.sd_parse.proofs.readable.Affine.{some_or, none_is_not_some}
-use Rattle.sd_parse.proofs.readable.Forms.{IfForm, if-always, if-map, if-both, if-some, if-true, if-either, if-listed, if-counted, each-mapped}
+use Rattle.sd_parse.specs.Levels.{IsShallowCode, IsShallow}
+use Rattle.sd_program.specs.Bounds.{EachExpression, IfWritten}
+use Rattle.sd_parse.proofs.readable.LevelForms.{code_expression, body_expression, code_expressions, body_expressions}
+use Rattle.sd_parse.proofs.readable.Forms.{IfForm, if-always, if-tells, if-map, if-both, if-some, if-empty, if-true, if-either, if-and, if-listed, if-counted, each-mapped}
 
 -- ---- steps
 
@@ -63,20 +66,34 @@ from_one (Some value) n is = by_test (int_le (pos 1) value) refl is where
 any_form : {A : Type 0} (read : Reading A) → IfForm (λ a. ⊤) read
 any_form read = if-always (λ a. ⊤) read (λ a. tt)
 
-span_forms : (begin end : Reading (Option Expression)) (step : Option ℤ) → IsFromOne step → IfForm GoesOn (spanned begin end step)
-span_forms begin end step on = if-both (λ b. ⊤) (λ e. ⊤) GoesOn (λ b e. span b e step) begin end (any_form begin) (any_form end) (λ b e _ _. on)
+-- the bounds of a range
+abbrev IsBound : Option Expression → Type 0
+IsBound bound = IfWritten (IsShallow 64) bound
+
+wanted_forms : (text : List ℕ) (ts : List Piece) → IfForm IsBound (wanted (affine text ts))
+wanted_forms text ts = if-map IsBound Some (affine text ts) (body_expression text 64 ts)
+
+optional_forms : (text : List ℕ) (ts : List Piece) → IfForm IsBound (optional text ts)
+optional_forms text [] = tt
+optional_forms text (t ∷ ts) = wanted_forms text (t ∷ ts)
+
+span_forms : (begin end : Reading (Option Expression)) (step : Option ℤ) → IsFromOne step → IfForm IsBound begin → IfForm IsBound end → IfForm GoesOn (spanned begin end step)
+span_forms begin end step on first second = if-both IsBound IsBound GoesOn (λ b e. span b e step) begin end first second (λ b e low high. (on, (low, high)))
+
+range_forms : (text : List ℕ) (begin end : List Piece) (step : Option ℤ) → IsFromOne step → IfForm GoesOn (range text begin end step)
+range_forms text begin end step on = span_forms (wanted (affine text begin)) (wanted (affine text end)) step on (wanted_forms text begin) (wanted_forms text end)
 
 stepped_forms : (text : List ℕ) (begin end step : List Piece) → IfForm GoesOn (stepped text begin end (step_of step))
 stepped_forms text begin end step =
-    if-some GoesOn (step_of step) (λ n. range text begin end (Some n)) (λ n is. span_forms (wanted (affine text begin)) (wanted (affine text end)) (Some n) (from_one (lone_number step) n is))
+    if-some GoesOn (step_of step) (λ n. range text begin end (Some n)) (λ n is. range_forms text begin end (Some n) (from_one (lone_number step) n is))
 
 slot_forms : (text : List ℕ) (in_subset : Bool) (parts : Few) → IfForm GoesOn (slot_by text in_subset parts)
-slot_forms text true (one_part at) = if-map GoesOn index (affine text at) (any_form (affine text at))
-slot_forms text true (two_parts begin end) = span_forms (optional text begin) (optional text end) None tt
+slot_forms text true (one_part at) = if-map GoesOn index (affine text at) (if-tells (IsShallow 64) (λ e. GoesOn (index e)) (affine text at) (λ e few'. (tt, few')) (body_expression text 64 at))
+slot_forms text true (two_parts begin end) = span_forms (optional text begin) (optional text end) None tt (optional_forms text begin) (optional_forms text end)
 slot_forms text true (three_parts begin end step) = stepped_forms text begin end step
 slot_forms text true more_parts = tt
 slot_forms text false (one_part at) = tt
-slot_forms text false (two_parts begin end) = span_forms (wanted (affine text begin)) (wanted (affine text end)) None tt
+slot_forms text false (two_parts begin end) = range_forms text begin end None tt
 slot_forms text false (three_parts begin end step) = stepped_forms text begin end step
 slot_forms text false more_parts = tt
 
@@ -110,17 +127,22 @@ listed_length : (es : List Expression) → length_of (expressions_listed es) ≡
 listed_length [] = refl
 listed_length (first ∷ rest) = ap (λ n. n + 1) (listed_length rest) ∙ omega arith
 
-extents_forms : (text : List ℕ) (ts : List Piece) → IfForm (λ es. length_of (expressions_listed es) ≤ 4) (top.extents text ts)
-extents_forms text [] = omega arith
+abbrev OfExtents : List Expression → Type 0
+OfExtents es = AreExtents (expressions_listed es)
+
+extents_forms : (text : List ℕ) (ts : List Piece) → IfForm OfExtents (top.extents text ts)
+extents_forms text [] = (omega arith, tt)
 extents_forms text (t ∷ ts) =
-    if-some (λ es. length_of (expressions_listed es) ≤ 4) (whole (bracketed Square (t ∷ ts))) (top.extents_in text)
-    (λ inside _. if-true (λ es. length_of (expressions_listed es) ≤ 4) (nat_le (length (parts_of Comma inside)) 4) (expressions text true 64 inside) (λ few'. few_extents inside (leb-true (length (parts_of Comma inside)) 4 few'))) where
-      few_extents : (inside : List Piece) → length (parts_of Comma inside) ≤ 4 → IfForm (λ es. length_of (expressions_listed es) ≤ 4) (expressions text true 64 inside)
-      few_extents inside few' = counted (expressions text true 64 inside) (if-counted (map (expression text true 64) (parts_of Comma inside))) where
-        counted : (read : Reading (List Expression)) → IfForm (λ list. length list ≡ length (map (expression text true 64) (parts_of Comma inside))) read → IfForm (λ es. length_of (expressions_listed es) ≤ 4) read
-        counted NoForm is = tt
-        counted TooDeep is = tt
-        counted (Form es) is = rw (listed_length es) (subst (λ n. n ≤ 4) (sym (is ∙ length-map (parts_of Comma inside) (expression text true 64))) few')
+    if-some OfExtents (whole (bracketed Square (t ∷ ts))) (top.extents_in text)
+    (λ inside _. if-true OfExtents (nat_le (length (parts_of Comma inside)) 4) (expressions text true 64 inside) (λ few'. few_extents inside (leb-true (length (parts_of Comma inside)) 4 few'))) where
+      few_extents : (inside : List Piece) → length (parts_of Comma inside) ≤ 4 → IfForm OfExtents (expressions text true 64 inside)
+      few_extents inside few' =
+          if-and (λ es. length_of (expressions_listed es) ≤ 4) (λ es. EachExpression (IsShallow 64) (expressions_listed es)) (expressions text true 64 inside)
+          (counted (expressions text true 64 inside) (if-counted (map (expression text true 64) (parts_of Comma inside)))) (body_expressions text inside) where
+            counted : (read : Reading (List Expression)) → IfForm (λ list. length list ≡ length (map (expression text true 64) (parts_of Comma inside))) read → IfForm (λ es. length_of (expressions_listed es) ≤ 4) read
+            counted NoForm is = tt
+            counted TooDeep is = tt
+            counted (Form es) is = rw (listed_length es) (subst (λ n. n ≤ 4) (sym (is ∙ length-map (parts_of Comma inside) (expression text true 64))) few')
 
 argument_forms : (text : List ℕ) (line : ℕ) (ts : List Piece) → IfForm IsArgument (top.program_argument text line ts)
 argument_forms text line ts =
@@ -128,7 +150,7 @@ argument_forms text line ts =
     (λ found _. if-some IsArgument (after text top.type_phrase found.1) (λ rest. reading_map (λ list. argument_array line found.0 64 (expressions_listed list)) (top.extents text rest)) (λ rest _. typed_forms found.0 rest)) where
       typed_forms : (name : List ℕ) (rest : List Piece) → IfForm IsArgument (reading_map (λ list. argument_array line name 64 (expressions_listed list)) (top.extents text rest))
       typed_forms name rest = if-map IsArgument (λ list. argument_array line name 64 (expressions_listed list)) (top.extents text rest) (named (top.extents text rest) (extents_forms text rest)) where
-        named : (read : Reading (List Expression)) → IfForm (λ es. length_of (expressions_listed es) ≤ 4) read → IfForm (λ es. IsArgument (argument_array line name 64 (expressions_listed es))) read
+        named : (read : Reading (List Expression)) → IfForm OfExtents read → IfForm (λ es. IsArgument (argument_array line name 64 (expressions_listed es))) read
         named NoForm few' = tt
         named TooDeep few' = tt
         named (Form es) few' = (line, name, 64, expressions_listed es, (few', refl))
@@ -194,23 +216,30 @@ top_forms text line ts =
 
 -- ---- bodies
 
+body_condition : (text : List ℕ) (ts : List Piece) → IfForm (IsShallow 64) (conditions.condition text true ts)
+body_condition text ts =
+    if-some (IsShallow 64) (at_mark Colon ts) (λ cut. if_empty cut.1 (expression text true 64 cut.0))
+    (λ cut _. if-empty (IsShallow 64) cut.1 (expression text true 64 cut.0) (body_expression text 64 cut.0))
+
 while_forms : (text : List ℕ) (line : ℕ) (ts : List Piece) → IfForm FitsBody (conditions.while_line text line ts)
-while_forms text line ts = if-map FitsBody _ (conditions.condition text true ts) (any_form (conditions.condition text true ts))
+while_forms text line ts = if-map FitsBody _ (conditions.condition text true ts) (body_condition text ts)
 
 if_forms : (text : List ℕ) (line : ℕ) (ts : List Piece) → IfForm FitsBody (conditions.if_line text line ts)
-if_forms text line ts = if-map FitsBody _ (conditions.condition text true ts) (any_form (conditions.condition text true ts))
+if_forms text line ts = if-map FitsBody _ (conditions.condition text true ts) (body_condition text ts)
 
 elif_forms : (text : List ℕ) (ts : List Piece) → IfForm FitsBody (conditions.elif_line text true ts)
-elif_forms text ts = if-map FitsBody _ (conditions.condition text true ts) (any_form (conditions.condition text true ts))
+elif_forms text ts = if-map FitsBody _ (conditions.condition text true ts) (body_condition text ts)
 
 loop_forms : (text : List ℕ) (line : ℕ) (name : List ℕ) (parts : Few) → IfForm FitsBody (repetitions.loop_line text line name parts)
-loop_forms text line name (one_part end) = if-map FitsBody _ (expression text true 63 end) (any_form (expression text true 63 end))
+loop_forms text line name (one_part end) =
+    if-map FitsBody (λ e. statement_head (for_loop line name None e None no_statement)) (expression text true 63 end)
+    (if-tells (IsShallow 63) (λ e. FitsBody (statement_head (for_loop line name None e None no_statement))) (expression text true 63 end) (λ e few'. (tt, (tt, few'))) (body_expression text 63 end))
 loop_forms text line name (two_parts begin end) =
-    if-both (λ b. ⊤) (λ e. ⊤) FitsBody _ (expression text true 64 begin) (expression text true 63 end) (any_form (expression text true 64 begin)) (any_form (expression text true 63 end)) (λ b e _ _. tt)
+    if-both (IsShallow 64) (IsShallow 63) FitsBody _ (expression text true 64 begin) (expression text true 63 end) (body_expression text 64 begin) (body_expression text 63 end) (λ b e low high. (tt, (low, high)))
 loop_forms text line name (three_parts begin end step) =
     if-some FitsBody (step_of step) (λ n. repetitions.loop_between text line name begin end (Some n))
-    (λ n is. if-both (λ b. ⊤) (λ e. ⊤) FitsBody _ (expression text true 64 begin) (expression text true 63 end) (any_form (expression text true 64 begin)) (any_form (expression text true 63 end))
-    (λ b e _ _. from_one (lone_number step) n is))
+    (λ n is. if-both (IsShallow 64) (IsShallow 63) FitsBody _ (expression text true 64 begin) (expression text true 63 end) (body_expression text 64 begin) (body_expression text 63 end)
+    (λ b e low high. (from_one (lone_number step) n is, (low, high))))
 loop_forms text line name more_parts = tt
 
 loop_names_forms : (text : List ℕ) (line : ℕ) (names : List (List ℕ)) (inside : List Piece) → IfForm FitsBody (repetitions.loop_names text line names inside)
@@ -291,7 +320,7 @@ declaration_forms text line name ts = by_local (after text declarations.define_l
   by_stream (Some rest) = if-some FitsBody (whole (closed Round rest)) (λ inside. declarations.stream_line text line name (few (parts_of Comma inside))) (λ inside _. by_parts (few (parts_of Comma inside)))
 
   by_extents : (inside : List Piece) → IfForm FitsBody (reading_map (λ extents. statement_head (local_array line name (expressions_listed extents) 64)) (expressions text true 64 inside))
-  by_extents inside = if-map FitsBody (λ extents. statement_head (local_array line name (expressions_listed extents) 64)) (expressions text true 64 inside) (any_form (expressions text true 64 inside))
+  by_extents inside = if-map FitsBody (λ extents. statement_head (local_array line name (expressions_listed extents) 64)) (expressions text true 64 inside) (body_expressions text inside)
 
   by_local : (rest : Option (List Piece)) → IfForm FitsBody (declarations.local_or_stream text line name ts rest)
   by_local (Some rest) =
@@ -313,10 +342,24 @@ some_part : (mark : Mark) (depth : ℕ) (ts : List Piece) → 1 ≤ length (part
 some_part mark depth [] = omega arith
 some_part mark depth (t ∷ ts) = some_parted (is_mark_outside mark depth t.word) t (parts_from mark (depth_after t.word depth) ts)
 
-assign_forms : (text : List ℕ) (line : ℕ) (name : List ℕ) (add : Bool) (levels : ℕ) (inside value : List Piece) → IfForm FitsBody (elements.assign_line text line name add levels inside value)
-assign_forms text line name add levels inside value =
-    if-both (λ at. 1 ≤ length_of (expressions_listed at)) (λ e. ⊤) FitsBody (elements.assigned line name add) (expressions text true 64 inside) (expression text true levels value)
-    (some_written (expressions text true 64 inside) (if-counted (map (expression text true 64) (parts_of Comma inside)))) (any_form (expression text true levels value)) (λ at e written _. written) where
+abbrev AreWritten : List Expression → Type 0
+AreWritten at = (1 ≤ length_of (expressions_listed at)) × EachExpression (IsShallow 64) (expressions_listed at)
+
+sum_levels : (kind : BlockKind) → elements.levels_of_sum kind ≤ 64
+sum_levels Top = omega arith
+sum_levels Program = omega arith
+sum_levels Scope = omega arith
+sum_levels Tasklet = omega arith
+
+value_forms : (text : List ℕ) (levels : ℕ) (ts : List Piece) → levels ≤ 64 → IfForm (IsShallow 64) (expression text true levels ts)
+value_forms text levels ts low = if-tells (IsShallow levels) (IsShallow 64) (expression text true levels ts) (λ e few'. (omega (arith, few'.0, low), few'.1)) (body_expression text levels ts)
+
+assign_forms : (text : List ℕ) (line : ℕ) (name : List ℕ) (add : Bool) (levels : ℕ) (inside value : List Piece) → levels ≤ 64 → IfForm FitsBody (elements.assign_line text line name add levels inside value)
+assign_forms text line name add levels inside value low =
+    if-both AreWritten (IsShallow 64) FitsBody (elements.assigned line name add) (expressions text true 64 inside) (expression text true levels value)
+    (if-and (λ at. 1 ≤ length_of (expressions_listed at)) (λ at. EachExpression (IsShallow 64) (expressions_listed at)) (expressions text true 64 inside)
+    (some_written (expressions text true 64 inside) (if-counted (map (expression text true 64) (parts_of Comma inside)))) (body_expressions text inside))
+    (value_forms text levels value low) (λ at e written few'. (written.0, (written.1, few'))) where
       some_written : (read : Reading (List Expression)) → IfForm (λ list. length list ≡ length (map (expression text true 64) (parts_of Comma inside))) read → IfForm (λ at. 1 ≤ length_of (expressions_listed at)) read
       some_written NoForm is = tt
       some_written TooDeep is = tt
@@ -326,10 +369,10 @@ element_forms : (text : List ℕ) (kind : BlockKind) (line : ℕ) (name : List �
 element_forms text kind line name inside behind = by_colon (at_mark Colon inside) where
   by_sum : (value : Option (List Piece)) → IfForm FitsBody (elements.sum_or_none text kind line name inside value)
   by_sum None = tt
-  by_sum (Some value) = assign_forms text line name true (elements.levels_of_sum kind) inside value
+  by_sum (Some value) = assign_forms text line name true (elements.levels_of_sum kind) inside value (sum_levels kind)
 
   by_equals : (value : Option (List Piece)) → IfForm FitsBody (elements.assign_or_sum text kind line name inside behind value)
-  by_equals (Some value) = assign_forms text line name false 64 inside value
+  by_equals (Some value) = assign_forms text line name false 64 inside value (omega arith)
   by_equals None = by_sum (next text (codes "+=") behind)
 
   sides : (from : List ℕ) (inner : List Piece) → IfForm FitsBody (both (elements.copied line name from) (slots text true inside) (slots text true inner))
@@ -399,20 +442,25 @@ body_forms text kind line (t ∷ ts) =
 
 -- ---- tasklets
 
+code_condition : (text : List ℕ) (ts : List Piece) → IfForm IsShallowCode (conditions.condition text false ts)
+code_condition text ts =
+    if-some IsShallowCode (at_mark Colon ts) (λ cut. if_empty cut.1 (expression text false 64 cut.0))
+    (λ cut _. if-empty IsShallowCode cut.1 (expression text false 64 cut.0) (code_expression text cut.0))
+
 when_forms : (text : List ℕ) (line : ℕ) (ts : List Piece) → IfForm FitsTasklet (tasklets.when_line text line ts)
-when_forms text line ts = if-map FitsTasklet _ (conditions.condition text false ts) (any_form (conditions.condition text false ts))
+when_forms text line ts = if-map FitsTasklet _ (conditions.condition text false ts) (code_condition text ts)
 
 when_not_forms : (text : List ℕ) (ts : List Piece) → IfForm FitsTasklet (conditions.elif_line text false ts)
-when_not_forms text ts = if-map FitsTasklet _ (conditions.condition text false ts) (any_form (conditions.condition text false ts))
+when_not_forms text ts = if-map FitsTasklet _ (conditions.condition text false ts) (code_condition text ts)
 
 set_forms : (text : List ℕ) (line : ℕ) (name : List ℕ) (ts : List Piece) → IfForm FitsTasklet (tasklets.set_line text line name ts)
-set_forms text line name ts = if-map FitsTasklet _ (expression text false 64 ts) (any_form (expression text false 64 ts))
+set_forms text line name ts = if-map FitsTasklet _ (expression text false 64 ts) (code_expression text ts)
 
 set_at_forms : (text : List ℕ) (line : ℕ) (name : List ℕ) (inside behind : List Piece) → IfForm FitsTasklet (tasklets.set_at_line text line name inside behind)
 set_at_forms text line name inside behind =
     if-some FitsTasklet _ (λ value. both (tasklets.set_element line name) (expressions text false 64 inside) (expression text false 64 value))
-    (λ value _. if-both (λ at. ⊤) (λ e. ⊤) FitsTasklet (tasklets.set_element line name) (expressions text false 64 inside) (expression text false 64 value)
-    (any_form (expressions text false 64 inside)) (any_form (expression text false 64 value)) (λ at e _ _. tt))
+    (λ value _. if-both (λ at. EachExpression IsShallowCode (expressions_listed at)) IsShallowCode FitsTasklet (tasklets.set_element line name) (expressions text false 64 inside) (expression text false 64 value)
+    (code_expressions text inside) (code_expression text value) (λ at e first second. (first, second)))
 
 keyword_forms : (text : List ℕ) (line : ℕ) (t : Piece) (rest ts : List Piece) → IfForm FitsTasklet (tasklets.tasklet_keyword_line text line t rest ts)
 keyword_forms text line t rest ts = first where

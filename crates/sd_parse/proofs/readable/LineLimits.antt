@@ -48,7 +48,7 @@ step (Some (negsuc n)) (m, (is, low)) narrow = absurd (subst IsNegative is tt) w
 
 dimension_step : (d : Dimension) → GoesOn d → has_wide_step d ≡ false → HasStep d
 dimension_step (index at) on narrow = tt
-dimension_step (span begin end s) on narrow = step s on narrow
+dimension_step (span begin end s) on narrow = step s on.0 narrow
 
 dimension_steps : (ds : List Dimension) → AllByRecursion GoesOn ds → list_any has_wide_step ds ≡ false → AllByRecursion HasStep ds
 dimension_steps [] on narrow = tt
@@ -72,7 +72,7 @@ statement_steps (map_scope line parameters ranges body) of narrow = dimension_st
 statement_steps (tasklet line body) of narrow = tt
 statement_steps (consume_scope line from size name element worker body) of narrow = tt
 statement_steps (call line name arguments) of narrow = argument_steps arguments of narrow
-statement_steps (for_loop line name begin end by body) of narrow = step by of narrow
+statement_steps (for_loop line name begin end by body) of narrow = step by of.0 narrow
 statement_steps (while_loop line when body) of narrow = tt
 statement_steps (branch line when body other) of narrow = tt
 statement_steps (input line connector memlet) of narrow = absurd of
@@ -137,7 +137,7 @@ steps_hold = record {
   taken = λ line from size name element worker. tt;
   put_in = λ names site line connector memlet on passed. dimension_steps memlet.dimensions on (short names site (input_head connector memlet) passed).0;
   put_out = λ names site line connector memlet on passed. dimension_steps memlet.dimensions on (short names site (output_head connector memlet) passed).0;
-  other = λ names site line when passed. branch_steps site.kind line when;
+  other = λ names site line when fit passed. branch_steps site.kind line when;
 }
 
 -- ---- dimensions
@@ -147,7 +147,7 @@ same_count no_expression = refl
 same_count (and_expression first rest) = rw (same_count rest) refl
 
 statement_dimensions : (s : StatementTree) → IsOfLine s → statement_is_long s ≡ false → HasFewDimensions s
-statement_dimensions (argument_array line name bits extents) of short' = of
+statement_dimensions (argument_array line name bits extents) of short' = of.0
 statement_dimensions (local_array line name extents bits) of short' = subst (λ n. n ≤ 4) (same_count extents) (ltb-false 4 (count_of extents) short')
 statement_dimensions (local_stream line name bits size) of short' = tt
 statement_dimensions (assign line name at add value) of short' = tt
@@ -222,7 +222,7 @@ dimensions_hold = record {
   taken = λ line from size name element worker. tt;
   put_in = λ names site line connector memlet on passed. tt;
   put_out = λ names site line connector memlet on passed. tt;
-  other = λ names site line when passed. branch_dimensions site.kind line when;
+  other = λ names site line when fit passed. branch_dimensions site.kind line when;
 }
 
 -- ---- parameters
@@ -303,5 +303,5 @@ parameters_hold = record {
   taken = λ line from size name element worker. tt;
   put_in = λ names site line connector memlet on passed. tt;
   put_out = λ names site line connector memlet on passed. tt;
-  other = λ names site line when passed. branch_parameters site.kind line when;
+  other = λ names site line when fit passed. branch_parameters site.kind line when;
 }

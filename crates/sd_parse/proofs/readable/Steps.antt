@@ -1,6 +1,5 @@
 -- What each accepted line and each end of a block keeps holds of what was read.
-use Rattle.sd_program.specs.Place.{length_of}
-use Rattle.std.proofs.Common.{◌≡◌, ◌≤◌, ℕ, zero, suc, ◌+◌, List, [], ◌∷◌, length, Bool, true, false, not, ◌&&◌, nat_eq, if◌then◌else◌, Option, Some, None, Result, Ok, Err, refl, ap, sym, ◌∙◌, subst, arith}
+use Rattle.std.proofs.Common.{◌≡◌, ℕ, zero, suc, ◌+◌, List, [], ◌∷◌, length, Bool, true, false, not, ◌&&◌, nat_eq, if◌then◌else◌, Option, Some, None, Result, Ok, Err, refl, ap, sym, ◌∙◌, subst, arith}
 use Rattle.std.specs.Bool.{⊤}
 use Rattle.std.specs.List.{AllByRecursion}
 use Rattle.std.proofs.lemmas.Bool.{ne_eqb}
@@ -24,7 +23,7 @@ use Rattle.sd_parse.specs.LineReading.{stands_here, judged_here, by_tokens, behi
 use Rattle.sd_parse.specs.Lines.{Line, opens_tasklet}
 use Rattle.sd_parse.specs.LinesReading.{lines_read, at_end, program_in, program_by, program_of_lines}
 use Rattle.sd_parse.specs.declared.awaiting.Wanted.{Wanted}
-use Rattle.sd_parse.proofs.readable.Heads.{IsArgument, AreArguments, Fits, IsFile, AreNested}
+use Rattle.sd_parse.proofs.readable.Heads.{AreExtents, IsArgument, AreArguments, Fits, IsFile, AreNested}
 use Rattle.sd_parse.proofs.readable.Ahead.{Ahead, ahead, seen, AllPromise, Within, BetweenBy, Between, EndsRight, starts, ends_ahead, ends_right, ends_within}
 use Rattle.sd_parse.proofs.readable.AheadKept.{Connects, passes_between, goes_on_between, opens_between, other_awaits}
 
@@ -96,7 +95,7 @@ pub record Keeps (Good : Context → Type 0) : Type 0 where
   pub pass : (context : Context) (line : ℕ) (is_tasklet : Bool) (head : HeadTree) →
       Fits context.block.kind head → is_wanted (wanted_of context.awaited) head ≡ true → IsAccepted context head → IsWellNested context → Good context → Good (context_after context line is_tasklet head)
   pub argument : (context : Context) (line : ℕ) (is_tasklet : Bool) (at : ℕ) (name : Name) (bits : ℕ) (extents : Expressions) →
-      length_of extents ≤ 4 → IsBegun context → IsAccepted context (statement_head (argument_array at name bits extents)) → IsWellNested context → Good context →
+      AreExtents extents → IsBegun context → IsAccepted context (statement_head (argument_array at name bits extents)) → IsWellNested context → Good context →
       Good (context_after context line is_tasklet (statement_head (argument_array at name bits extents)))
   pub close : (context : Context) (counts : Counts) → AwaitsNoDef context.awaited → states_counted context.counts (late_states context.block) ≡ Ok counts → EndsRight context.block → IsWellNested context → Good context →
       Good (closed_into context.outer (record context { counts = counts }))

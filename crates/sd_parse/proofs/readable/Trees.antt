@@ -1,5 +1,5 @@
 -- What holds of each statement as its line is accepted holds of the whole program.
-use Rattle.std.proofs.Common.{◌≡◌, ◌≤◌, ℕ, ℤ, pos, List, [], ◌∷◌, ◌++◌, Bool, true, false, if◌then◌else◌, Option, refl, sym, subst}
+use Rattle.std.proofs.Common.{◌≡◌, ℕ, ℤ, pos, List, [], ◌∷◌, ◌++◌, Bool, true, false, if◌then◌else◌, Option, refl, sym, subst}
 use Rattle.std.specs.Bool.{⊤}
 use Rattle.std.specs.List.{AllByRecursion}
 use Rattle.sd_lex.specs.PlainTree.{Expression, Expressions, StatementTree, argument_array, local_array, local_stream, assign, copy, reduce, map_scope, tasklet, consume_scope, call, for_loop, while_loop, branch, input, output, set, set_at, tasklet_branch, Block, no_statement}
@@ -17,12 +17,11 @@ use Rattle.sd_parse.specs.After.{context_after}
 use Rattle.sd_parse.specs.Placing.{memlet_of, consumer_of, consume_kind}
 use Rattle.sd_parse.specs.Closing.{branch_with, nested, with_body, finished_by, finished, closed_by, closed_into}
 use Rattle.sd_parse.specs.Continuing.{goes_on, branches_of, next_opener}
-use Rattle.sd_parse.proofs.readable.Heads.{GoesOn, IsOfLine, IsBodyStatement, IsTaskletStatement, Fits, Opens, IsOpenedIn, AreNested}
+use Rattle.sd_parse.proofs.readable.Heads.{GoesOn, AreExtents, IsOfLine, IsBodyStatement, IsTaskletStatement, Fits, Opens, IsOpenedIn, AreNested}
 use Rattle.sd_parse.proofs.readable.Passing.{Passes, passes}
 use Rattle.sd_refusal.specs.declared.site.Counts.{Counts}
 use Rattle.sd_phrase.specs.declared.reading.Reading.TheVariants.{Form}
 use Rattle.sd_program.specs.Limits.{HasSmallTask}
-use Rattle.sd_program.specs.Place.{length_of}
 use Rattle.sd_parse.proofs.readable.Ahead.{EndsRight}
 use Rattle.sd_parse.proofs.readable.Steps.{IsWellNested, IsAccepted, Keeps, behind_branch, behind_other}
 use Rattle.sd_parse.proofs.readable.Nesting.{same_kind}
@@ -65,9 +64,9 @@ of_body (while_loop line when body) fit = fit
 of_body (branch line when body other) fit = fit
 of_body (input line connector memlet) fit = fit
 of_body (output line connector memlet) fit = fit
-of_body (set line name value) fit = tt
-of_body (set_at line name at value) fit = tt
-of_body (tasklet_branch line when body other) fit = tt
+of_body (set line name value) fit = absurd fit
+of_body (set_at line name at value) fit = absurd fit
+of_body (tasklet_branch line when body other) fit = absurd fit
 
 of_tasklet : (s : StatementTree) → IsTaskletStatement s → IsOfLine s
 of_tasklet (argument_array line name bits extents) fit = absurd fit
@@ -85,9 +84,9 @@ of_tasklet (while_loop line when body) fit = absurd fit
 of_tasklet (branch line when body other) fit = absurd fit
 of_tasklet (input line connector memlet) fit = absurd fit
 of_tasklet (output line connector memlet) fit = absurd fit
-of_tasklet (set line name value) fit = tt
-of_tasklet (set_at line name at value) fit = tt
-of_tasklet (tasklet_branch line when body other) fit = tt
+of_tasklet (set line name value) fit = fit
+of_tasklet (set_at line name at value) fit = fit
+of_tasklet (tasklet_branch line when body other) fit = fit
 
 pub of_line : (kind : BlockKind) (s : StatementTree) → Fits kind (statement_head s) → IsOfLine s
 of_line Top s fit = absurd fit
@@ -126,7 +125,7 @@ module _ (Holds : StatementTree → Type 0) where
     pub taken : (line : ℕ) (from : Name) (size : ℤ) (name element : Name) (worker : Option Name) → Holds (consume_scope line from size name element worker no_statement)
     pub put_in : (names : Names) (site : Site) (line : ℕ) (connector : Name) (memlet : MemletTree) → AllByRecursion GoesOn memlet.dimensions → Passes names site (input_head connector memlet) → Holds (input line connector (memlet_of memlet))
     pub put_out : (names : Names) (site : Site) (line : ℕ) (connector : Name) (memlet : MemletTree) → AllByRecursion GoesOn memlet.dimensions → Passes names site (output_head connector memlet) → Holds (output line connector (memlet_of memlet))
-    pub other : (names : Names) (site : Site) (line : ℕ) (when : Expression) → Passes names site (elif_head when) →
+    pub other : (names : Names) (site : Site) (line : ℕ) (when : Expression) → Fits site.kind (elif_head when) → Passes names site (elif_head when) →
         Holds (branch_with site.kind (record { line = line; when = when; statements = [] }) no_statement)
 
   abbrev AllHold : List StatementTree → Type 0
@@ -282,23 +281,23 @@ module _ (Holds : StatementTree → Type 0) where
         all-more (IsGoodBranch kind) earlier (record { line = line; when = when; statements = statements }) good.0 (good.1, all)
     branches_hold line kind statements (else_block earlier) good all = tt
 
-    other_holds : (names : Names) (site : Site) (kind : BlockKind) (line : ℕ) (branches : List Branch) (head : HeadTree) → kind ≡ site.kind → Passes names site head → AllByRecursion (IsGoodBranch kind) branches →
+    other_holds : (names : Names) (site : Site) (kind : BlockKind) (line : ℕ) (branches : List Branch) (head : HeadTree) → kind ≡ site.kind → Fits site.kind head → Passes names site head → AllByRecursion (IsGoodBranch kind) branches →
         IsGoodOpener kind line (next_opener branches head)
-    other_holds names site kind line branches import_line is passed all = all
-    other_holds names site kind line branches (symbol_line name quoted) is passed all = all
-    other_holds names site kind line branches program_decorator is passed all = all
-    other_holds names site kind line branches (program_head name arguments) is passed all = all
-    other_holds names site kind line branches (statement_head s) is passed all = all
-    other_holds names site kind line branches (reduce_head lambda from to axis identity) is passed all = all
-    other_holds names site kind line branches (input_head connector memlet) is passed all = all
-    other_holds names site kind line branches (output_head connector memlet) is passed all = all
-    other_holds names site kind line branches (consume_decorator from size) is passed all = all
-    other_holds names site kind line branches (consume_head name element worker) is passed all = all
-    other_holds names site kind line branches (elif_head when) is passed all =
-        (all, subst (λ kind. Holds (branch_with kind (record { line = line; when = when; statements = [] }) no_statement)) (sym is) (lines.other names site line when passed))
-    other_holds names site kind line branches else_head is passed all = all
+    other_holds names site kind line branches import_line is fit passed all = all
+    other_holds names site kind line branches (symbol_line name quoted) is fit passed all = all
+    other_holds names site kind line branches program_decorator is fit passed all = all
+    other_holds names site kind line branches (program_head name arguments) is fit passed all = all
+    other_holds names site kind line branches (statement_head s) is fit passed all = all
+    other_holds names site kind line branches (reduce_head lambda from to axis identity) is fit passed all = all
+    other_holds names site kind line branches (input_head connector memlet) is fit passed all = all
+    other_holds names site kind line branches (output_head connector memlet) is fit passed all = all
+    other_holds names site kind line branches (consume_decorator from size) is fit passed all = all
+    other_holds names site kind line branches (consume_head name element worker) is fit passed all = all
+    other_holds names site kind line branches (elif_head when) is fit passed all =
+        (all, subst (λ kind. Holds (branch_with kind (record { line = line; when = when; statements = [] }) no_statement)) (sym is) (lines.other names site line when fit passed))
+    other_holds names site kind line branches else_head is fit passed all = all
 
-    argument_holds : (context : Context) (line : ℕ) (is_tasklet : Bool) (at : ℕ) (name : Name) (bits : ℕ) (extents : Expressions) → length_of extents ≤ 4 → IsAccepted context (statement_head (argument_array at name bits extents)) → HoldsSoFar context →
+    argument_holds : (context : Context) (line : ℕ) (is_tasklet : Bool) (at : ℕ) (name : Name) (bits : ℕ) (extents : Expressions) → AreExtents extents → IsAccepted context (statement_head (argument_array at name bits extents)) → HoldsSoFar context →
         HoldsSoFar (context_after context line is_tasklet (statement_head (argument_array at name bits extents)))
     argument_holds context line is_tasklet at name bits extents few accepted' good =
         let s = argument_array at name bits extents in (
@@ -320,7 +319,7 @@ module _ (Holds : StatementTree → Type 0) where
         let inside = subst (AllByRecursion IsGoodBlock) is good.1.0 in
         let kind = same_kind head about.kind context.block.kind context.block.opener on (subst (AreNested context.block) is shape).0 in (
           (
-            other_holds now.names (site_of now) context.block.kind line _ head kind.1 (passes now.names (site_of now) head accepted')
+            other_holds now.names (site_of now) context.block.kind line _ head kind.1 fit (passes now.names (site_of now) head accepted')
                 (branches_hold context.block.line context.block.kind context.block.statements context.block.opener good.0.0 good.0.1),
             tt,
           ),
