@@ -1,0 +1,11 @@
+//! Laws about the graph of a program, over definitions alone.
+//!
+//! Each transition without a mark leads to a later state, so each run of the graph of a program ends,
+//! and has one outcome.
+#![tactic(auto)]
+
+mod upwards;
+
+pub use upwards::{
+    each_run_of_the_graph_of_a_program_has_one_outcome, the_graph_of_a_program_leads_upwards,
+};
