@@ -4,8 +4,10 @@
 //! and has one outcome.
 #![tactic(auto)]
 
+mod in_force;
 mod upwards;
 
+pub use in_force::the_graph_of_a_program_names_what_is_in_force;
 pub use upwards::{
     each_run_of_the_graph_of_a_program_has_one_outcome, the_graph_of_a_program_leads_upwards,
 };
