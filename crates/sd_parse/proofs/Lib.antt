@@ -2,6 +2,7 @@ pub mod ClosingLemmas
 pub mod JudgingLemmas
 pub mod TokenLemmas
 pub mod PrefixLemmas
+pub mod LevelExamples
 pub mod LineLemmas
 pub mod ContinuingLemmas
 pub mod readable

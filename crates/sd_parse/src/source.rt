@@ -6,7 +6,7 @@ ghost use Rattle.sd_parse.specs.ErrorNumber as errors;
 ghost use Rattle.sd_parse.specs.Levels.{HasFewLevels};
 ghost use Rattle.sd_parse.specs.SourceLines.{parsed};
 ghost use Rattle.sd_parse.specs.SourceReading as definition;
-ghost use Rattle.sd_program.specs.Every.{Everywhere};
+ghost use Rattle.sd_program.specs.Place.{EveryPlace};
 ghost use Rattle.sd_program.specs.WellFormed.{IsWellFormed};
 
 use crate::error::{Refusal, SourceError};
@@ -55,7 +55,7 @@ pub fn parse(alloc: Global, text: &[u8]) -> Result<Program, SourceError>
     requires { length text.now ≤ 2 ^ 20 }
     ensures ok { IfOk result (λ program. definition.reads text.now ≡ Ok (program_of program)) }
     ensures well_formed { IfOk result (λ program. IsWellFormed (program_of program)) }
-    ensures levels { IfOk result (λ program. Everywhere HasFewLevels (program_of program)) }
+    ensures levels { IfOk result (λ program. EveryPlace HasFewLevels (program_of program)) }
     ensures err { IfErr result (λ error. IfSome (errors.refusal_of error) (λ refusal. definition.reads text.now ≡ Err refusal)) }
 {
     match read_text(alloc, text) {

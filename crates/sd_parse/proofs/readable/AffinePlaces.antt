@@ -211,5 +211,5 @@ places_hold Told tells = record {
   taken = λ line from size name element worker. tt;
   put_in = λ names site line connector memlet on passed. input_places names Told (tells names) site line connector memlet passed;
   put_out = λ names site line connector memlet on passed. output_places names Told (tells names) site line connector memlet passed;
-  other = λ names site line when fit passed. other_places names Told (tells names) site line when passed;
+  other = λ names site line when passed. other_places names Told (tells names) site line when passed;
 }

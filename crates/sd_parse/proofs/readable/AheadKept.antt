@@ -105,25 +105,25 @@ IsPlain (input line connector memlet) = ⊥
 IsPlain (output line connector memlet) = ⊥
 IsPlain s = ⊤
 
-plain_body : (s : StatementTree) → IsBodyStatement s → IsPlain s
-plain_body (argument_array line name bits extents) fit = fit
-plain_body (local_array line name extents bits) fit = tt
-plain_body (local_stream line name bits size) fit = tt
-plain_body (assign line name at add value) fit = tt
-plain_body (copy line to to_dimensions from from_dimensions) fit = tt
-plain_body (reduce line lambda from to axis identity) fit = tt
-plain_body (map_scope line parameters ranges body) fit = tt
-plain_body (tasklet line body) fit = tt
-plain_body (consume_scope line from size name element worker body) fit = tt
-plain_body (call line name arguments) fit = tt
-plain_body (for_loop line name begin end step body) fit = tt
-plain_body (while_loop line when body) fit = tt
-plain_body (branch line when body other) fit = tt
-plain_body (input line connector memlet) fit = fit
-plain_body (output line connector memlet) fit = fit
-plain_body (set line name value) fit = tt
-plain_body (set_at line name at value) fit = tt
-plain_body (tasklet_branch line when body other) fit = tt
+plain_body : (kind : BlockKind) (s : StatementTree) → IsBodyStatement kind s → IsPlain s
+plain_body kind (argument_array line name bits extents) fit = fit
+plain_body kind (local_array line name extents bits) fit = tt
+plain_body kind (local_stream line name bits size) fit = tt
+plain_body kind (assign line name at add value) fit = tt
+plain_body kind (copy line to to_dimensions from from_dimensions) fit = tt
+plain_body kind (reduce line lambda from to axis identity) fit = tt
+plain_body kind (map_scope line parameters ranges body) fit = tt
+plain_body kind (tasklet line body) fit = tt
+plain_body kind (consume_scope line from size name element worker body) fit = tt
+plain_body kind (call line name arguments) fit = tt
+plain_body kind (for_loop line name begin end step body) fit = tt
+plain_body kind (while_loop line when body) fit = tt
+plain_body kind (branch line when body other) fit = tt
+plain_body kind (input line connector memlet) fit = fit
+plain_body kind (output line connector memlet) fit = fit
+plain_body kind (set line name value) fit = tt
+plain_body kind (set_at line name at value) fit = tt
+plain_body kind (tasklet_branch line when body other) fit = tt
 
 plain_task : (s : StatementTree) → IsTaskletStatement s → IsPlain s
 plain_task (argument_array line name bits extents) fit = fit
@@ -147,8 +147,8 @@ plain_task (tasklet_branch line when body other) fit = tt
 
 plain_line : (kind : BlockKind) (s : StatementTree) → Fits kind (statement_head s) → IsPlain s
 plain_line Top s fit = absurd fit
-plain_line Program s fit = plain_body s fit
-plain_line Scope s fit = plain_body s fit
+plain_line Program s fit = plain_body Program s fit
+plain_line Scope s fit = plain_body Scope s fit
 plain_line Tasklet s fit = plain_task s fit
 
 statement_between : (context : Context) (line : ℕ) (is_tasklet' : Bool) (s : StatementTree) (connects : Bool) (lines : List Line) → IsPlain s → Connects context.block.kind connects (statement_head s) →

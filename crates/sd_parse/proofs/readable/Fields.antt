@@ -123,9 +123,6 @@ dimensions_of_program = by_lines (everywhere HasFewDimensions dimensions_hold)
 pub parameters_of_program : (text : List ℕ) (program : ProgramTree) → reads text ≡ Ok program → Everywhere HasFewParameters program
 parameters_of_program = by_lines (everywhere HasFewParameters parameters_hold)
 
-pub levels_of_program : (text : List ℕ) (program : ProgramTree) → reads text ≡ Ok program → Everywhere HasFewLevels program
-levels_of_program = by_lines (everywhere HasFewLevels levels_hold)
-
 -- it holds of each statement in its place
 places : (Holds : Place → StatementTree → Type 0) → HoldsInPlaces Holds → (text : List ℕ) (program : ProgramTree) → reads text ≡ Ok program → EveryPlace Holds program
 places Holds holds =
@@ -148,6 +145,9 @@ known_program = places IsKnown known_hold
 
 pub reads_of_program : (text : List ℕ) (program : ProgramTree) → reads text ≡ Ok program → EveryPlace HasFewReads program
 reads_of_program = places HasFewReads reads_hold
+
+pub levels_of_program : (text : List ℕ) (program : ProgramTree) → reads text ≡ Ok program → EveryPlace HasFewLevels program
+levels_of_program = places HasFewLevels levels_hold
 
 -- a limit that is passed leaves no program
 none_limited : (line : Option ℕ) (read : Result ProgramTree Refusal) (program : ProgramTree) → limited line read ≡ Ok program → line ≡ None

@@ -2,11 +2,12 @@
 use Rattle.std.specs.List.{AllByRecursion}
 use Rattle.sd_program.specs.Bounds.{EachExpression, IfWritten, EachEnd}
 use Rattle.sd_program.specs.Place.{length_of}
-use Rattle.std.proofs.Common.{◌≡◌, ◌≤◌, pos, length, ℕ, ℤ, List, [], ◌∷◌, Option, Some, None}
+use Rattle.std.proofs.Common.{◌≡◌, ◌≤◌, pos, length, ℕ, ℤ, List, [], ◌∷◌, Bool, true, false, Option, Some, None}
 use Rattle.std.specs.Bool.{⊤}
 use Rattle.sd_lex.specs.PlainTree.{Expressions, Dimension, index, span, StatementTree, argument_array, local_array, local_stream, assign, copy, map_scope, tasklet, call, for_loop, while_loop, branch, set, set_at, tasklet_branch, Block, no_statement, and_statement}
 use Rattle.sd_line.specs.declared.head.BlockKind.{BlockKind}
 use Rattle.sd_line.specs.declared.head.BlockKind.TheVariants.{Top, Program, Scope, Tasklet}
+use Rattle.sd_line.specs.ElementLine.{levels_of_sum}
 use Rattle.sd_line.specs.Head.{HeadTree, import_line, symbol_line, program_decorator, program_head, statement_head, reduce_head, input_head, output_head, consume_decorator, consume_head, elif_head, else_head}
 use Rattle.sd_parse.specs.Levels.{IsShallowCode, IsShallow}
 use Rattle.sd_parse.specs.Context.{Opener, file, function, statement, consumer, if_block, else_block, OpenBlock}
@@ -24,19 +25,24 @@ GoesForward (span begin end step) = IsFromOne step
 abbrev pub GoesOn : Dimension → Type 0
 GoesOn dimension = GoesForward dimension × EachEnd (IsShallow 64) dimension
 
+-- how deep the value of an element statement may be
+abbrev pub levels_of_value : BlockKind → (add : Bool) → ℕ
+levels_of_value kind true = levels_of_sum kind
+levels_of_value kind false = 64
+
 -- the statements of a body
-abbrev pub IsBodyStatement : StatementTree → Type 0
-IsBodyStatement (local_array line name extents bits) = EachExpression (IsShallow 64) extents
-IsBodyStatement (local_stream line name bits size) = ⊤
-IsBodyStatement (assign line name at add value) = (1 ≤ length_of at) × (EachExpression (IsShallow 64) at × IsShallow 64 value)
-IsBodyStatement (copy line to to_dimensions from from_dimensions) = AllByRecursion GoesOn to_dimensions × AllByRecursion GoesOn from_dimensions
-IsBodyStatement (map_scope line parameters ranges body) = (length parameters ≡ length ranges) × AllByRecursion GoesOn ranges
-IsBodyStatement (tasklet line body) = ⊤
-IsBodyStatement (call line name arguments) = AllByRecursion (λ argument. AllByRecursion GoesOn argument.1) arguments
-IsBodyStatement (for_loop line name begin end step body) = IsFromOne step × (IfWritten (IsShallow 64) begin × IsShallow 63 end)
-IsBodyStatement (while_loop line when body) = IsShallow 64 when
-IsBodyStatement (branch line when body other) = IsShallow 64 when
-IsBodyStatement other = ⊥
+abbrev pub IsBodyStatement : BlockKind → StatementTree → Type 0
+IsBodyStatement kind (local_array line name extents bits) = EachExpression (IsShallow 64) extents
+IsBodyStatement kind (local_stream line name bits size) = ⊤
+IsBodyStatement kind (assign line name at add value) = (1 ≤ length_of at) × (EachExpression (IsShallow 64) at × IsShallow (levels_of_value kind add) value)
+IsBodyStatement kind (copy line to to_dimensions from from_dimensions) = AllByRecursion GoesOn to_dimensions × AllByRecursion GoesOn from_dimensions
+IsBodyStatement kind (map_scope line parameters ranges body) = (length parameters ≡ length ranges) × AllByRecursion GoesOn ranges
+IsBodyStatement kind (tasklet line body) = ⊤
+IsBodyStatement kind (call line name arguments) = AllByRecursion (λ argument. AllByRecursion GoesOn argument.1) arguments
+IsBodyStatement kind (for_loop line name begin end step body) = IsFromOne step × (IfWritten (IsShallow 64) begin × IsShallow 63 end)
+IsBodyStatement kind (while_loop line when body) = IsShallow 64 when
+IsBodyStatement kind (branch line when body other) = IsShallow 64 when
+IsBodyStatement kind other = ⊥
 
 -- the statements of a tasklet
 abbrev pub IsTaskletStatement : StatementTree → Type 0
@@ -55,7 +61,8 @@ IsOfLine (argument_array line name bits extents) = AreExtents extents
 IsOfLine (set line name value) = IsShallowCode value
 IsOfLine (set_at line name at value) = EachExpression IsShallowCode at × IsShallowCode value
 IsOfLine (tasklet_branch line when body other) = IsShallowCode when
-IsOfLine s = IsBodyStatement s
+IsOfLine (assign line name at add value) = 1 ≤ length_of at
+IsOfLine s = IsBodyStatement Program s
 
 -- an argument of a program
 abbrev pub IsArgument : StatementTree → Type 0
@@ -73,14 +80,14 @@ FitsTop program_decorator = ⊤
 FitsTop (program_head name arguments) = AreArguments arguments
 FitsTop other = ⊥
 
-abbrev pub FitsBody : HeadTree → Type 0
-FitsBody (statement_head s) = IsBodyStatement s
-FitsBody (reduce_head lambda from to axis identity) = ⊤
-FitsBody (consume_decorator from size) = ⊤
-FitsBody (consume_head name element worker) = ⊤
-FitsBody (elif_head when) = IsShallow 64 when
-FitsBody else_head = ⊤
-FitsBody other = ⊥
+abbrev pub FitsBody : BlockKind → HeadTree → Type 0
+FitsBody kind (statement_head s) = IsBodyStatement kind s
+FitsBody kind (reduce_head lambda from to axis identity) = ⊤
+FitsBody kind (consume_decorator from size) = ⊤
+FitsBody kind (consume_head name element worker) = ⊤
+FitsBody kind (elif_head when) = IsShallow 64 when
+FitsBody kind else_head = ⊤
+FitsBody kind other = ⊥
 
 abbrev pub FitsTasklet : HeadTree → Type 0
 FitsTasklet (statement_head s) = IsTaskletStatement s
@@ -93,8 +100,8 @@ FitsTasklet other = ⊥
 -- what a line may say in a kind of block
 abbrev pub Fits : BlockKind → HeadTree → Type 0
 Fits Top head = FitsTop head
-Fits Program head = FitsBody head
-Fits Scope head = FitsBody head
+Fits Program head = FitsBody Program head
+Fits Scope head = FitsBody Scope head
 Fits Tasklet head = FitsTasklet head
 
 -- the kind of the block that a statement opens

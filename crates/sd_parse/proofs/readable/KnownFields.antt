@@ -129,7 +129,7 @@ module _ (names : Names) (containers : Named Holder) (agrees : Agrees names.cont
   statement_known kind (assign line name at add e) of known right =
       let a = neither (is_unknown_use names (use'.part name (map index (expression_list at)))) (list_any (is_unknown_use names) (use'.value e ∷ [])) known in
       let b = neither (misuses names (use'.part name (map index (expression_list at)))) (list_any (misuses names) (use'.value e ∷ [])) right in
-      (element_known name at of.0 (part_use name (map index (expression_list at)) a.0 b.0), elements_known e (neither (has_unknown names e) false a.1).0 (neither (misuses_name names e) false b.1).0)
+      (element_known name at of (part_use name (map index (expression_list at)) a.0 b.0), elements_known e (neither (has_unknown names e) false a.1).0 (neither (misuses_name names e) false b.1).0)
   statement_known kind (copy line to to_dimensions from from_dimensions) of known right =
       let a = neither (is_unknown_use names (use'.part to to_dimensions)) (list_any (is_unknown_use names) (use'.part from from_dimensions ∷ [])) known in
       let b = neither (misuses names (use'.part to to_dimensions)) (list_any (misuses names) (use'.part from from_dimensions ∷ [])) right in
@@ -210,7 +210,7 @@ known_hold = record {
   moved_inside = λ place line other when holds. holds;
   said = λ names site place s at of fit passed.
       statement_known names place.containers at.containers site.kind s of (unknown_uses names site (statement_head s) passed) (right_uses names site (statement_head s) passed);
-  argument = λ names site place line name bits extents around depth passed. tt;
+  argument = λ names site place line name bits extents few around depth passed. tt;
   reduced = λ names site place line lambda from to axis identity at fit passed.
       let head = reduce_head lambda from to axis identity in
       let a = neither (is_unknown_use names (use'.part from [])) (list_any (is_unknown_use names) (use'.part to [] ∷ [])) (unknown_uses names site head passed) in

@@ -43,7 +43,7 @@ use Rattle.sd_line.specs.Reduction as reductions
 use Rattle.sd_line.specs.Consume as consumes
 use Rattle.sd_program.specs.Place.{length_of}
 use Rattle.sd_parse.proofs.readable.Passing.{false_is_not_true}
-use Rattle.sd_parse.proofs.readable.Heads.{IsFromOne, GoesOn, AreExtents, IsArgument, AreArguments, Fits, FitsTop, FitsBody, FitsTasklet}
+use Rattle.sd_parse.proofs.readable.Heads.{IsFromOne, levels_of_value, GoesOn, AreExtents, IsArgument, AreArguments, Fits, FitsTop, FitsBody, FitsTasklet}
 use Rattle.sd_parse.proofs.readable.Affine.{some_or, none_is_not_some}
 use Rattle.sd_parse.specs.Levels.{IsShallowCode, IsShallow}
 use Rattle.sd_program.specs.Bounds.{EachExpression, IfWritten}
@@ -216,229 +216,221 @@ top_forms text line ts =
 
 -- ---- bodies
 
-body_condition : (text : List ℕ) (ts : List Piece) → IfForm (IsShallow 64) (conditions.condition text true ts)
-body_condition text ts =
-    if-some (IsShallow 64) (at_mark Colon ts) (λ cut. if_empty cut.1 (expression text true 64 cut.0))
-    (λ cut _. if-empty (IsShallow 64) cut.1 (expression text true 64 cut.0) (body_expression text 64 cut.0))
+module _ (kind : BlockKind) where
+  body_condition : (text : List ℕ) (ts : List Piece) → IfForm (IsShallow 64) (conditions.condition text true ts)
+  body_condition text ts =
+      if-some (IsShallow 64) (at_mark Colon ts) (λ cut. if_empty cut.1 (expression text true 64 cut.0))
+      (λ cut _. if-empty (IsShallow 64) cut.1 (expression text true 64 cut.0) (body_expression text 64 cut.0))
 
-while_forms : (text : List ℕ) (line : ℕ) (ts : List Piece) → IfForm FitsBody (conditions.while_line text line ts)
-while_forms text line ts = if-map FitsBody _ (conditions.condition text true ts) (body_condition text ts)
+  while_forms : (text : List ℕ) (line : ℕ) (ts : List Piece) → IfForm (FitsBody kind) (conditions.while_line text line ts)
+  while_forms text line ts = if-map (FitsBody kind) _ (conditions.condition text true ts) (body_condition text ts)
 
-if_forms : (text : List ℕ) (line : ℕ) (ts : List Piece) → IfForm FitsBody (conditions.if_line text line ts)
-if_forms text line ts = if-map FitsBody _ (conditions.condition text true ts) (body_condition text ts)
+  if_forms : (text : List ℕ) (line : ℕ) (ts : List Piece) → IfForm (FitsBody kind) (conditions.if_line text line ts)
+  if_forms text line ts = if-map (FitsBody kind) _ (conditions.condition text true ts) (body_condition text ts)
 
-elif_forms : (text : List ℕ) (ts : List Piece) → IfForm FitsBody (conditions.elif_line text true ts)
-elif_forms text ts = if-map FitsBody _ (conditions.condition text true ts) (body_condition text ts)
+  elif_forms : (text : List ℕ) (ts : List Piece) → IfForm (FitsBody kind) (conditions.elif_line text true ts)
+  elif_forms text ts = if-map (FitsBody kind) _ (conditions.condition text true ts) (body_condition text ts)
 
-loop_forms : (text : List ℕ) (line : ℕ) (name : List ℕ) (parts : Few) → IfForm FitsBody (repetitions.loop_line text line name parts)
-loop_forms text line name (one_part end) =
-    if-map FitsBody (λ e. statement_head (for_loop line name None e None no_statement)) (expression text true 63 end)
-    (if-tells (IsShallow 63) (λ e. FitsBody (statement_head (for_loop line name None e None no_statement))) (expression text true 63 end) (λ e few'. (tt, (tt, few'))) (body_expression text 63 end))
-loop_forms text line name (two_parts begin end) =
-    if-both (IsShallow 64) (IsShallow 63) FitsBody _ (expression text true 64 begin) (expression text true 63 end) (body_expression text 64 begin) (body_expression text 63 end) (λ b e low high. (tt, (low, high)))
-loop_forms text line name (three_parts begin end step) =
-    if-some FitsBody (step_of step) (λ n. repetitions.loop_between text line name begin end (Some n))
-    (λ n is. if-both (IsShallow 64) (IsShallow 63) FitsBody _ (expression text true 64 begin) (expression text true 63 end) (body_expression text 64 begin) (body_expression text 63 end)
-    (λ b e low high. (from_one (lone_number step) n is, (low, high))))
-loop_forms text line name more_parts = tt
+  loop_forms : (text : List ℕ) (line : ℕ) (name : List ℕ) (parts : Few) → IfForm (FitsBody kind) (repetitions.loop_line text line name parts)
+  loop_forms text line name (one_part end) =
+      if-map (FitsBody kind) (λ e. statement_head (for_loop line name None e None no_statement)) (expression text true 63 end)
+      (if-tells (IsShallow 63) (λ e. (FitsBody kind) (statement_head (for_loop line name None e None no_statement))) (expression text true 63 end) (λ e few'. (tt, (tt, few'))) (body_expression text 63 end))
+  loop_forms text line name (two_parts begin end) =
+      if-both (IsShallow 64) (IsShallow 63) (FitsBody kind) _ (expression text true 64 begin) (expression text true 63 end) (body_expression text 64 begin) (body_expression text 63 end) (λ b e low high. (tt, (low, high)))
+  loop_forms text line name (three_parts begin end step) =
+      if-some (FitsBody kind) (step_of step) (λ n. repetitions.loop_between text line name begin end (Some n))
+      (λ n is. if-both (IsShallow 64) (IsShallow 63) (FitsBody kind) _ (expression text true 64 begin) (expression text true 63 end) (body_expression text 64 begin) (body_expression text 63 end)
+      (λ b e low high. (from_one (lone_number step) n is, (low, high))))
+  loop_forms text line name more_parts = tt
 
-loop_names_forms : (text : List ℕ) (line : ℕ) (names : List (List ℕ)) (inside : List Piece) → IfForm FitsBody (repetitions.loop_names text line names inside)
-loop_names_forms text line [] inside = tt
-loop_names_forms text line (name ∷ []) inside = loop_forms text line name (few (parts_of Comma inside))
-loop_names_forms text line (name ∷ other ∷ names) inside = tt
+  loop_names_forms : (text : List ℕ) (line : ℕ) (names : List (List ℕ)) (inside : List Piece) → IfForm (FitsBody kind) (repetitions.loop_names text line names inside)
+  loop_names_forms text line [] inside = tt
+  loop_names_forms text line (name ∷ []) inside = loop_forms text line name (few (parts_of Comma inside))
+  loop_names_forms text line (name ∷ other ∷ names) inside = tt
 
-map_forms : (text : List ℕ) (line : ℕ) (names : List (List ℕ)) (inside : List Piece) → IfForm FitsBody (repetitions.map_line text line names inside)
-map_forms text line names inside =
-    if-true FitsBody (nat_eq (length names) (length (parts_of Comma inside))) (reading_map (λ ranges. statement_head (map_scope line names ranges no_statement)) (slots text false inside))
-    (λ same. if-map FitsBody (λ ranges. statement_head (map_scope line names ranges no_statement)) (slots text false inside)
-    (counted same (slots text false inside) (if-counted (map (slot text false) (parts_of Comma inside))) (slots_forms text false inside))) where
-      counted : nat_eq (length names) (length (parts_of Comma inside)) ≡ true → (read : Reading (List Dimension)) → IfForm (λ list. length list ≡ length (map (slot text false) (parts_of Comma inside))) read →
-          IfForm (AllByRecursion GoesOn) read → IfForm (λ ranges. (length names ≡ length ranges) × AllByRecursion GoesOn ranges) read
-      counted same NoForm is on = tt
-      counted same TooDeep is on = tt
-      counted same (Form ranges) is on = (eqb-true (length names) (length (parts_of Comma inside)) same ∙ sym (is ∙ length-map (parts_of Comma inside) (slot text false)), on)
+  map_forms : (text : List ℕ) (line : ℕ) (names : List (List ℕ)) (inside : List Piece) → IfForm (FitsBody kind) (repetitions.map_line text line names inside)
+  map_forms text line names inside =
+      if-true (FitsBody kind) (nat_eq (length names) (length (parts_of Comma inside))) (reading_map (λ ranges. statement_head (map_scope line names ranges no_statement)) (slots text false inside))
+      (λ same. if-map (FitsBody kind) (λ ranges. statement_head (map_scope line names ranges no_statement)) (slots text false inside)
+      (counted same (slots text false inside) (if-counted (map (slot text false) (parts_of Comma inside))) (slots_forms text false inside))) where
+        counted : nat_eq (length names) (length (parts_of Comma inside)) ≡ true → (read : Reading (List Dimension)) → IfForm (λ list. length list ≡ length (map (slot text false) (parts_of Comma inside))) read →
+            IfForm (AllByRecursion GoesOn) read → IfForm (λ ranges. (length names ≡ length ranges) × AllByRecursion GoesOn ranges) read
+        counted same NoForm is on = tt
+        counted same TooDeep is on = tt
+        counted same (Form ranges) is on = (eqb-true (length names) (length (parts_of Comma inside)) same ∙ sym (is ∙ length-map (parts_of Comma inside) (slot text false)), on)
 
-for_forms : (text : List ℕ) (line : ℕ) (ts : List Piece) → IfForm FitsBody (repetitions.for_line text line ts)
-for_forms text line ts =
-    if-some FitsBody (repetitions.names_first text ts) (λ found. repetitions.for_names text line found.0 found.1) (λ found _. by_range found.0 found.1 (after text repetitions.in_range found.1)) where
-      by_map : (names : List (List ℕ)) (rest : Option (List Piece)) → IfForm FitsBody (repetitions.map_or_none text line names rest)
-      by_map names None = tt
-      by_map names (Some rest) = if-some FitsBody (header text (closed Square rest)) (repetitions.map_line text line names) (λ inside _. map_forms text line names inside)
+  for_forms : (text : List ℕ) (line : ℕ) (ts : List Piece) → IfForm (FitsBody kind) (repetitions.for_line text line ts)
+  for_forms text line ts =
+      if-some (FitsBody kind) (repetitions.names_first text ts) (λ found. repetitions.for_names text line found.0 found.1) (λ found _. by_range found.0 found.1 (after text repetitions.in_range found.1)) where
+        by_map : (names : List (List ℕ)) (rest : Option (List Piece)) → IfForm (FitsBody kind) (repetitions.map_or_none text line names rest)
+        by_map names None = tt
+        by_map names (Some rest) = if-some (FitsBody kind) (header text (closed Square rest)) (repetitions.map_line text line names) (λ inside _. map_forms text line names inside)
 
-      by_range : (names : List (List ℕ)) (ts : List Piece) (rest : Option (List Piece)) → IfForm FitsBody (repetitions.loop_or_map text line names ts rest)
-      by_range names ts (Some rest) = if-some FitsBody (header text (closed Round rest)) (repetitions.loop_names text line names) (λ inside _. loop_names_forms text line names inside)
-      by_range names ts None = by_map names (after text repetitions.in_map ts)
+        by_range : (names : List (List ℕ)) (ts : List Piece) (rest : Option (List Piece)) → IfForm (FitsBody kind) (repetitions.loop_or_map text line names ts rest)
+        by_range names ts (Some rest) = if-some (FitsBody kind) (header text (closed Round rest)) (repetitions.loop_names text line names) (λ inside _. loop_names_forms text line names inside)
+        by_range names ts None = by_map names (after text repetitions.in_map ts)
 
-consume_forms : (text : List ℕ) (ts : List Piece) → IfForm FitsBody (consumes.consume_line text ts)
-consume_forms text ts =
-    if-some FitsBody (name_first text ts) (λ found. if_some (in_brackets text found.1) (λ inside. consumes.consume_by text found.0 (few (parts_of Comma inside))))
-    (λ found _. if-some FitsBody (in_brackets text found.1) (λ inside. consumes.consume_by text found.0 (few (parts_of Comma inside))) (λ inside _. by_parts found.0 (few (parts_of Comma inside)))) where
-      by_parts : (name : List ℕ) (parts : Few) → IfForm FitsBody (consumes.consume_by text name parts)
-      by_parts name (one_part element) = if-some FitsBody (lone_name text element) (λ x. consumes.consumed name x None) (λ x _. tt)
-      by_parts name (two_parts element worker) =
-          if-some FitsBody (lone_name text element) (λ x. if_some (lone_name text worker) (λ p. consumes.consumed name x (Some p)))
-          (λ x _. if-some FitsBody (lone_name text worker) (λ p. consumes.consumed name x (Some p)) (λ p _. tt))
-      by_parts name (three_parts a b c) = tt
-      by_parts name more_parts = tt
+  consume_forms : (text : List ℕ) (ts : List Piece) → IfForm (FitsBody kind) (consumes.consume_line text ts)
+  consume_forms text ts =
+      if-some (FitsBody kind) (name_first text ts) (λ found. if_some (in_brackets text found.1) (λ inside. consumes.consume_by text found.0 (few (parts_of Comma inside))))
+      (λ found _. if-some (FitsBody kind) (in_brackets text found.1) (λ inside. consumes.consume_by text found.0 (few (parts_of Comma inside))) (λ inside _. by_parts found.0 (few (parts_of Comma inside)))) where
+        by_parts : (name : List ℕ) (parts : Few) → IfForm (FitsBody kind) (consumes.consume_by text name parts)
+        by_parts name (one_part element) = if-some (FitsBody kind) (lone_name text element) (λ x. consumes.consumed name x None) (λ x _. tt)
+        by_parts name (two_parts element worker) =
+            if-some (FitsBody kind) (lone_name text element) (λ x. if_some (lone_name text worker) (λ p. consumes.consumed name x (Some p)))
+            (λ x _. if-some (FitsBody kind) (lone_name text worker) (λ p. consumes.consumed name x (Some p)) (λ p _. tt))
+        by_parts name (three_parts a b c) = tt
+        by_parts name more_parts = tt
 
-decorator_forms : (text : List ℕ) (ts : List Piece) → IfForm FitsBody (consumes.decorator_line text ts)
-decorator_forms text ts =
-    if-some FitsBody (option_and_then (λ rest. whole (closed Round rest)) (after text consumes.decorator_phrase ts)) (λ inside. consumes.decorator_by text (few (parts_of Comma inside)))
-    (λ inside _. by_parts (few (parts_of Comma inside))) where
-      by_parts : (parts : Few) → IfForm FitsBody (consumes.decorator_by text parts)
-      by_parts (one_part a) = tt
-      by_parts (two_parts from size) =
-          if-some FitsBody (lone_name text from) (λ name. if_some (lone_number size) (λ n. Form (consume_decorator name n)))
-          (λ name _. if-some FitsBody (lone_number size) (λ n. Form (consume_decorator name n)) (λ n _. tt))
-      by_parts (three_parts a b c) = tt
-      by_parts more_parts = tt
+  decorator_forms : (text : List ℕ) (ts : List Piece) → IfForm (FitsBody kind) (consumes.decorator_line text ts)
+  decorator_forms text ts =
+      if-some (FitsBody kind) (option_and_then (λ rest. whole (closed Round rest)) (after text consumes.decorator_phrase ts)) (λ inside. consumes.decorator_by text (few (parts_of Comma inside)))
+      (λ inside _. by_parts (few (parts_of Comma inside))) where
+        by_parts : (parts : Few) → IfForm (FitsBody kind) (consumes.decorator_by text parts)
+        by_parts (one_part a) = tt
+        by_parts (two_parts from size) =
+            if-some (FitsBody kind) (lone_name text from) (λ name. if_some (lone_number size) (λ n. Form (consume_decorator name n)))
+            (λ name _. if-some (FitsBody kind) (lone_number size) (λ n. Form (consume_decorator name n)) (λ n _. tt))
+        by_parts (three_parts a b c) = tt
+        by_parts more_parts = tt
 
-reduce_forms : (text : List ℕ) (inside : List Piece) → IfForm FitsBody (reductions.reduce_line text inside)
-reduce_forms text inside =
-    if-some FitsBody (option_and_then (lambda_names text) (next text (codes "lambda") inside)) (reductions.reduce_names text) (λ names _. by_names names) where
-      by_lambda : (given : reductions.Containers) (r : Reading LambdaTree) → IfForm FitsBody (reductions.reduced given.from given.to given.options r)
-      by_lambda given r = if-map FitsBody (λ lambda. reduce_head lambda given.from given.to given.options.axis given.options.identity) r (any_form r)
+  reduce_forms : (text : List ℕ) (inside : List Piece) → IfForm (FitsBody kind) (reductions.reduce_line text inside)
+  reduce_forms text inside =
+      if-some (FitsBody kind) (option_and_then (lambda_names text) (next text (codes "lambda") inside)) (reductions.reduce_names text) (λ names _. by_names names) where
+        by_lambda : (given : reductions.Containers) (r : Reading LambdaTree) → IfForm (FitsBody kind) (reductions.reduced given.from given.to given.options r)
+        by_lambda given r = if-map (FitsBody kind) (λ lambda. reduce_head lambda given.from given.to given.options.axis given.options.identity) r (any_form r)
 
-      by_names : (names : LambdaNames) → IfForm FitsBody (reductions.reduce_names text names)
-      by_names names =
-          if-some FitsBody (at_mark Comma names.rest) (λ cut. if_some (reductions.containers text cut.1) (λ given. reductions.reduced given.from given.to given.options (lambda_by text names.first names.second cut.0)))
-          (λ cut _. if-some FitsBody (reductions.containers text cut.1) (λ given. reductions.reduced given.from given.to given.options (lambda_by text names.first names.second cut.0))
-          (λ given _. by_lambda given (lambda_by text names.first names.second cut.0)))
+        by_names : (names : LambdaNames) → IfForm (FitsBody kind) (reductions.reduce_names text names)
+        by_names names =
+            if-some (FitsBody kind) (at_mark Comma names.rest) (λ cut. if_some (reductions.containers text cut.1) (λ given. reductions.reduced given.from given.to given.options (lambda_by text names.first names.second cut.0)))
+            (λ cut _. if-some (FitsBody kind) (reductions.containers text cut.1) (λ given. reductions.reduced given.from given.to given.options (lambda_by text names.first names.second cut.0))
+            (λ given _. by_lambda given (lambda_by text names.first names.second cut.0)))
 
-declaration_forms : (text : List ℕ) (line : ℕ) (name : List ℕ) (ts : List Piece) → IfForm FitsBody (declarations.declaration_line text line name ts)
-declaration_forms text line name ts = by_local (after text declarations.define_local ts) where
-  by_parts : (parts : Few) → IfForm FitsBody (declarations.stream_line text line name parts)
-  by_parts (one_part a) = if-true FitsBody (declarations.is_type text a) (declarations.streamed line name None) (λ _. tt)
-  by_parts (two_parts a size) =
-      if-true FitsBody (declarations.is_type text a) (if_some (lone_number size) (λ n. declarations.streamed line name (Some n)))
-      (λ _. if-some FitsBody (lone_number size) (λ n. declarations.streamed line name (Some n)) (λ n _. tt))
-  by_parts (three_parts a b c) = tt
-  by_parts more_parts = tt
+  declaration_forms : (text : List ℕ) (line : ℕ) (name : List ℕ) (ts : List Piece) → IfForm (FitsBody kind) (declarations.declaration_line text line name ts)
+  declaration_forms text line name ts = by_local (after text declarations.define_local ts) where
+    by_parts : (parts : Few) → IfForm (FitsBody kind) (declarations.stream_line text line name parts)
+    by_parts (one_part a) = if-true (FitsBody kind) (declarations.is_type text a) (declarations.streamed line name None) (λ _. tt)
+    by_parts (two_parts a size) =
+        if-true (FitsBody kind) (declarations.is_type text a) (if_some (lone_number size) (λ n. declarations.streamed line name (Some n)))
+        (λ _. if-some (FitsBody kind) (lone_number size) (λ n. declarations.streamed line name (Some n)) (λ n _. tt))
+    by_parts (three_parts a b c) = tt
+    by_parts more_parts = tt
 
-  by_stream : (rest : Option (List Piece)) → IfForm FitsBody (declarations.stream_or_none text line name rest)
-  by_stream None = tt
-  by_stream (Some rest) = if-some FitsBody (whole (closed Round rest)) (λ inside. declarations.stream_line text line name (few (parts_of Comma inside))) (λ inside _. by_parts (few (parts_of Comma inside)))
+    by_stream : (rest : Option (List Piece)) → IfForm (FitsBody kind) (declarations.stream_or_none text line name rest)
+    by_stream None = tt
+    by_stream (Some rest) = if-some (FitsBody kind) (whole (closed Round rest)) (λ inside. declarations.stream_line text line name (few (parts_of Comma inside))) (λ inside _. by_parts (few (parts_of Comma inside)))
 
-  by_extents : (inside : List Piece) → IfForm FitsBody (reading_map (λ extents. statement_head (local_array line name (expressions_listed extents) 64)) (expressions text true 64 inside))
-  by_extents inside = if-map FitsBody (λ extents. statement_head (local_array line name (expressions_listed extents) 64)) (expressions text true 64 inside) (body_expressions text inside)
+    by_extents : (inside : List Piece) → IfForm (FitsBody kind) (reading_map (λ extents. statement_head (local_array line name (expressions_listed extents) 64)) (expressions text true 64 inside))
+    by_extents inside = if-map (FitsBody kind) (λ extents. statement_head (local_array line name (expressions_listed extents) 64)) (expressions text true 64 inside) (body_expressions text inside)
 
-  by_local : (rest : Option (List Piece)) → IfForm FitsBody (declarations.local_or_stream text line name ts rest)
-  by_local (Some rest) =
-      if-some FitsBody (whole (closed Round rest)) (declarations.local_line text line name)
-      (λ inside _. if-some FitsBody (bracketed Square inside) (λ cut. if_some (declarations.typed text cut.1) (λ rest. reading_map (λ extents. statement_head (local_array line name (expressions_listed extents) 64)) (expressions text true 64 cut.0)))
-      (λ cut _. if-some FitsBody (declarations.typed text cut.1) (λ rest. reading_map (λ extents. statement_head (local_array line name (expressions_listed extents) 64)) (expressions text true 64 cut.0)) (λ rest _. by_extents cut.0)))
-  by_local None = by_stream (after text declarations.define_stream ts)
+    by_local : (rest : Option (List Piece)) → IfForm (FitsBody kind) (declarations.local_or_stream text line name ts rest)
+    by_local (Some rest) =
+        if-some (FitsBody kind) (whole (closed Round rest)) (declarations.local_line text line name)
+        (λ inside _. if-some (FitsBody kind) (bracketed Square inside) (λ cut. if_some (declarations.typed text cut.1) (λ rest. reading_map (λ extents. statement_head (local_array line name (expressions_listed extents) 64)) (expressions text true 64 cut.0)))
+        (λ cut _. if-some (FitsBody kind) (declarations.typed text cut.1) (λ rest. reading_map (λ extents. statement_head (local_array line name (expressions_listed extents) 64)) (expressions text true 64 cut.0)) (λ rest _. by_extents cut.0)))
+    by_local None = by_stream (after text declarations.define_stream ts)
 
--- there is a part
-some_onto : (t : Piece) (ps : List (List Piece)) → 1 ≤ length (onto_first t ps)
-some_onto t [] = omega arith
-some_onto t (p ∷ ps) = omega arith
+  -- there is a part
+  some_onto : (t : Piece) (ps : List (List Piece)) → 1 ≤ length (onto_first t ps)
+  some_onto t [] = omega arith
+  some_onto t (p ∷ ps) = omega arith
 
-some_parted : (test : Bool) (t : Piece) (ps : List (List Piece)) → 1 ≤ length (parted test t ps)
-some_parted true t ps = omega arith
-some_parted false t ps = some_onto t ps
+  some_parted : (test : Bool) (t : Piece) (ps : List (List Piece)) → 1 ≤ length (parted test t ps)
+  some_parted true t ps = omega arith
+  some_parted false t ps = some_onto t ps
 
-some_part : (mark : Mark) (depth : ℕ) (ts : List Piece) → 1 ≤ length (parts_from mark depth ts)
-some_part mark depth [] = omega arith
-some_part mark depth (t ∷ ts) = some_parted (is_mark_outside mark depth t.word) t (parts_from mark (depth_after t.word depth) ts)
+  some_part : (mark : Mark) (depth : ℕ) (ts : List Piece) → 1 ≤ length (parts_from mark depth ts)
+  some_part mark depth [] = omega arith
+  some_part mark depth (t ∷ ts) = some_parted (is_mark_outside mark depth t.word) t (parts_from mark (depth_after t.word depth) ts)
 
-abbrev AreWritten : List Expression → Type 0
-AreWritten at = (1 ≤ length_of (expressions_listed at)) × EachExpression (IsShallow 64) (expressions_listed at)
+  abbrev AreWritten : List Expression → Type 0
+  AreWritten at = (1 ≤ length_of (expressions_listed at)) × EachExpression (IsShallow 64) (expressions_listed at)
 
-sum_levels : (kind : BlockKind) → elements.levels_of_sum kind ≤ 64
-sum_levels Top = omega arith
-sum_levels Program = omega arith
-sum_levels Scope = omega arith
-sum_levels Tasklet = omega arith
+  assign_forms : (text : List ℕ) (line : ℕ) (name : List ℕ) (add : Bool) (inside value : List Piece) → IfForm (FitsBody kind) (elements.assign_line text line name add (levels_of_value kind add) inside value)
+  assign_forms text line name add inside value =
+      if-both AreWritten (IsShallow (levels_of_value kind add)) (FitsBody kind) (elements.assigned line name add) (expressions text true 64 inside) (expression text true (levels_of_value kind add) value)
+      (if-and (λ at. 1 ≤ length_of (expressions_listed at)) (λ at. EachExpression (IsShallow 64) (expressions_listed at)) (expressions text true 64 inside)
+      (some_written (expressions text true 64 inside) (if-counted (map (expression text true 64) (parts_of Comma inside)))) (body_expressions text inside))
+      (body_expression text (levels_of_value kind add) value) (λ at e written few'. (written.0, (written.1, few'))) where
+        some_written : (read : Reading (List Expression)) → IfForm (λ list. length list ≡ length (map (expression text true 64) (parts_of Comma inside))) read → IfForm (λ at. 1 ≤ length_of (expressions_listed at)) read
+        some_written NoForm is = tt
+        some_written TooDeep is = tt
+        some_written (Form at) is = rw (listed_length at) (subst (λ n. 1 ≤ n) (sym (is ∙ length-map (parts_of Comma inside) (expression text true 64))) (some_part Comma 0 inside))
 
-value_forms : (text : List ℕ) (levels : ℕ) (ts : List Piece) → levels ≤ 64 → IfForm (IsShallow 64) (expression text true levels ts)
-value_forms text levels ts low = if-tells (IsShallow levels) (IsShallow 64) (expression text true levels ts) (λ e few'. (omega (arith, few'.0, low), few'.1)) (body_expression text levels ts)
+  element_forms : (text : List ℕ) (line : ℕ) (name : List ℕ) (inside behind : List Piece) → IfForm (FitsBody kind) (elements.element_line text kind line name inside behind)
+  element_forms text line name inside behind = by_colon (at_mark Colon inside) where
+    by_sum : (value : Option (List Piece)) → IfForm (FitsBody kind) (elements.sum_or_none text kind line name inside value)
+    by_sum None = tt
+    by_sum (Some value) = assign_forms text line name true inside value
 
-assign_forms : (text : List ℕ) (line : ℕ) (name : List ℕ) (add : Bool) (levels : ℕ) (inside value : List Piece) → levels ≤ 64 → IfForm FitsBody (elements.assign_line text line name add levels inside value)
-assign_forms text line name add levels inside value low =
-    if-both AreWritten (IsShallow 64) FitsBody (elements.assigned line name add) (expressions text true 64 inside) (expression text true levels value)
-    (if-and (λ at. 1 ≤ length_of (expressions_listed at)) (λ at. EachExpression (IsShallow 64) (expressions_listed at)) (expressions text true 64 inside)
-    (some_written (expressions text true 64 inside) (if-counted (map (expression text true 64) (parts_of Comma inside)))) (body_expressions text inside))
-    (value_forms text levels value low) (λ at e written few'. (written.0, (written.1, few'))) where
-      some_written : (read : Reading (List Expression)) → IfForm (λ list. length list ≡ length (map (expression text true 64) (parts_of Comma inside))) read → IfForm (λ at. 1 ≤ length_of (expressions_listed at)) read
-      some_written NoForm is = tt
-      some_written TooDeep is = tt
-      some_written (Form at) is = rw (listed_length at) (subst (λ n. 1 ≤ n) (sym (is ∙ length-map (parts_of Comma inside) (expression text true 64))) (some_part Comma 0 inside))
+    by_equals : (value : Option (List Piece)) → IfForm (FitsBody kind) (elements.assign_or_sum text kind line name inside behind value)
+    by_equals (Some value) = assign_forms text line name false inside value
+    by_equals None = by_sum (next text (codes "+=") behind)
 
-element_forms : (text : List ℕ) (kind : BlockKind) (line : ℕ) (name : List ℕ) (inside behind : List Piece) → IfForm FitsBody (elements.element_line text kind line name inside behind)
-element_forms text kind line name inside behind = by_colon (at_mark Colon inside) where
-  by_sum : (value : Option (List Piece)) → IfForm FitsBody (elements.sum_or_none text kind line name inside value)
-  by_sum None = tt
-  by_sum (Some value) = assign_forms text line name true (elements.levels_of_sum kind) inside value (sum_levels kind)
+    sides : (from : List ℕ) (inner : List Piece) → IfForm (FitsBody kind) (both (elements.copied line name from) (slots text true inside) (slots text true inner))
+    sides from inner =
+        if-both (AllByRecursion GoesOn) (AllByRecursion GoesOn) (FitsBody kind) (elements.copied line name from) (slots text true inside) (slots text true inner) (slots_forms text true inside) (slots_forms text true inner)
+        (λ a b first second. (first, second))
 
-  by_equals : (value : Option (List Piece)) → IfForm FitsBody (elements.assign_or_sum text kind line name inside behind value)
-  by_equals (Some value) = assign_forms text line name false 64 inside value (omega arith)
-  by_equals None = by_sum (next text (codes "+=") behind)
+    by_colon : (range' : Option (List Piece × List Piece)) → IfForm (FitsBody kind) (elements.element_by text kind line name inside behind range')
+    by_colon (Some range') =
+        if-some (FitsBody kind) (next text (codes "=") behind) (elements.copy_line text line name inside)
+        (λ ts _. if-some (FitsBody kind) (name_first text ts) (λ found. if_some (whole (bracketed Square found.1)) (λ inner. both (elements.copied line name found.0) (slots text true inside) (slots text true inner)))
+        (λ found _. if-some (FitsBody kind) (whole (bracketed Square found.1)) (λ inner. both (elements.copied line name found.0) (slots text true inside) (slots text true inner)) (λ inner _. sides found.0 inner)))
+    by_colon None = by_equals (next text (codes "=") behind)
 
-  sides : (from : List ℕ) (inner : List Piece) → IfForm FitsBody (both (elements.copied line name from) (slots text true inside) (slots text true inner))
-  sides from inner =
-      if-both (AllByRecursion GoesOn) (AllByRecursion GoesOn) FitsBody (elements.copied line name from) (slots text true inside) (slots text true inner) (slots_forms text true inside) (slots_forms text true inner)
-      (λ a b first second. (first, second))
+  abbrev OnArgument : List ℕ × List Dimension → Type 0
+  OnArgument argument = AllByRecursion GoesOn argument.1
 
-  by_colon : (range' : Option (List Piece × List Piece)) → IfForm FitsBody (elements.element_by text kind line name inside behind range')
-  by_colon (Some range') =
-      if-some FitsBody (next text (codes "=") behind) (elements.copy_line text line name inside)
-      (λ ts _. if-some FitsBody (name_first text ts) (λ found. if_some (whole (bracketed Square found.1)) (λ inner. both (elements.copied line name found.0) (slots text true inside) (slots text true inner)))
-      (λ found _. if-some FitsBody (whole (bracketed Square found.1)) (λ inner. both (elements.copied line name found.0) (slots text true inside) (slots text true inner)) (λ inner _. sides found.0 inner)))
-  by_colon None = by_equals (next text (codes "=") behind)
+  call_forms : (text : List ℕ) (line : ℕ) (name : List ℕ) (inside : List Piece) → IfForm (FitsBody kind) (calls.call_line text line name inside)
+  call_forms text line name inside =
+      if-map (FitsBody kind) (λ arguments. statement_head (call line name arguments)) (listed (map (calls.call_argument text) (parts_of Comma inside)))
+      (if-listed OnArgument (map (calls.call_argument text) (parts_of Comma inside)) (each-mapped (IfForm OnArgument) (calls.call_argument text) (parts_of Comma inside) one_argument)) where
+        one_argument : (part : List Piece) → IfForm OnArgument (calls.call_argument text part)
+        one_argument part =
+            if-some OnArgument (name_first text part) (λ found. reading_map (λ dimensions. (found.0, dimensions)) (subset text found.1))
+            (λ found _. if-map OnArgument (λ dimensions. (found.0, dimensions)) (subset text found.1) (subset_forms text found.1))
 
-abbrev OnArgument : List ℕ × List Dimension → Type 0
-OnArgument argument = AllByRecursion GoesOn argument.1
+  word_forms : (text : List ℕ) (line : ℕ) (t : Piece) (ts : List Piece) → IfForm (FitsBody kind) (body.word_line text line t ts)
+  word_forms text line t ts = first where
+    fifth : IfForm (FitsBody kind) (if is_spelled text t (codes "def") then consumes.consume_line text ts else NoForm)
+    fifth = if-either (FitsBody kind) (is_spelled text t (codes "def")) (consumes.consume_line text ts) NoForm (consume_forms text ts) tt
 
-call_forms : (text : List ℕ) (line : ℕ) (name : List ℕ) (inside : List Piece) → IfForm FitsBody (calls.call_line text line name inside)
-call_forms text line name inside =
-    if-map FitsBody (λ arguments. statement_head (call line name arguments)) (listed (map (calls.call_argument text) (parts_of Comma inside)))
-    (if-listed OnArgument (map (calls.call_argument text) (parts_of Comma inside)) (each-mapped (IfForm OnArgument) (calls.call_argument text) (parts_of Comma inside) one_argument)) where
-      one_argument : (part : List Piece) → IfForm OnArgument (calls.call_argument text part)
-      one_argument part =
-          if-some OnArgument (name_first text part) (λ found. reading_map (λ dimensions. (found.0, dimensions)) (subset text found.1))
-          (λ found _. if-map OnArgument (λ dimensions. (found.0, dimensions)) (subset text found.1) (subset_forms text found.1))
+    fourth : IfForm (FitsBody kind) (if is_spelled text t (codes "elif") then conditions.elif_line text true ts else (if is_spelled text t (codes "def") then consumes.consume_line text ts else NoForm))
+    fourth = if-either (FitsBody kind) (is_spelled text t (codes "elif")) (conditions.elif_line text true ts) _ (elif_forms text ts) fifth
 
-word_forms : (text : List ℕ) (line : ℕ) (t : Piece) (ts : List Piece) → IfForm FitsBody (body.word_line text line t ts)
-word_forms text line t ts = first where
-  fifth : IfForm FitsBody (if is_spelled text t (codes "def") then consumes.consume_line text ts else NoForm)
-  fifth = if-either FitsBody (is_spelled text t (codes "def")) (consumes.consume_line text ts) NoForm (consume_forms text ts) tt
+    third : IfForm (FitsBody kind) (if is_spelled text t (codes "if") then conditions.if_line text line ts else (if is_spelled text t (codes "elif") then conditions.elif_line text true ts else (if is_spelled text t (codes "def") then consumes.consume_line text ts else NoForm)))
+    third = if-either (FitsBody kind) (is_spelled text t (codes "if")) (conditions.if_line text line ts) _ (if_forms text line ts) fourth
 
-  fourth : IfForm FitsBody (if is_spelled text t (codes "elif") then conditions.elif_line text true ts else (if is_spelled text t (codes "def") then consumes.consume_line text ts else NoForm))
-  fourth = if-either FitsBody (is_spelled text t (codes "elif")) (conditions.elif_line text true ts) _ (elif_forms text ts) fifth
+    first : IfForm (FitsBody kind) (body.word_line text line t ts)
+    first = if-either (FitsBody kind) (is_spelled text t (codes "for")) (repetitions.for_line text line ts) _ (for_forms text line ts)
+        (if-either (FitsBody kind) (is_spelled text t (codes "while")) (conditions.while_line text line ts) _ (while_forms text line ts) third)
 
-  third : IfForm FitsBody (if is_spelled text t (codes "if") then conditions.if_line text line ts else (if is_spelled text t (codes "elif") then conditions.elif_line text true ts else (if is_spelled text t (codes "def") then consumes.consume_line text ts else NoForm)))
-  third = if-either FitsBody (is_spelled text t (codes "if")) (conditions.if_line text line ts) _ (if_forms text line ts) fourth
+  first_word_forms : (text : List ℕ) (line : ℕ) (ts : List Piece) → IfForm (FitsBody kind) (body.first_word_line text line ts)
+  first_word_forms text line [] = tt
+  first_word_forms text line (t ∷ ts) = word_forms text line t ts
 
-  first : IfForm FitsBody (body.word_line text line t ts)
-  first = if-either FitsBody (is_spelled text t (codes "for")) (repetitions.for_line text line ts) _ (for_forms text line ts)
-      (if-either FitsBody (is_spelled text t (codes "while")) (conditions.while_line text line ts) _ (while_forms text line ts) third)
+  pub body_forms : (text : List ℕ) (line : ℕ) (ts : List Piece) → IfForm (FitsBody kind) (body.body_line text kind line ts)
+  body_forms text line [] = tt
+  body_forms text line (t ∷ ts) =
+      if-either (FitsBody kind) (is_name t.word) (body.body_named_line text kind line t ts (t ∷ ts)) (consumes.decorator_line text (t ∷ ts)) (by_declaration (next text (codes "=") ts)) (decorator_forms text (t ∷ ts)) where
+        by_reduce : (rest : Option (List Piece)) → IfForm (FitsBody kind) (body.reduce_or_word text line (t ∷ ts) rest)
+        by_reduce (Some rest) = if-some (FitsBody kind) (whole (closed Round rest)) (reductions.reduce_line text) (λ inside _. reduce_forms text inside)
+        by_reduce None =
+            if-either (FitsBody kind) (is_phrase text body.tasklet_phrase (t ∷ ts)) (Form (statement_head (tasklet line no_statement))) _ tt
+            (if-either (FitsBody kind) (is_phrase text conditions.else_phrase (t ∷ ts)) (Form else_head) (body.first_word_line text line (t ∷ ts)) tt (first_word_forms text line (t ∷ ts)))
 
-first_word_forms : (text : List ℕ) (line : ℕ) (ts : List Piece) → IfForm FitsBody (body.first_word_line text line ts)
-first_word_forms text line [] = tt
-first_word_forms text line (t ∷ ts) = word_forms text line t ts
+        by_call : (inside : Option (List Piece)) → IfForm (FitsBody kind) (body.call_or_keyword text line t (t ∷ ts) inside)
+        by_call (Some inside) = call_forms text line (spelling text t) inside
+        by_call None = by_reduce (after text body.reduce_phrase (t ∷ ts))
 
-pub body_forms : (text : List ℕ) (kind : BlockKind) (line : ℕ) (ts : List Piece) → IfForm FitsBody (body.body_line text kind line ts)
-body_forms text kind line [] = tt
-body_forms text kind line (t ∷ ts) =
-    if-either FitsBody (is_name t.word) (body.body_named_line text kind line t ts (t ∷ ts)) (consumes.decorator_line text (t ∷ ts)) (by_declaration (next text (codes "=") ts)) (decorator_forms text (t ∷ ts)) where
-      by_reduce : (rest : Option (List Piece)) → IfForm FitsBody (body.reduce_or_word text line (t ∷ ts) rest)
-      by_reduce (Some rest) = if-some FitsBody (whole (closed Round rest)) (reductions.reduce_line text) (λ inside _. reduce_forms text inside)
-      by_reduce None =
-          if-either FitsBody (is_phrase text body.tasklet_phrase (t ∷ ts)) (Form (statement_head (tasklet line no_statement))) _ tt
-          (if-either FitsBody (is_phrase text conditions.else_phrase (t ∷ ts)) (Form else_head) (body.first_word_line text line (t ∷ ts)) tt (first_word_forms text line (t ∷ ts)))
+        by_element : (cut : Option (List Piece × List Piece)) → IfForm (FitsBody kind) (body.element_or_call text kind line t ts (t ∷ ts) cut)
+        by_element (Some cut) = element_forms text line (spelling text t) cut.0 cut.1
+        by_element None = by_call (whole (bracketed Round ts))
 
-      by_call : (inside : Option (List Piece)) → IfForm FitsBody (body.call_or_keyword text line t (t ∷ ts) inside)
-      by_call (Some inside) = call_forms text line (spelling text t) inside
-      by_call None = by_reduce (after text body.reduce_phrase (t ∷ ts))
-
-      by_element : (cut : Option (List Piece × List Piece)) → IfForm FitsBody (body.element_or_call text kind line t ts (t ∷ ts) cut)
-      by_element (Some cut) = element_forms text kind line (spelling text t) cut.0 cut.1
-      by_element None = by_call (whole (bracketed Round ts))
-
-      by_declaration : (behind : Option (List Piece)) → IfForm FitsBody (body.declaration_or_element text kind line t ts (t ∷ ts) behind)
-      by_declaration (Some behind) = declaration_forms text line (spelling text t) behind
-      by_declaration None = by_element (bracketed Square ts)
+        by_declaration : (behind : Option (List Piece)) → IfForm (FitsBody kind) (body.declaration_or_element text kind line t ts (t ∷ ts) behind)
+        by_declaration (Some behind) = declaration_forms text line (spelling text t) behind
+        by_declaration None = by_element (bracketed Square ts)
 
 -- ---- tasklets
 
@@ -495,8 +487,8 @@ tasklet_forms text line (t ∷ ts) = if-either FitsTasklet (is_name t.word) (tas
 -- a line says what its kind of block allows
 line_forms : (text : List ℕ) (kind : BlockKind) (line : ℕ) (ts : List Piece) → IfForm (Fits kind) (line_by text kind line ts)
 line_forms text Top line ts = top_forms text line ts
-line_forms text Program line ts = body_forms text Program line ts
-line_forms text Scope line ts = body_forms text Scope line ts
+line_forms text Program line ts = body_forms Program text line ts
+line_forms text Scope line ts = body_forms Scope text line ts
 line_forms text Tasklet line ts = tasklet_forms text line ts
 
 pub head_forms : (text : List ℕ) (kind : BlockKind) (line : ℕ) (ts : List Piece) → IfForm (Fits kind) (head_of text kind line ts)

@@ -137,7 +137,7 @@ steps_hold = record {
   taken = λ line from size name element worker. tt;
   put_in = λ names site line connector memlet on passed. dimension_steps memlet.dimensions on (short names site (input_head connector memlet) passed).0;
   put_out = λ names site line connector memlet on passed. dimension_steps memlet.dimensions on (short names site (output_head connector memlet) passed).0;
-  other = λ names site line when fit passed. branch_steps site.kind line when;
+  other = λ names site line when passed. branch_steps site.kind line when;
 }
 
 -- ---- dimensions
@@ -222,7 +222,7 @@ dimensions_hold = record {
   taken = λ line from size name element worker. tt;
   put_in = λ names site line connector memlet on passed. tt;
   put_out = λ names site line connector memlet on passed. tt;
-  other = λ names site line when fit passed. branch_dimensions site.kind line when;
+  other = λ names site line when passed. branch_dimensions site.kind line when;
 }
 
 -- ---- parameters
@@ -303,5 +303,5 @@ parameters_hold = record {
   taken = λ line from size name element worker. tt;
   put_in = λ names site line connector memlet on passed. tt;
   put_out = λ names site line connector memlet on passed. tt;
-  other = λ names site line when fit passed. branch_parameters site.kind line when;
+  other = λ names site line when passed. branch_parameters site.kind line when;
 }

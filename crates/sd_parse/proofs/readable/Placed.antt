@@ -21,7 +21,7 @@ use Rattle.sd_program.specs.Names.{Named, in_force}
 use Rattle.sd_program.specs.Calls.{argument_counts}
 use Rattle.sd_program.specs.Declared.{containers_in_all}
 use Rattle.sd_program.specs.Place.{Holder, Around, program, scope, task, signature, Place, behind, behind_all, past, past_all, in_map, in_tasklet, in_loop, in_consume, in_signature, in_function, EveryAt, EveryFrom, EveryFunction}
-use Rattle.sd_parse.proofs.readable.Heads.{IsOfLine, Fits, IsInner, IsIf, AreNested}
+use Rattle.sd_parse.proofs.readable.Heads.{AreExtents, IsOfLine, Fits, IsInner, IsIf, AreNested}
 use Rattle.sd_parse.proofs.readable.Passing.{Passes}
 use Rattle.sd_parse.proofs.readable.Trees.{bare}
 use Rattle.sd_parse.proofs.readable.InForce.{Agrees, take-put, length-put}
@@ -219,7 +219,7 @@ module _ (Holds : Place → StatementTree → Type 0) where
     pub moved : (place : Place) (line other : ℕ) (when : Expression) → Holds place (branch line when no_statement no_statement) → Holds place (branch other when no_statement no_statement)
     pub moved_inside : (place : Place) (line other : ℕ) (when : Expression) → Holds place (tasklet_branch line when no_statement no_statement) → Holds place (tasklet_branch other when no_statement no_statement)
     pub said : (names : Names) (site : Site) (place : Place) (s : StatementTree) → IsAt names site place → IsOfLine s → Fits site.kind (statement_head s) → Passes names site (statement_head s) → Holds place s
-    pub argument : (names : Names) (site : Site) (place : Place) (line : ℕ) (name : Name) (bits : ℕ) (extents : Expressions) → place.around ≡ signature → place.depth ≡ 0 →
+    pub argument : (names : Names) (site : Site) (place : Place) (line : ℕ) (name : Name) (bits : ℕ) (extents : Expressions) → AreExtents extents → place.around ≡ signature → place.depth ≡ 0 →
         Passes names site (statement_head (argument_array line name bits extents)) → Holds place (argument_array line name bits extents)
     pub reduced : (names : Names) (site : Site) (place : Place) (line : ℕ) (lambda : LambdaTree) (from to : Name) (axis identity : Option ℤ) → IsAt names site place →
         Fits site.kind (reduce_head lambda from to axis identity) → Passes names site (reduce_head lambda from to axis identity) → Holds place (reduce line (lambda_or_last (kind_in lambda)) from to axis identity)

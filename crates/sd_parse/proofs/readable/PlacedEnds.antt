@@ -31,7 +31,7 @@ use Rattle.sd_program.specs.Declared.{containers_in_all}
 use Rattle.sd_program.specs.Place.{of_dimensions, Place, dimensions_of, behind, behind_all, past_all, in_consume, in_signature, in_function, EveryAt, EveryFrom, EveryFunction}
 use Rattle.sd_lex.specs.StatementKind.{has_connector}
 use Rattle.sd_parse.proofs.readable.Ahead.{is_consumer, EndsRight}
-use Rattle.sd_parse.proofs.readable.Heads.{Fits, IsIf, if_inner, Opens, IsInner, IsBody, IsOpenedIn, IsFile, AreNested}
+use Rattle.sd_parse.proofs.readable.Heads.{AreExtents, Fits, IsIf, if_inner, Opens, IsInner, IsBody, IsOpenedIn, IsFile, AreNested}
 use Rattle.sd_parse.proofs.readable.Passing.{Passes, passes, false_is_not_true}
 use Rattle.sd_parse.proofs.readable.Steps.{IsFunction, IsBegun, IsWellNested, IsAccepted, AwaitsNoDef, Keeps, behind_branch, behind_other}
 use Rattle.sd_parse.proofs.readable.Nesting.{top_is_file}
@@ -369,9 +369,9 @@ module _ (Holds : Place → StatementTree → Type 0) (lines : HoldsInPlaces Hol
   by_function (if_block earlier when) is go = absurd is
   by_function (else_block earlier) is go = absurd is
 
-  pub argument_kept : (context : Context) (line : ℕ) (is_tasklet' : Bool) (at : ℕ) (name : Name) (bits : ℕ) (extents : Expressions) → IsBegun context → IsAccepted context (statement_head (argument_array at name bits extents)) → IsWellNested context →
+  pub argument_kept : (context : Context) (line : ℕ) (is_tasklet' : Bool) (at : ℕ) (name : Name) (bits : ℕ) (extents : Expressions) → AreExtents extents → IsBegun context → IsAccepted context (statement_head (argument_array at name bits extents)) → IsWellNested context →
       HoldsSoFar Holds context → HoldsSoFar Holds (context_after context line is_tasklet' (statement_head (argument_array at name bits extents)))
-  argument_kept context line is_tasklet' at name bits extents begun accepted' shape good =
+  argument_kept context line is_tasklet' at name bits extents few begun accepted' shape good =
       by_function context.block.opener begun.1
       (λ program_name is.
       let programs' = reverse context.functions in
@@ -388,7 +388,7 @@ module _ (Holds : Place → StatementTree → Type 0) (lines : HoldsInPlaces Hol
         outside = argument_outside programs' (context.arguments ++ a ∷ []) known context.block context.outer program_name is;
         programs = good.programs;
         arguments = from-joined Holds (in_signature programs') context.arguments (a ∷ []) good.arguments
-            (lines.argument context.names (site_of context) (over context.arguments (in_signature programs')) at name bits extents refl refl (passes context.names (site_of context) (statement_head a) accepted'), tt);
+            (lines.argument context.names (site_of context) (over context.arguments (in_signature programs')) at name bits extents few refl refl (passes context.names (site_of context) (statement_head a) accepted'), tt);
         functions = good.functions;
         counted = length-append context.parameters _ ∙ ap (λ n. n + 1) good.counted ∙ sym (count-joined context.arguments (a ∷ []));
         awaits = tt;
@@ -579,7 +579,7 @@ module _ (Holds : Place → StatementTree → Type 0) (lines : HoldsInPlaces Hol
       awaits = tt;
     };
     pass = λ context line is_tasklet' head fit due accepted' shape good. pass_kept Holds lines context line is_tasklet' head fit due accepted' shape good;
-    argument = λ context line is_tasklet' at name bits extents few begun accepted' shape good. argument_kept context line is_tasklet' at name bits extents begun accepted' shape good;
+    argument = λ context line is_tasklet' at name bits extents few begun accepted' shape good. argument_kept context line is_tasklet' at name bits extents few begun accepted' shape good;
     close = λ context counts free counted right shape good. close_kept context.outer (record context { counts = counts }) refl free right shape (recounted context counts good);
     go_on = λ context counts about outer line head free is on counted fit accepted' shape good. go_on_kept context counts about outer line head free is on fit accepted' shape good;
   }

@@ -205,45 +205,45 @@ fill_place scope s holds = fill_Scope s holds
 fill_place task s holds = fill_Tasklet s holds
 fill_place signature s holds = fill_Signature s holds
 
-body_stands : (s : StatementTree) → IsBodyStatement s → StandsInProgram s
-body_stands (argument_array at name bits extents) fit = absurd fit
-body_stands (local_array at name extents bits) fit = tt
-body_stands (local_stream at name bits size) fit = tt
-body_stands (assign at name subscripts add value) fit = tt
-body_stands (copy at to to_dimensions from from_dimensions) fit = tt
-body_stands (reduce at lambda from to axis identity) fit = absurd fit
-body_stands (map_scope at parameters ranges body) fit = tt
-body_stands (tasklet at body) fit = tt
-body_stands (consume_scope at from size name element worker body) fit = absurd fit
-body_stands (call at name arguments) fit = tt
-body_stands (for_loop at name begin end step body) fit = tt
-body_stands (while_loop at when body) fit = tt
-body_stands (branch at when body other) fit = tt
-body_stands (input at connector memlet) fit = absurd fit
-body_stands (output at connector memlet) fit = absurd fit
-body_stands (set at name value) fit = absurd fit
-body_stands (set_at at name subscripts value) fit = absurd fit
-body_stands (tasklet_branch at when body other) fit = absurd fit
+body_stands : (kind : BlockKind) (s : StatementTree) → IsBodyStatement kind s → StandsInProgram s
+body_stands kind (argument_array at name bits extents) fit = absurd fit
+body_stands kind (local_array at name extents bits) fit = tt
+body_stands kind (local_stream at name bits size) fit = tt
+body_stands kind (assign at name subscripts add value) fit = tt
+body_stands kind (copy at to to_dimensions from from_dimensions) fit = tt
+body_stands kind (reduce at lambda from to axis identity) fit = absurd fit
+body_stands kind (map_scope at parameters ranges body) fit = tt
+body_stands kind (tasklet at body) fit = tt
+body_stands kind (consume_scope at from size name element worker body) fit = absurd fit
+body_stands kind (call at name arguments) fit = tt
+body_stands kind (for_loop at name begin end step body) fit = tt
+body_stands kind (while_loop at when body) fit = tt
+body_stands kind (branch at when body other) fit = tt
+body_stands kind (input at connector memlet) fit = absurd fit
+body_stands kind (output at connector memlet) fit = absurd fit
+body_stands kind (set at name value) fit = absurd fit
+body_stands kind (set_at at name subscripts value) fit = absurd fit
+body_stands kind (tasklet_branch at when body other) fit = absurd fit
 
-scope_stands : (s : StatementTree) → IsBodyStatement s → block_is_misplaced Scope s ≡ false → StandsInScope s
-scope_stands (argument_array at name bits extents) fit placed = absurd fit
-scope_stands (local_array at name extents bits) fit placed = tt
-scope_stands (local_stream at name bits size) fit placed = tt
-scope_stands (assign at name subscripts add value) fit placed = tt
-scope_stands (copy at to to_dimensions from from_dimensions) fit placed = tt
-scope_stands (reduce at lambda from to axis identity) fit placed = absurd fit
-scope_stands (map_scope at parameters ranges body) fit placed = tt
-scope_stands (tasklet at body) fit placed = tt
-scope_stands (consume_scope at from size name element worker body) fit placed = absurd fit
-scope_stands (call at name arguments) fit placed = tt
-scope_stands (for_loop at name begin end step body) fit placed = true_is_not_false placed
-scope_stands (while_loop at when body) fit placed = true_is_not_false placed
-scope_stands (branch at when body other) fit placed = true_is_not_false placed
-scope_stands (input at connector memlet) fit placed = absurd fit
-scope_stands (output at connector memlet) fit placed = absurd fit
-scope_stands (set at name value) fit placed = absurd fit
-scope_stands (set_at at name subscripts value) fit placed = absurd fit
-scope_stands (tasklet_branch at when body other) fit placed = absurd fit
+scope_stands : (kind : BlockKind) (s : StatementTree) → IsBodyStatement kind s → block_is_misplaced Scope s ≡ false → StandsInScope s
+scope_stands kind (argument_array at name bits extents) fit placed = absurd fit
+scope_stands kind (local_array at name extents bits) fit placed = tt
+scope_stands kind (local_stream at name bits size) fit placed = tt
+scope_stands kind (assign at name subscripts add value) fit placed = tt
+scope_stands kind (copy at to to_dimensions from from_dimensions) fit placed = tt
+scope_stands kind (reduce at lambda from to axis identity) fit placed = absurd fit
+scope_stands kind (map_scope at parameters ranges body) fit placed = tt
+scope_stands kind (tasklet at body) fit placed = tt
+scope_stands kind (consume_scope at from size name element worker body) fit placed = absurd fit
+scope_stands kind (call at name arguments) fit placed = tt
+scope_stands kind (for_loop at name begin end step body) fit placed = true_is_not_false placed
+scope_stands kind (while_loop at when body) fit placed = true_is_not_false placed
+scope_stands kind (branch at when body other) fit placed = true_is_not_false placed
+scope_stands kind (input at connector memlet) fit placed = absurd fit
+scope_stands kind (output at connector memlet) fit placed = absurd fit
+scope_stands kind (set at name value) fit placed = absurd fit
+scope_stands kind (set_at at name subscripts value) fit placed = absurd fit
+scope_stands kind (tasklet_branch at when body other) fit placed = absurd fit
 
 tasklet_stands : (s : StatementTree) → IsTaskletStatement s → StandsInTasklet s
 tasklet_stands (argument_array at name bits extents) fit = absurd fit
@@ -267,8 +267,8 @@ tasklet_stands (tasklet_branch at when body other) fit = tt
 
 line_stands : (kind : BlockKind) (s : StatementTree) → Fits kind (statement_head s) → block_is_misplaced kind s ≡ false → StandsIn (around_of kind) s
 line_stands Top s fit placed = absurd fit
-line_stands Program s fit placed = body_stands s fit
-line_stands Scope s fit placed = scope_stands s fit placed
+line_stands Program s fit placed = body_stands Program s fit
+line_stands Scope s fit placed = scope_stands Scope s fit placed
 line_stands Tasklet s fit placed = tasklet_stands s fit
 
 placed_line : (names : Names) (site : Site) (s : StatementTree) → Passes names site (statement_head s) → block_is_misplaced site.kind s ≡ false
@@ -328,7 +328,7 @@ forms_hold = record {
   moved = λ place line other when holds. moved_branch place.around line other when holds;
   moved_inside = λ place line other when holds. moved_when place.around line other when holds;
   said = λ names site place s at of fit passed. subst (λ around. StandsIn around s) (sym at.around) (line_stands site.kind s fit (placed_line names site s passed));
-  argument = λ names site place line name bits extents around depth passed. subst (λ around. StandsIn around (argument_array line name bits extents)) (sym around) tt;
+  argument = λ names site place line name bits extents few around depth passed. subst (λ around. StandsIn around (argument_array line name bits extents)) (sym around) tt;
   reduced = λ names site place line lambda from to axis identity at fit passed. standing (reduce line (lambda_or_last (kind_in lambda)) from to axis identity) place.around (around_of site.kind) at.around (reduce_stands site.kind line lambda from to axis identity fit);
   decorated = λ names site place from size at fit passed line name element worker. standing (consume_scope line from size name element worker no_statement) place.around (around_of site.kind) at.around (consume_stands site.kind from size line name element worker fit);
   put_in = λ names site place line connector memlet at fit passed. standing (input line connector (memlet_of memlet)) place.around (around_of site.kind) at.around (input_stands site.kind line connector memlet fit);
@@ -351,7 +351,7 @@ depths_hold = record {
   moved = λ place line other when holds. holds;
   moved_inside = λ place line other when holds. holds;
   said = λ names site place s at of fit passed. few_about names site (statement_head s) place at.depth passed;
-  argument = λ names site place line name bits extents around depth passed. subst (λ n. n ≤ 7) (sym depth) (ltb-false 7 0 refl);
+  argument = λ names site place line name bits extents few around depth passed. subst (λ n. n ≤ 7) (sym depth) (ltb-false 7 0 refl);
   reduced = λ names site place line lambda from to axis identity at fit passed. few_about names site (reduce_head lambda from to axis identity) place at.depth passed;
   decorated = λ names site place from size at fit passed line name element worker. few_about names site (consume_decorator from size) place at.depth passed;
   put_in = λ names site place line connector memlet at fit passed. few_about names site (input_head connector memlet) place at.depth passed;
@@ -457,7 +457,7 @@ calls_hold = record {
   moved = λ place line other when holds. holds;
   moved_inside = λ place line other when holds. holds;
   said = λ names site place s at of fit passed. said_calls names site place s at.programs passed;
-  argument = λ names site place line name bits extents around depth passed. tt;
+  argument = λ names site place line name bits extents few around depth passed. tt;
   reduced = λ names site place line lambda from to axis identity at fit passed. tt;
   decorated = λ names site place from size at fit passed line name element worker. tt;
   put_in = λ names site place line connector memlet at fit passed. tt;

@@ -395,5 +395,5 @@ small_hold = record {
   taken = λ line from size name element worker has. false_is_not_true has;
   put_in = λ names site line name memlet on passed. tt;
   put_out = λ names site line name memlet on passed. tt;
-  other = λ names site line when fit passed. small_other site.kind line when;
+  other = λ names site line when passed. small_other site.kind line when;
 }

@@ -48,25 +48,25 @@ bare (tasklet_branch line when body other) = tasklet_branch line when no_stateme
 bare s = s
 
 -- a line's statement
-of_body : (s : StatementTree) → IsBodyStatement s → IsOfLine s
-of_body (argument_array line name bits extents) fit = absurd fit
-of_body (local_array line name extents bits) fit = fit
-of_body (local_stream line name bits size) fit = fit
-of_body (assign line name at add value) fit = fit
-of_body (copy line to to_dimensions from from_dimensions) fit = fit
-of_body (reduce line lambda from to axis identity) fit = fit
-of_body (map_scope line parameters ranges body) fit = fit
-of_body (tasklet line body) fit = fit
-of_body (consume_scope line from size name element worker body) fit = fit
-of_body (call line name arguments) fit = fit
-of_body (for_loop line name begin end step body) fit = fit
-of_body (while_loop line when body) fit = fit
-of_body (branch line when body other) fit = fit
-of_body (input line connector memlet) fit = fit
-of_body (output line connector memlet) fit = fit
-of_body (set line name value) fit = absurd fit
-of_body (set_at line name at value) fit = absurd fit
-of_body (tasklet_branch line when body other) fit = absurd fit
+of_body : (kind : BlockKind) (s : StatementTree) → IsBodyStatement kind s → IsOfLine s
+of_body kind (argument_array line name bits extents) fit = absurd fit
+of_body kind (local_array line name extents bits) fit = fit
+of_body kind (local_stream line name bits size) fit = fit
+of_body kind (assign line name at add value) fit = fit.0
+of_body kind (copy line to to_dimensions from from_dimensions) fit = fit
+of_body kind (reduce line lambda from to axis identity) fit = fit
+of_body kind (map_scope line parameters ranges body) fit = fit
+of_body kind (tasklet line body) fit = fit
+of_body kind (consume_scope line from size name element worker body) fit = fit
+of_body kind (call line name arguments) fit = fit
+of_body kind (for_loop line name begin end step body) fit = fit
+of_body kind (while_loop line when body) fit = fit
+of_body kind (branch line when body other) fit = fit
+of_body kind (input line connector memlet) fit = fit
+of_body kind (output line connector memlet) fit = fit
+of_body kind (set line name value) fit = absurd fit
+of_body kind (set_at line name at value) fit = absurd fit
+of_body kind (tasklet_branch line when body other) fit = absurd fit
 
 of_tasklet : (s : StatementTree) → IsTaskletStatement s → IsOfLine s
 of_tasklet (argument_array line name bits extents) fit = absurd fit
@@ -90,18 +90,18 @@ of_tasklet (tasklet_branch line when body other) fit = fit
 
 pub of_line : (kind : BlockKind) (s : StatementTree) → Fits kind (statement_head s) → IsOfLine s
 of_line Top s fit = absurd fit
-of_line Program s fit = of_body s fit
-of_line Scope s fit = of_body s fit
+of_line Program s fit = of_body Program s fit
+of_line Scope s fit = of_body Scope s fit
 of_line Tasklet s fit = of_tasklet s fit
 
 -- the steps of a connector's subset
-input_fits : (kind : BlockKind) (connector : Name) (memlet : MemletTree) → Fits kind (input_head connector memlet) → AllByRecursion GoesOn memlet.dimensions
+pub input_fits : (kind : BlockKind) (connector : Name) (memlet : MemletTree) → Fits kind (input_head connector memlet) → AllByRecursion GoesOn memlet.dimensions
 input_fits Top connector memlet fit = absurd fit
 input_fits Program connector memlet fit = absurd fit
 input_fits Scope connector memlet fit = absurd fit
 input_fits Tasklet connector memlet fit = fit
 
-output_fits : (kind : BlockKind) (connector : Name) (memlet : MemletTree) → Fits kind (output_head connector memlet) → AllByRecursion GoesOn memlet.dimensions
+pub output_fits : (kind : BlockKind) (connector : Name) (memlet : MemletTree) → Fits kind (output_head connector memlet) → AllByRecursion GoesOn memlet.dimensions
 output_fits Top connector memlet fit = absurd fit
 output_fits Program connector memlet fit = absurd fit
 output_fits Scope connector memlet fit = absurd fit
@@ -125,7 +125,7 @@ module _ (Holds : StatementTree → Type 0) where
     pub taken : (line : ℕ) (from : Name) (size : ℤ) (name element : Name) (worker : Option Name) → Holds (consume_scope line from size name element worker no_statement)
     pub put_in : (names : Names) (site : Site) (line : ℕ) (connector : Name) (memlet : MemletTree) → AllByRecursion GoesOn memlet.dimensions → Passes names site (input_head connector memlet) → Holds (input line connector (memlet_of memlet))
     pub put_out : (names : Names) (site : Site) (line : ℕ) (connector : Name) (memlet : MemletTree) → AllByRecursion GoesOn memlet.dimensions → Passes names site (output_head connector memlet) → Holds (output line connector (memlet_of memlet))
-    pub other : (names : Names) (site : Site) (line : ℕ) (when : Expression) → Fits site.kind (elif_head when) → Passes names site (elif_head when) →
+    pub other : (names : Names) (site : Site) (line : ℕ) (when : Expression) → Passes names site (elif_head when) →
         Holds (branch_with site.kind (record { line = line; when = when; statements = [] }) no_statement)
 
   abbrev AllHold : List StatementTree → Type 0
@@ -281,21 +281,21 @@ module _ (Holds : StatementTree → Type 0) where
         all-more (IsGoodBranch kind) earlier (record { line = line; when = when; statements = statements }) good.0 (good.1, all)
     branches_hold line kind statements (else_block earlier) good all = tt
 
-    other_holds : (names : Names) (site : Site) (kind : BlockKind) (line : ℕ) (branches : List Branch) (head : HeadTree) → kind ≡ site.kind → Fits site.kind head → Passes names site head → AllByRecursion (IsGoodBranch kind) branches →
+    other_holds : (names : Names) (site : Site) (kind : BlockKind) (line : ℕ) (branches : List Branch) (head : HeadTree) → kind ≡ site.kind → Passes names site head → AllByRecursion (IsGoodBranch kind) branches →
         IsGoodOpener kind line (next_opener branches head)
-    other_holds names site kind line branches import_line is fit passed all = all
-    other_holds names site kind line branches (symbol_line name quoted) is fit passed all = all
-    other_holds names site kind line branches program_decorator is fit passed all = all
-    other_holds names site kind line branches (program_head name arguments) is fit passed all = all
-    other_holds names site kind line branches (statement_head s) is fit passed all = all
-    other_holds names site kind line branches (reduce_head lambda from to axis identity) is fit passed all = all
-    other_holds names site kind line branches (input_head connector memlet) is fit passed all = all
-    other_holds names site kind line branches (output_head connector memlet) is fit passed all = all
-    other_holds names site kind line branches (consume_decorator from size) is fit passed all = all
-    other_holds names site kind line branches (consume_head name element worker) is fit passed all = all
-    other_holds names site kind line branches (elif_head when) is fit passed all =
-        (all, subst (λ kind. Holds (branch_with kind (record { line = line; when = when; statements = [] }) no_statement)) (sym is) (lines.other names site line when fit passed))
-    other_holds names site kind line branches else_head is fit passed all = all
+    other_holds names site kind line branches import_line is passed all = all
+    other_holds names site kind line branches (symbol_line name quoted) is passed all = all
+    other_holds names site kind line branches program_decorator is passed all = all
+    other_holds names site kind line branches (program_head name arguments) is passed all = all
+    other_holds names site kind line branches (statement_head s) is passed all = all
+    other_holds names site kind line branches (reduce_head lambda from to axis identity) is passed all = all
+    other_holds names site kind line branches (input_head connector memlet) is passed all = all
+    other_holds names site kind line branches (output_head connector memlet) is passed all = all
+    other_holds names site kind line branches (consume_decorator from size) is passed all = all
+    other_holds names site kind line branches (consume_head name element worker) is passed all = all
+    other_holds names site kind line branches (elif_head when) is passed all =
+        (all, subst (λ kind. Holds (branch_with kind (record { line = line; when = when; statements = [] }) no_statement)) (sym is) (lines.other names site line when passed))
+    other_holds names site kind line branches else_head is passed all = all
 
     argument_holds : (context : Context) (line : ℕ) (is_tasklet : Bool) (at : ℕ) (name : Name) (bits : ℕ) (extents : Expressions) → AreExtents extents → IsAccepted context (statement_head (argument_array at name bits extents)) → HoldsSoFar context →
         HoldsSoFar (context_after context line is_tasklet (statement_head (argument_array at name bits extents)))
@@ -319,7 +319,7 @@ module _ (Holds : StatementTree → Type 0) where
         let inside = subst (AllByRecursion IsGoodBlock) is good.1.0 in
         let kind = same_kind head about.kind context.block.kind context.block.opener on (subst (AreNested context.block) is shape).0 in (
           (
-            other_holds now.names (site_of now) context.block.kind line _ head kind.1 fit (passes now.names (site_of now) head accepted')
+            other_holds now.names (site_of now) context.block.kind line _ head kind.1 (passes now.names (site_of now) head accepted')
                 (branches_hold context.block.line context.block.kind context.block.statements context.block.opener good.0.0 good.0.1),
             tt,
           ),
