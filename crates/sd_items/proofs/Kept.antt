@@ -1,11 +1,10 @@
 -- Names in force that are put back at the end of a scope.
-use Rattle.std.proofs.Common.{◌≡◌, ◌∙◌, ℕ, zero, suc, ◌+◌, ◌-◌, ◌≤◌, List, [], ◌∷◌, length, drop, refl, ap, sym, subst, arith}
+use Rattle.std.proofs.Common.{◌≡◌, ◌∙◌, ℕ, suc, ◌+◌, ◌-◌, ◌≤◌, List, [], ◌∷◌, length, drop, refl, ap, arith}
 use Rattle.sd_lex.specs.PlainTree.{StatementTree, argument_array, local_array, local_stream, assign, copy, reduce, map_scope, tasklet, consume_scope, call, for_loop, while_loop, branch, input, output, set, set_at, tasklet_branch}
 use Rattle.sd_program.specs.Names.{Name, Named}
 use Rattle.sd_task.specs.Names.{with_numbered}
-use Rattle.sd_task.specs.Stack.{oldest, without_newest}
-use Rattle.sd_task.specs.Table.{Table, with_container, with_variables}
-use Rattle.sd_task.specs.SmallExtents.{HaveSmallExtents}
+use Rattle.sd_task.specs.Stack.{oldest}
+use Rattle.sd_task.specs.Table.{Table, with_container}
 use Rattle.sd_items.specs.NamesBehind.{table_behind}
 
 -- the containers in force before are the oldest ones, so many

@@ -1,5 +1,5 @@
 -- Lists of names, and links of calls.
-use Rattle.std.proofs.Common.{◌≡◌, ◌∙◌, ◌+◌, Result, Ok, Err, OnOk, List, [], ◌∷◌, ◌++◌, length, map, refl, ap, sym, arith}
+use Rattle.std.proofs.Common.{◌≡◌, ◌∙◌, Result, Ok, Err, OnOk, List, [], ◌∷◌, ◌++◌, length, map, refl, ap, sym, arith}
 use Rattle.std.proofs.lemmas.List.{append-nil}
 
 pub map_length : {A B : Type 0} (f : A → B) (members : List A) → length (map f members) ≡ length members

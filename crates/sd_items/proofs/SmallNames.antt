@@ -1,5 +1,5 @@
 -- A name alone is within the limits.
-use Rattle.std.proofs.Common.{ℕ, List, Option, Some, None, arith}
+use Rattle.std.proofs.Common.{ℕ, Option, Some, None, arith}
 use Rattle.sd_lex.specs.PlainTree.{named}
 use Rattle.sd_program.specs.Affines.{affine_name}
 use Rattle.sd_program.specs.Names.{Name, in_force}

@@ -1,5 +1,5 @@
 -- The plain trees of statements.
-use Rattle.std.proofs.Common.{◌≡◌, ◌∙◌, ℕ, ℤ, List, Option, map, option_map, ap, sym, String, string_bytes}
+use Rattle.std.proofs.Common.{◌≡◌, ◌∙◌, ℕ, ℤ, Option, map, option_map, ap, sym, String, string_bytes}
 use Rattle.std.specs.declared.alloc.Global.{Global}
 use Rattle.std.specs.declared.vec.Vec.{Vec}
 use Rattle.sd_lex.specs.PlainTree.{StatementTree, tasklet, consume_scope, call}

@@ -1,11 +1,10 @@
-use Rattle.std.proofs.Common.{◌≡◌, ◌∙◌, ◌+◌, ◌∷◌, inl, inr, ap, sym, subst, rules, map, drop, string_bytes, option_map, OnOk}
+use Rattle.std.proofs.Common.{◌≡◌, ◌∙◌, ◌+◌, ◌∷◌, inl, inr, ap, sym, subst, map, drop, string_bytes, option_map, OnOk}
 use Rattle.std.proofs.lemmas.List.{drop_more}
 use Rattle.sd_lex.specs.PlainTree.{StatementTree, and_statement, tasklet, consume_scope, call}
 use Rattle.sd_lex.specs.TreeFold.{statement_step, statement_of, block_of, call_argument_of}
-use Rattle.sd_lex.specs.declared.syntax.memlet.Slot.{Slot}
 use Rattle.sd_graph.specs.PlainTree.{ItemTrees, no_item}
 use Rattle.sd_graph.specs.TreeFold.{item_trees, kind_tree}
-use Rattle.sd_program.specs.Bounds.{EachBound, EachDimension}
+use Rattle.sd_program.specs.Bounds.{EachBound}
 use Rattle.sd_program.specs.Every.{Every, EveryIn}
 use Rattle.sd_program.specs.Small.{IsSmall}
 use Rattle.sd_task.specs.SmallExtents.{HaveSmallExtents}
