@@ -1,6 +1,11 @@
 pub mod StateLists
+pub mod StateCounts
 pub mod UpwardsLemmas
 pub mod ContainersMade
 pub mod NamesKnown
 pub mod ItemsInForce
 pub mod StatesInForce
+pub mod LoopConditions
+pub mod LoopSites
+pub mod ThroughoutLemmas
+pub mod LoopShapes

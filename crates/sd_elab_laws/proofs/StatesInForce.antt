@@ -17,7 +17,7 @@ use Rattle.sd_program.specs.Place.{Holder, program, signature, Place, past, past
 use Rattle.sd_program.specs.Known.{StandsIn, StandsInProgram, IsPlaced, IsKnown}
 use Rattle.sd_program.specs.WellFormed.{IsWellFormed}
 use Rattle.sd_task.specs.Names.{with_numbered}
-use Rattle.sd_task.specs.Table.{Table, with_container}
+use Rattle.sd_task.specs.Table.{Table}
 use Rattle.sd_items.specs.NamesBehind.{table_behind_state, table_behind_all}
 use Rattle.sd_items.specs.Graphs.{no_graph, graph_named}
 use Rattle.sd_items.specs.Items.{items_with}
@@ -26,7 +26,7 @@ use Rattle.sd_program.specs.DeclaredNames.{container_names}
 use Rattle.sd_elab.specs.Exits.{plainly, back_to, stepped_on}
 use Rattle.sd_elab.specs.Standing.{Standing, behind, behind_all, state_behind, with_loop_variable}
 use Rattle.sd_elab.specs.States.{chained, chained_all, chained_other}
-use Rattle.sd_elab.specs.Elaboration.{function_graph, graphs_with, latest, graph_of, table_of_arguments, table_of_symbols}
+use Rattle.sd_elab.specs.Elaboration.{function_graph, graphs_with, latest, graph_of, start_of, arguments_in_force}
 use Rattle.sd_elab_laws.proofs.ContainersMade.{holds_here, Begins, begins_itself, first_begins, made_at, counted, all_made}
 use Rattle.sd_elab_laws.proofs.NamesKnown.{AreKnown, none_known, one_more_known, affine_knows, links_in_force}
 use Rattle.sd_elab_laws.proofs.ItemsInForce.{item_in_force}
@@ -90,33 +90,33 @@ module _ (symbols : Named ℕ) (declared : List Name) (all : Containers) where
         (known_past first table container place before around e (first_begins symbols declared rest false middle all begins) placed.0 are)
 
   -- the arguments of a program
-  arguments_known : (arguments : Block) (table : Table) (next : ℕ) (place : Place) (before : Containers) → place.around ≡ signature → length before ≡ next →
-      Begins (containers_with_all symbols declared arguments false before) all → EveryFrom IsPlaced place arguments → AreKnown all [] place.containers table.containers →
-      AreKnown all [] (place_of.behind_all arguments place.containers) (table_of_arguments arguments next table).containers
-  arguments_known no_statement table next place before around e begins placed are = are
-  arguments_known (and_statement (argument_array line name bits extents) rest) table next place before around e begins placed are =
+  arguments_known : (arguments : Block) (numbers : Named ℕ) (next : ℕ) (place : Place) (before : Containers) → place.around ≡ signature → length before ≡ next →
+      Begins (containers_with_all symbols declared arguments false before) all → EveryFrom IsPlaced place arguments → AreKnown all [] place.containers numbers →
+      AreKnown all [] (place_of.behind_all arguments place.containers) (arguments_in_force arguments next numbers)
+  arguments_known no_statement numbers next place before around e begins placed are = are
+  arguments_known (and_statement (argument_array line name bits extents) rest) numbers next place before around e begins placed are =
       let first : StatementTree = argument_array line name bits extents in
       let middle : Containers = containers_with symbols declared first false before in
-      arguments_known rest (with_container name next table) (next + 1) (past first place) middle around
+      arguments_known rest ((name, next) ∷ numbers) (next + 1) (past first place) middle around
       (counted symbols declared first false place before placed.0 ∙ ap (λ number. number + 1) e) begins placed.1
-      (one_more_known all [] place.containers table.containers name _ next (whole_in_force before _ next e (first_begins symbols declared rest false middle all begins) refl) are)
-  arguments_known (and_statement (local_array line name extents bits) rest) table next place before around e begins placed are = absurd (subst (λ kind. StandsIn kind (local_array line name extents bits)) around placed.0)
-  arguments_known (and_statement (local_stream line name bits size) rest) table next place before around e begins placed are = absurd (subst (λ kind. StandsIn kind (local_stream line name bits size)) around placed.0)
-  arguments_known (and_statement (assign line name at add value) rest) table next place before around e begins placed are = absurd (subst (λ kind. StandsIn kind (assign line name at add value)) around placed.0)
-  arguments_known (and_statement (copy line to to_dimensions from from_dimensions) rest) table next place before around e begins placed are = absurd (subst (λ kind. StandsIn kind (copy line to to_dimensions from from_dimensions)) around placed.0)
-  arguments_known (and_statement (reduce line lambda from to axis identity) rest) table next place before around e begins placed are = absurd (subst (λ kind. StandsIn kind (reduce line lambda from to axis identity)) around placed.0)
-  arguments_known (and_statement (map_scope line parameters ranges body) rest) table next place before around e begins placed are = absurd (subst (λ kind. StandsIn kind (map_scope line parameters ranges body)) around placed.0.0)
-  arguments_known (and_statement (tasklet line body) rest) table next place before around e begins placed are = absurd (subst (λ kind. StandsIn kind (tasklet line body)) around placed.0.0)
-  arguments_known (and_statement (consume_scope line stream size name element worker body) rest) table next place before around e begins placed are = absurd (subst (λ kind. StandsIn kind (consume_scope line stream size name element worker body)) around placed.0.0)
-  arguments_known (and_statement (call line name arguments) rest) table next place before around e begins placed are = absurd (subst (λ kind. StandsIn kind (call line name arguments)) around placed.0)
-  arguments_known (and_statement (for_loop line name begin end step body) rest) table next place before around e begins placed are = absurd (subst (λ kind. StandsIn kind (for_loop line name begin end step body)) around placed.0.0)
-  arguments_known (and_statement (while_loop line when body) rest) table next place before around e begins placed are = absurd (subst (λ kind. StandsIn kind (while_loop line when body)) around placed.0.0)
-  arguments_known (and_statement (branch line when body other) rest) table next place before around e begins placed are = absurd (subst (λ kind. StandsIn kind (branch line when body other)) around placed.0.0)
-  arguments_known (and_statement (input line connector memlet) rest) table next place before around e begins placed are = absurd (subst (λ kind. StandsIn kind (input line connector memlet)) around placed.0)
-  arguments_known (and_statement (output line connector memlet) rest) table next place before around e begins placed are = absurd (subst (λ kind. StandsIn kind (output line connector memlet)) around placed.0)
-  arguments_known (and_statement (set line name value) rest) table next place before around e begins placed are = absurd (subst (λ kind. StandsIn kind (set line name value)) around placed.0)
-  arguments_known (and_statement (set_at line name at value) rest) table next place before around e begins placed are = absurd (subst (λ kind. StandsIn kind (set_at line name at value)) around placed.0)
-  arguments_known (and_statement (tasklet_branch line when body other) rest) table next place before around e begins placed are = absurd (subst (λ kind. StandsIn kind (tasklet_branch line when body other)) around placed.0.0)
+      (one_more_known all [] place.containers numbers name _ next (whole_in_force before _ next e (first_begins symbols declared rest false middle all begins) refl) are)
+  arguments_known (and_statement (local_array line name extents bits) rest) numbers next place before around e begins placed are = absurd (subst (λ kind. StandsIn kind (local_array line name extents bits)) around placed.0)
+  arguments_known (and_statement (local_stream line name bits size) rest) numbers next place before around e begins placed are = absurd (subst (λ kind. StandsIn kind (local_stream line name bits size)) around placed.0)
+  arguments_known (and_statement (assign line name at add value) rest) numbers next place before around e begins placed are = absurd (subst (λ kind. StandsIn kind (assign line name at add value)) around placed.0)
+  arguments_known (and_statement (copy line to to_dimensions from from_dimensions) rest) numbers next place before around e begins placed are = absurd (subst (λ kind. StandsIn kind (copy line to to_dimensions from from_dimensions)) around placed.0)
+  arguments_known (and_statement (reduce line lambda from to axis identity) rest) numbers next place before around e begins placed are = absurd (subst (λ kind. StandsIn kind (reduce line lambda from to axis identity)) around placed.0)
+  arguments_known (and_statement (map_scope line parameters ranges body) rest) numbers next place before around e begins placed are = absurd (subst (λ kind. StandsIn kind (map_scope line parameters ranges body)) around placed.0.0)
+  arguments_known (and_statement (tasklet line body) rest) numbers next place before around e begins placed are = absurd (subst (λ kind. StandsIn kind (tasklet line body)) around placed.0.0)
+  arguments_known (and_statement (consume_scope line stream size name element worker body) rest) numbers next place before around e begins placed are = absurd (subst (λ kind. StandsIn kind (consume_scope line stream size name element worker body)) around placed.0.0)
+  arguments_known (and_statement (call line name arguments) rest) numbers next place before around e begins placed are = absurd (subst (λ kind. StandsIn kind (call line name arguments)) around placed.0)
+  arguments_known (and_statement (for_loop line name begin end step body) rest) numbers next place before around e begins placed are = absurd (subst (λ kind. StandsIn kind (for_loop line name begin end step body)) around placed.0.0)
+  arguments_known (and_statement (while_loop line when body) rest) numbers next place before around e begins placed are = absurd (subst (λ kind. StandsIn kind (while_loop line when body)) around placed.0.0)
+  arguments_known (and_statement (branch line when body other) rest) numbers next place before around e begins placed are = absurd (subst (λ kind. StandsIn kind (branch line when body other)) around placed.0.0)
+  arguments_known (and_statement (input line connector memlet) rest) numbers next place before around e begins placed are = absurd (subst (λ kind. StandsIn kind (input line connector memlet)) around placed.0)
+  arguments_known (and_statement (output line connector memlet) rest) numbers next place before around e begins placed are = absurd (subst (λ kind. StandsIn kind (output line connector memlet)) around placed.0)
+  arguments_known (and_statement (set line name value) rest) numbers next place before around e begins placed are = absurd (subst (λ kind. StandsIn kind (set line name value)) around placed.0)
+  arguments_known (and_statement (set_at line name at value) rest) numbers next place before around e begins placed are = absurd (subst (λ kind. StandsIn kind (set_at line name at value)) around placed.0)
+  arguments_known (and_statement (tasklet_branch line when body other) rest) numbers next place before around e begins placed are = absurd (subst (λ kind. StandsIn kind (tasklet_branch line when body other)) around placed.0.0)
 
   -- ---- states
 
@@ -269,15 +269,9 @@ function_in_force symbols graphs force function (above, placed, known) affine =
     let numbered : Named ℕ = with_numbered symbols 0 [] in
     let declared : List Name = container_names function in
     let given : Containers = containers_with_all numbered declared function.arguments false [] in
-    let start : Standing = record {
-      state = 1;
-      container = containers_in_all function.arguments;
-      variable = length symbols;
-      table = table_of_arguments function.arguments 0 (table_of_symbols symbols all);
-    } in
-    block_in_force numbered declared all graphs force function.body start no_item [] (in_function above function.arguments) given refl
+    block_in_force numbered declared all graphs force function.body (start_of symbols function) no_item [] (in_function above function.arguments) given refl
     (all_made numbered declared function.arguments false (in_signature above) [] placed.0 ∙ zero-add (containers_in_all function.arguments)) (begins_itself all)
-    (arguments_known numbered declared all function.arguments (table_of_symbols symbols all) 0 (in_signature above) [] refl refl
+    (arguments_known numbered declared all function.arguments [] 0 (in_signature above) [] refl refl
     (first_begins numbered declared function.body false given all (begins_itself all)) placed.0 (none_known all []))
     placed.1 known.1 affine.1 tt tt
 

@@ -1,5 +1,5 @@
 -- The transitions of the graph of a program lead upwards.
-use Rattle.std.proofs.Common.{◌≡◌, ◌∙◌, inl, inr, ℕ, ◌+◌, ◌<◌, ◌≤◌, List, [], ◌∷◌, ◌++◌, length, Option, Some, unwrap_or, Bool, true, false, cond, ◌&&◌, refl, sym, subst, arith, bytes_eq, length-append, add-zero, zero-add}
+use Rattle.std.proofs.Common.{◌≡◌, ◌∙◌, inl, inr, ℕ, ◌+◌, ◌<◌, ◌≤◌, List, [], ◌∷◌, ◌++◌, length, Option, Some, unwrap_or, Bool, true, false, cond, ◌&&◌, refl, sym, subst, arith, bytes_eq, add-zero, zero-add}
 use Rattle.std.specs.List.{AllByRecursion}
 use Rattle.sd_lex.specs.PlainTree.{StatementTree, argument_array, local_array, local_stream, assign, copy, reduce, map_scope, tasklet, consume_scope, call, for_loop, while_loop, branch, input, output, set, set_at, tasklet_branch, Block, no_statement, and_statement, FunctionTree, ProgramTree}
 use Rattle.sd_lex.specs.StatementKind.{has_connector}
@@ -9,7 +9,7 @@ use Rattle.sd_graph.specs.TreeFold.{PlainState, states_listed}
 use Rattle.sd_graph.specs.TreeParts.{count_states, exits_at}
 use Rattle.sd_graph.specs.Upwards.{ExitsLeadUpwards, KindLeadsUpwards, ItemsLeadUpwards, LeadsUpwards}
 use Rattle.sd_program.specs.Names.{Name, Named, in_force}
-use Rattle.sd_program.specs.Declared.{states_in, states_in_all, states_in_other, containers_in, containers_in_all}
+use Rattle.sd_program.specs.Declared.{states_in, states_in_all, states_in_other, containers_in}
 use Rattle.sd_task.specs.Table.{Table, with_container, with_variables}
 use Rattle.sd_task.specs.Ranges.{affine_or}
 use Rattle.sd_task.specs.ElementCode.{guard_of, below}
@@ -17,11 +17,11 @@ use Rattle.sd_items.specs.Counts.{variables_in}
 use Rattle.sd_items.specs.NamesBehind.{table_behind}
 use Rattle.sd_items.specs.Graphs.{no_graph, graph_named}
 use Rattle.sd_items.specs.Items.{items_with, items_of_body}
-use Rattle.sd_containers.specs.Declarations.{containers_of_function}
 use Rattle.sd_elab.specs.Exits.{plainly, setting, if_holds, back_to, stepped_on}
 use Rattle.sd_elab.specs.Standing.{Standing, behind, behind_all, state_behind, with_loop_variable}
 use Rattle.sd_elab.specs.States.{chained, chained_all, chained_other}
-use Rattle.sd_elab.specs.Elaboration.{function_graph, graphs_with, latest, graph_of, table_of_arguments, table_of_symbols}
+use Rattle.sd_elab.specs.Elaboration.{function_graph, graphs_with, latest, graph_of, start_of, states_of_function}
+use Rattle.sd_elab_laws.proofs.StateCounts.{some_other, branch_behind, one_counted, all_counted}
 use Rattle.sd_elab_laws.proofs.StateLists.{AreUpwards, upwards_joined, upwards_items, upwards_exits, states_counted}
 
 -- one of two lists of items
@@ -32,14 +32,6 @@ either_items false one other leads others = others
 element_leads : (resolved : Bool) (one other : KindTree) → KindLeadsUpwards one → KindLeadsUpwards other → KindLeadsUpwards (cond resolved one other)
 element_leads true one other leads others = leads
 element_leads false one other leads others = others
-
--- there is a state behind both blocks of an `if`
-some_other : (other : Block) → 1 ≤ states_in_other other
-some_other no_statement = omega arith
-some_other (and_statement first rest) = omega arith
-
-branch_behind : (state body other : ℕ) → state + (1 + body + other) ≡ state + 1 + body + other
-branch_behind state body other = omega arith
 
 -- one plain transition to a higher state
 abbrev pub goes_to : (count state : ℕ) → state < count → (next : ℕ) → state ≡ next → (number : ℕ) → number + 1 ≡ next → ExitsLeadUpwards count number (plainly state ∷ [])
@@ -76,59 +68,6 @@ module _ (graphs : Name → GraphTree) (upwards : (name : Name) → LeadsUpwards
         item_leads first true table container variable _
         (body_leads rest (table_behind first container table) (container + containers_in first) (variable + variables_in first))
 
-  -- ---- how many states there are
-
-  abbrev OfLength : ℕ → (ItemTrees → List PlainState) → Type 0
-  OfLength more rest = (items : ItemTrees) → length (rest items) ≡ more
-
-  mutual
-    one_counted : (statement : StatementTree) (at : Standing) (items : ItemTrees) (rest : ItemTrees → List PlainState) (more : ℕ) → OfLength more rest →
-        length (chained graphs statement at items rest) ≡ states_in statement + more
-    one_counted (argument_array line name bits extents) at items rest more of = of items ∙ sym (zero-add more)
-    one_counted (local_array line name extents bits) at items rest more of = of items ∙ sym (zero-add more)
-    one_counted (local_stream line name bits size) at items rest more of = of items ∙ sym (zero-add more)
-    one_counted (branch line when body other) at items rest more of =
-        let first : ℕ → List PlainState = λ join. chained_all graphs body (state_behind at) no_item (plainly join ∷ []) in
-        let counted : length (chained_other graphs other (behind_all body (state_behind at)) first rest) ≡ states_in_all body + (states_in_other other + more) =
-        other_counted other (behind_all body (state_behind at)) first rest (states_in_all body) more (λ join. all_counted body (state_behind at) no_item (plainly join ∷ [])) of in
-        omega (arith, counted)
-    one_counted (while_loop line when body) at items rest more of =
-        let inside : Standing = state_behind (state_behind at) in
-        let back : List ExitTree = back_to at.state [] ∷ [] in
-        omega (arith, length-append (chained_all graphs body inside no_item back) (rest no_item), all_counted body inside no_item back, of no_item)
-    one_counted (for_loop line name begin end step body) at items rest more of =
-        let inside : Standing = with_loop_variable name (state_behind (state_behind at)) in
-        let back : List ExitTree = back_to at.state ((at.variable, stepped_on at.variable step) ∷ []) ∷ [] in
-        omega (arith, length-append (chained_all graphs body inside no_item back) (rest no_item), all_counted body inside no_item back, of no_item)
-    one_counted (assign line name place add value) at items rest more of = omega (arith, of (items_with graphs (assign line name place add value) false at.table at.container at.variable no_item))
-    one_counted (copy line to to_dimensions from from_dimensions) at items rest more of = omega (arith, of (items_with graphs (copy line to to_dimensions from from_dimensions) false at.table at.container at.variable no_item))
-    one_counted (reduce line lambda from to axis identity) at items rest more of = omega (arith, of (items_with graphs (reduce line lambda from to axis identity) false at.table at.container at.variable no_item))
-    one_counted (map_scope line parameters ranges body) at items rest more of = omega (arith, of (items_with graphs (map_scope line parameters ranges body) false at.table at.container at.variable no_item))
-    one_counted (tasklet line body) at items rest more of = omega (arith, of (items_with graphs (tasklet line body) false at.table at.container at.variable no_item))
-    one_counted (consume_scope line stream size name element worker body) at items rest more of = omega (arith, of (items_with graphs (consume_scope line stream size name element worker body) false at.table at.container at.variable no_item))
-    one_counted (call line name arguments) at items rest more of = omega (arith, of (items_with graphs (call line name arguments) false at.table at.container at.variable no_item))
-    one_counted (input line connector memlet) at items rest more of = omega (arith, of no_item)
-    one_counted (output line connector memlet) at items rest more of = omega (arith, of no_item)
-    one_counted (set line name value) at items rest more of = omega (arith, of no_item)
-    one_counted (set_at line name place value) at items rest more of = omega (arith, of no_item)
-    one_counted (tasklet_branch line when body other) at items rest more of = omega (arith, of no_item)
-
-    pub all_counted : (block : Block) (at : Standing) (items : ItemTrees) (exits : List ExitTree) → length (chained_all graphs block at items exits) ≡ states_in_all block + 1
-    all_counted no_statement at items exits = refl
-    all_counted (and_statement first rest) at items exits =
-        omega (arith, one_counted first at items (λ items. chained_all graphs rest (behind first at) items exits) (states_in_all rest + 1) (λ items. all_counted rest (behind first at) items exits))
-
-    other_counted : (other : Block) (at : Standing) (first : ℕ → List PlainState) (rest : ItemTrees → List PlainState) (body more : ℕ) →
-        ((join : ℕ) → length (first join) ≡ body + 1) → OfLength more rest → length (chained_other graphs other at first rest) ≡ body + (states_in_other other + more)
-    other_counted no_statement at first rest body more before of = omega (arith, length-append (first at.state) (rest no_item), before at.state, of no_item)
-    other_counted (and_statement statement others) at first rest body more before of =
-        let join : ℕ = at.state + 1 + (states_in statement + states_in_all others) in
-        let inner : List PlainState = chained graphs statement (state_behind at) no_item (λ items. chained_all graphs others (behind statement (state_behind at)) items (plainly join ∷ [])) in
-        let counted : length inner ≡ states_in statement + (states_in_all others + 1) =
-        one_counted statement (state_behind at) no_item (λ items. chained_all graphs others (behind statement (state_behind at)) items (plainly join ∷ []))
-        (states_in_all others + 1) (λ items. all_counted others (behind statement (state_behind at)) items (plainly join ∷ [])) in
-        omega (arith, length-append (first join) (inner ++ rest no_item), length-append inner (rest no_item), before join, counted, of no_item)
-
   -- ---- the transitions of each state
 
   module _ (count : ℕ) where
@@ -160,7 +99,7 @@ module _ (graphs : Name → GraphTree) (upwards : (name : Name) → LeadsUpwards
         two_exits (at.state + 1) (at.state + 1 + 1 + states_in_all body) guard (omega arith) (omega (arith, room)),
         upwards_joined count (at.state + 1 + 1) (chained_all graphs body inside no_item back) (rest no_item)
             (subst (λ number. AreUpwards count number (chained_all graphs body inside no_item back)) stands inner)
-            (subst (λ number. AreUpwards count number (rest no_item)) (omega (arith, all_counted body inside no_item back)) (follows no_item tt)),
+            (subst (λ number. AreUpwards count number (rest no_item)) (omega (arith, all_counted graphs body inside no_item back)) (follows no_item tt)),
       ),
     )
 
@@ -175,7 +114,7 @@ module _ (graphs : Name → GraphTree) (upwards : (name : Name) → LeadsUpwards
             leads,
             two_exits at.state (at.state + 1 + states_in_all body) (guard_of at.table line when) (omega arith) (omega (arith, room, some_other other)),
             other_leads other (behind_all body (state_behind at)) (at.state + 1) first rest (states_in_all body) refl
-                (λ join. all_counted body (state_behind at) no_item (plainly join ∷ []))
+                (λ join. all_counted graphs body (state_behind at) no_item (plainly join ∷ []))
                 (λ join there later. block_leads body (state_behind at) no_item (plainly join ∷ []) tt (omega (arith, room))
                 (λ number before. (inr (omega (arith, before, later), there), tt)))
                 (omega (arith, room))
@@ -233,7 +172,7 @@ module _ (graphs : Name → GraphTree) (upwards : (name : Name) → LeadsUpwards
           let behind_statement : ItemTrees → List PlainState = λ items. chained_all graphs others (behind statement (state_behind at)) items (plainly join ∷ []) in
           let inner : List PlainState = chained graphs statement (state_behind at) no_item behind_statement in
           let inner_counted : length inner ≡ states_in statement + (states_in_all others + 1) =
-          one_counted statement (state_behind at) no_item behind_statement (states_in_all others + 1) (λ items. all_counted others (behind statement (state_behind at)) items (plainly join ∷ [])) in
+          one_counted graphs statement (state_behind at) no_item behind_statement (states_in_all others + 1) (λ items. all_counted graphs others (behind statement (state_behind at)) items (plainly join ∷ [])) in
           let inner_leads : AreUpwards count (at.state + 1) inner =
           statement_leads statement (state_behind at) no_item behind_statement tt (omega (arith, room))
           (λ items leads. block_leads others (behind statement (state_behind at)) items (plainly join ∷ []) leads (omega (arith, room))
@@ -263,17 +202,14 @@ named_leads (entry ∷ graphs) all name = named_one (bytes_eq name entry.0) entr
 function_leads : (symbols : List Name) (graphs : Name → GraphTree) → ((name : Name) → LeadsUpwards (graphs name)) → (function : FunctionTree) →
     LeadsUpwards (function_graph symbols graphs function)
 function_leads symbols graphs upwards function =
-    let start : Standing = record {
-      state = 1;
-      container = containers_in_all function.arguments;
-      variable = length symbols;
-      table = table_of_arguments function.arguments 0 (table_of_symbols symbols (containers_of_function symbols function));
-    } in
-    let states : List PlainState = chained_all graphs function.body start no_item [] in
+    let start : Standing = start_of symbols function in
+    let states : List PlainState = states_of_function symbols graphs function in
     let many : ℕ = count_states (states_listed states) in
-    let room : 1 + states_in_all function.body ≤ many = omega (arith, states_counted states, all_counted graphs upwards function.body start no_item []) in
-    let all : AreUpwards many 1 states = block_leads graphs upwards many function.body start no_item [] tt room (λ number before. tt) in
-    ((λ state. subst (λ number. ExitsLeadUpwards many number (exits_at (states_listed states) state)) (zero-add state) (upwards_exits many states 0 all state)), upwards_items many 1 states all)
+    let room : 1 + states_in_all function.body ≤ many = omega (arith, states_counted states, all_counted graphs function.body start no_item []) in
+    let all : AreUpwards many 1 states = block_leads graphs upwards many function.body start no_item [] tt room (λ number before. tt) in (
+      (λ state. subst (λ number. ExitsLeadUpwards many number (exits_at (states_listed states) state)) (zero-add state) (upwards_exits many states 0 all state)),
+      upwards_items many 1 states all,
+    )
 
 graphs_lead : (symbols : List Name) (before : Named GraphTree) (functions : List FunctionTree) → LeadUpwards before → LeadUpwards (graphs_with symbols before functions)
 graphs_lead symbols before [] all = all

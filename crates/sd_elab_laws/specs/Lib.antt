@@ -1,0 +1,3 @@
+pub mod Throughout
+pub mod AffineValue
+pub mod LoopShape
