@@ -9,3 +9,7 @@ pub mod LoopConditions
 pub mod LoopSites
 pub mod ThroughoutLemmas
 pub mod LoopShapes
+pub mod StateRanges
+pub mod LoopEntries
+pub mod LoopsClosed
+pub mod Examples

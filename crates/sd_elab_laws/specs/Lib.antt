@@ -1,3 +1,4 @@
 pub mod Throughout
 pub mod AffineValue
 pub mod LoopShape
+pub mod EnteredLoops
