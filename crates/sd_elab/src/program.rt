@@ -50,9 +50,9 @@ fn graphs_above(
 
 /// The graph of a source: that of its last program, whose calls are of the programs before it.
 ///
-/// The states of a block are counted once for each loop and branch about it, of which a program
-/// has few; else work and memory are linear in the source and the graphs of its programs. A source
-/// without a program has a graph with nothing in it.
+/// The states of a block are counted once for each loop and branch about it, and a name is looked
+/// for among all names and graphs that are in force, so the work is not linear in the source. A
+/// source without a program has a graph with nothing in it.
 #[tactic(auto, using(crate::proofs::FunctionLemmas::elaborable_all, crate::proofs::FunctionLemmas::elaborable_before, crate::proofs::FunctionLemmas::graph_of_none))]
 pub fn elaborate(alloc: Global, program: &Program) -> Result<Sdfg, NoMemory>
     requires well_formed { IsWellFormed (program_of program.now) }
