@@ -3,3 +3,4 @@ pub mod Sizes
 pub mod KeptLemmas
 pub mod Acts
 pub mod Members
+pub mod Counts

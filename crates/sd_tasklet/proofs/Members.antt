@@ -17,3 +17,8 @@ pub few_each : (all : List (List ℕ)) → AllByRecursion (λ extents. length ex
 few_each [] each connector = omega arith
 few_each (extents ∷ all) each zero = each.0
 few_each (extents ∷ all) each (suc connector) = few_each all each.1 connector
+
+-- a list whose members are all short
+pub all_few : (all : List (List ℕ)) → ((connector : ℕ) → length (slice_index_or all connector []) ≤ 4) → AllByRecursion (λ extents. length extents ≤ 4) all
+all_few [] few = tt
+all_few (extents ∷ all) few = (few 0, all_few all (λ connector. few (suc connector)))

@@ -29,9 +29,10 @@ impl Inputs {
     }
 
     /// Whether `eval` may be given this: no connector has more than four dimensions, and each input has
-    /// as many elements as its extents multiply to. Where a product passes 64 bits it is not told so.
+    /// as many elements as its extents multiply to.
     pub fn is_whole(&self) -> bool
-        ensures { IsTrue result → IsWhole (given self.now) }
+        ensures yes { IsTrue result → IsWhole (given self.now) }
+        ensures no { IsWhole (given self.now) → IsTrue result }
     {
         let extents = self.extents.as_slice();
         have_few_dimensions(extents) && have_room(extents, self.values.as_slice())
