@@ -4,8 +4,8 @@ use Rattle.std.specs.Prelude.{slice_set}
 use Rattle.std.proofs.lemmas.List.{append-nil}
 use Rattle.std.proofs.Math.Seq.{set-append_seam}
 use Rattle.sd_tcode.specs.Emitted.{test_op, either_code, locals_code, second_code, is_lazy, is_ready, jumps_where}
-use Rattle.sd_tcode.specs.declared.op.Op.{Op}
-use Rattle.sd_tcode.specs.declared.op.Op.TheVariants.{Skip, Copy, Number}
+use Rattle.sd_op.specs.declared.op.Op.{Op}
+use Rattle.sd_op.specs.declared.op.Op.TheVariants.{Skip, Copy, Number}
 use Rattle.sd_graph.specs.PlainTree.{ValueTree}
 use Rattle.sd_graph.specs.declared.operator.TwoSign.{TwoSign}
 

@@ -5,14 +5,13 @@ ghost use Rattle.sd_tcode.specs.Emitted as emitted;
 ghost use Rattle.sd_tcode.specs.Compiled as compiled;
 ghost use Rattle.sd_tcode.specs.Compiled.{IsCodeOf};
 
-use crate::code::Code;
 use crate::emit::behind;
 use crate::emit_act::{emit_acts, emit_locals, local_register};
-use crate::layout::Layout;
 use crate::plain::plain_outputs;
 use crate::reach::{most_kept, reach_all};
 use sd_graph::{Port, Tasklet};
 use sd_list::NoMemory;
+use sd_tcode::{Code, Layout};
 use std::alloc::Global;
 
 /// A count as the numbers of registers have it. There is no room for 2^32 registers.
@@ -73,12 +72,5 @@ pub fn compile(alloc: Global, code: &Tasklet) -> Result<Code, NoMemory>
     let dims = dims_of(alloc, &code.ins, &code.outs)?;
     let registers = reach_all(&ops).max(outputs as usize);
     let slots = most_kept(&ops) + count_plain(&plain);
-    Ok(Code {
-        ops,
-        layout,
-        dims,
-        registers,
-        slots,
-        plain,
-    })
+    Ok(Code::new(ops, layout, dims, registers, slots, plain))
 }

@@ -4,10 +4,10 @@ ghost use Rattle.sd_tcode.specs.Named.{count_of};
 ghost use Rattle.sd_tcode.specs.Emitted as emitted;
 ghost use Rattle.sd_tcode.specs.Emitted.{IsReadyAt};
 
-use crate::layout::Layout;
-use crate::op::Op;
 use sd_graph::{OneSign, TwoSign, Value};
 use sd_list::NoMemory;
+use sd_op::Op;
+use sd_tcode::Layout;
 
 /// The number of a register behind another one. There is no room for 2^32 registers.
 pub(crate) fn behind(register: u32, count: u32) -> Result<u32, NoMemory>

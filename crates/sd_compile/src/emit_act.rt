@@ -5,10 +5,10 @@ ghost use Rattle.sd_tcode.specs.Named.{count_of};
 ghost use Rattle.sd_tcode.specs.Emitted as emitted;
 
 use crate::emit::{behind, dims_of, emit_operand, emit_value, emit_values, is_scalar, join, put};
-use crate::layout::Layout;
-use crate::op::Op;
 use sd_graph::{Act, Value};
 use sd_list::NoMemory;
+use sd_op::Op;
+use sd_tcode::Layout;
 
 /// The register of a local.
 pub(crate) fn local_register(layout: Layout, local: u32) -> Result<u32, NoMemory>

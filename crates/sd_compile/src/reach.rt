@@ -1,7 +1,8 @@
 ghost use Rattle.std.specs.Prelude.{◌≡◌, ◌≤◌, ◌+◌, length};
-ghost use Rattle.sd_tcode.specs.Within as within;
+ghost use Rattle.sd_op.specs.Within as within;
+ghost use Rattle.sd_compile.specs.Reach as needed;
 
-use crate::op::Op;
+use sd_op::Op;
 
 /// How many registers there have to be for one of this number.
 fn past(register: u32) -> usize
@@ -19,7 +20,7 @@ fn past_index(first: u32, dims: u8) -> usize
 
 /// How many registers there have to be for those that an instruction names.
 fn reach(op: Op) -> usize
-    ensures { result ≡ within.reach op }
+    ensures { result ≡ needed.reach op }
 {
     match op {
         Op::Number { to, .. } => past(to),
@@ -63,7 +64,7 @@ fn reach(op: Op) -> usize
 
 /// The same for all of them.
 pub(crate) fn reach_all(ops: &[Op]) -> usize
-    ensures { result ≡ within.reach_all ops.now }
+    ensures { result ≡ needed.reach_all ops.now }
 {
     let mut most = 0;
     for op in ops {

@@ -3,8 +3,8 @@ use Rattle.std.proofs.Common.{◌≡◌, ℕ, zero, suc, ◌<◌, List, [], ◌�
 use Rattle.sd_range.specs.Subset.{inside}
 use Rattle.sd_graph.specs.TaskletMeaning.{checked}
 use Rattle.sd_work.specs.declared.fault.FaultKind.TheVariants.{Subscript}
-use Rattle.sd_tcode.specs.Machine.{extents_at, cells_at}
-use Rattle.sd_tcode.specs.declared.array.Array.{Array}
+use Rattle.sd_op.specs.Machine.{extents_at, cells_at}
+use Rattle.sd_op.specs.declared.array.Array.{Array}
 
 pub extents_got : (arrays : List Array) (i : ℕ) (d : Array) → i < length arrays → (get_or arrays i d).extents.items ≡ extents_at arrays i
 extents_got [] i d h = absurd (omega arith)

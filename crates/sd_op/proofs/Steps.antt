@@ -2,10 +2,10 @@
 use Rattle.std.proofs.Common.{◌≡◌, ℕ, zero, suc, ◌+◌, ◌<◌, ◌≤◌, List, [], ◌∷◌, length, get_or, drop, Ok, refl, sym, ap, ◌∙◌, arith, drop-cons}
 use Rattle.std.proofs.lemmas.List.{drop-drop}
 use Rattle.sd_graph.specs.TaskletMeaning.{and_then}
-use Rattle.sd_tcode.specs.Machine.{State, after_one, passed, after_all, state_only}
-use Rattle.sd_tcode.specs.Within.{kept_by, most_kept}
-use Rattle.sd_tcode.specs.declared.array.Array.{Array}
-use Rattle.sd_tcode.specs.declared.op.Op.{Op}
+use Rattle.sd_op.specs.Machine.{State, after_one, passed, after_all, state_only}
+use Rattle.sd_op.specs.Within.{kept_by, most_kept}
+use Rattle.sd_op.specs.declared.array.Array.{Array}
+use Rattle.sd_op.specs.declared.op.Op.{Op}
 
 kept_less : (n : ℕ) (ops : List Op) → most_kept (drop n ops) ≤ most_kept ops
 kept_less zero ops = omega arith

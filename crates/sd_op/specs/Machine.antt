@@ -8,9 +8,9 @@ use Rattle.sd_graph.specs.declared.operator.TwoSign.{TwoSign}
 use Rattle.sd_graph.specs.declared.operator.TwoSign.TheVariants as between
 use Rattle.sd_tasklet.specs.Kept.{filled}
 use Rattle.sd_tasklet.specs.declared.effect.Effect.{Effect}
-use Rattle.sd_tcode.specs.declared.op.Op.{Op}
-use Rattle.sd_tcode.specs.declared.op.Op.TheVariants.{Number, Copy, Not, Neg, Inv, Or, And, Less, LessEqual, Greater, GreaterEqual, Equal, Differ, BitOr, BitXor, BitAnd, Add, Sub, Mul, FloorDiv, Mod, Min, Max, Element, Inside, Keep, Skip, SkipIfZero, SkipUnlessZero}
-use Rattle.sd_tcode.specs.declared.array.Array.{Array}
+use Rattle.sd_op.specs.declared.op.Op.{Op}
+use Rattle.sd_op.specs.declared.op.Op.TheVariants.{Number, Copy, Not, Neg, Inv, Or, And, Less, LessEqual, Greater, GreaterEqual, Equal, Differ, BitOr, BitXor, BitAnd, Add, Sub, Mul, FloorDiv, Mod, Min, Max, Element, Inside, Keep, Skip, SkipIfZero, SkipUnlessZero}
+use Rattle.sd_op.specs.declared.array.Array.{Array}
 
 -- what instructions change: registers, and the effects that were kept so far
 pub record State : Type 0 where

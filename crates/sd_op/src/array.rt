@@ -1,6 +1,6 @@
 ghost use Rattle.std.specs.Prelude.{◌≡◌, ◌<◌, ◌≤◌, Ok, length};
 ghost use Rattle.sd_graph.specs.TaskletMeaning as meaning;
-ghost use Rattle.sd_tcode.specs.Machine.{answered, extents_at, cells_at, cell_of};
+ghost use Rattle.sd_op.specs.Machine.{answered, extents_at, cells_at, cell_of};
 ghost use Rattle.sd_range.specs.Points.{product};
 
 use sd_graph::FaultKind;
@@ -9,9 +9,9 @@ use sd_tasklet::{is_inside, row_number};
 /// The extents of a connector, and the elements of an input connector that has dimensions, in row
 /// order.
 #[derive(Drop)]
-pub(crate) struct Array {
-    pub(crate) extents: Vec<u64>,
-    pub(crate) cells: Vec<i64>,
+pub struct Array {
+    pub extents: Vec<u64>,
+    pub cells: Vec<i64>,
 }
 
 /// The extents of a connector.

@@ -1,8 +1,8 @@
 ghost use Rattle.std.specs.Prelude.{◌≡◌, ◌^◌, ◌+◌, ◌≤◌, ◌<◌, length, take, pos, slice_set, slice_range, slice_index_or, Ok, OnErr, IfOk};
 ghost use Rattle.sd_graph.specs.TaskletMeaning as meaning;
-ghost use Rattle.sd_tcode.specs.Machine.{State, after_one, passed, answered, extents_at, cell_of};
-ghost use Rattle.sd_tcode.specs.Within.{Room, IsWithin, kept_by};
-ghost use Rattle.sd_tcode.specs.Memory.{HasCells};
+ghost use Rattle.sd_op.specs.Machine.{State, after_one, passed, answered, extents_at, cell_of};
+ghost use Rattle.sd_op.specs.Within.{Room, IsWithin, kept_by};
+ghost use Rattle.sd_op.specs.Memory.{HasCells};
 
 use crate::array::{Array, element, is_at};
 use crate::log::Log;

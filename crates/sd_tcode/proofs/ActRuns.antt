@@ -11,14 +11,16 @@ use Rattle.sd_tasklet.specs.Kept.{filled, told}
 use Rattle.sd_tasklet.specs.declared.effect.Effect.{Effect}
 use Rattle.sd_tasklet.proofs.KeptLemmas.{front_filled}
 use Rattle.sd_tcode.specs.Named.{count_of, dimensions_of, SetsOf, AllSetsOf}
-use Rattle.sd_tcode.specs.Machine.{State, register, index_in, with_kept}
-use Rattle.sd_tcode.specs.Within.{Room, IsWithin}
+use Rattle.sd_op.specs.Machine.{State, register, index_in, with_kept}
+use Rattle.sd_op.specs.Within.{Room, IsWithin}
 use Rattle.sd_tcode.specs.Emitted.{output_register, local_register, free_register, operand_register, unless_ready, either_code, value_code, values_code, inside_code, act_code, acts_code, layout_of}
-use Rattle.sd_tcode.specs.declared.array.Array.{Array}
-use Rattle.sd_tcode.specs.declared.op.Op.{Op}
-use Rattle.sd_tcode.specs.declared.op.Op.TheVariants.{Keep, Skip}
+use Rattle.sd_op.specs.declared.array.Array.{Array}
+use Rattle.sd_op.specs.declared.op.Op.{Op}
+use Rattle.sd_op.specs.declared.op.Op.TheVariants.{Keep, Skip}
 use Rattle.sd_tcode.proofs.Flow.{all_front, all_back, Comes, comes_on, comes_not, either_first, either_second}
-use Rattle.sd_tcode.proofs.Runs.{scalar_inside, Kept, Leaves, Holds, Stands, Yields, Reads, ReadsAll, AllIn, value_runs, values_run, operand, unless_open, still_stands, index_more, index_none, test_passes}
+use Rattle.sd_tcode.proofs.Signs.{test_passes}
+use Rattle.sd_tcode.proofs.States.{Kept, Leaves}
+use Rattle.sd_tcode.proofs.Runs.{scalar_inside, Holds, Stands, Yields, Reads, ReadsAll, AllIn, value_runs, values_run, operand, unless_open, still_stands, index_more, index_none}
 
 module _ (code : TaskletTree) (inputs : Inputs) (arrays : List Array) (room : Room) where
   abbrev first_free : ℕ

@@ -3,11 +3,11 @@ use Rattle.std.proofs.Common.{◌≡◌, ℕ, zero, suc, ◌+◌, List, [], ◌�
 use Rattle.std.specs.List.{AllByRecursion}
 use Rattle.sd_graph.specs.TaskletMeaning.{Meaning, and_then}
 use Rattle.sd_work.specs.declared.fault.FaultKind.{FaultKind}
-use Rattle.sd_tcode.specs.Machine.{State, after_one, passed, after_all}
+use Rattle.sd_op.specs.Machine.{State, after_one, passed, after_all}
 use Rattle.sd_tcode.specs.Emitted.{test_op, either_code}
-use Rattle.sd_tcode.specs.declared.array.Array.{Array}
-use Rattle.sd_tcode.specs.declared.op.Op.{Op}
-use Rattle.sd_tcode.specs.declared.op.Op.TheVariants.{Skip}
+use Rattle.sd_op.specs.declared.array.Array.{Array}
+use Rattle.sd_op.specs.declared.op.Op.{Op}
+use Rattle.sd_op.specs.declared.op.Op.TheVariants.{Skip}
 
 -- what holds of all instructions holds of those in front and of those behind
 pub all_front : (P : Op → Type 0) (first second : List Op) → AllByRecursion P (first ++ second) → AllByRecursion P first

@@ -7,7 +7,7 @@ use Rattle.sd_graph.specs.TaskletMeaning.{Inputs, extents_of_connector, meaning_
 use Rattle.sd_work.specs.declared.fault.FaultKind.{FaultKind}
 use Rattle.sd_tasklet.specs.Kept.{told}
 use Rattle.sd_tcode.specs.Named.{dimensions_of}
-use Rattle.sd_tcode.specs.Machine.{State, after_all, state_only, answered}
+use Rattle.sd_op.specs.Machine.{State, after_all, state_only, answered}
 use Rattle.sd_tcode.specs.Outputs.{output_effects}
 use Rattle.sd_tcode.specs.Compiled.{Compiled, IsSafe, IsCodeOf}
 use Rattle.sd_tcode.specs.Held.{given, effects_of, output_of, kept_output, given_by, IsFrameOf}

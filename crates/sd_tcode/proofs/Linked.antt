@@ -13,14 +13,14 @@ use Rattle.sd_work.specs.declared.fault.FaultKind.{FaultKind}
 use Rattle.sd_tasklet.specs.Given.{IsWhole}
 use Rattle.sd_tasklet.specs.Kept.{told}
 use Rattle.sd_tcode.specs.Named.{dimensions_of}
-use Rattle.sd_tcode.specs.Machine.{State, register, extents_at, cells_at, after_all, state_only, answered}
-use Rattle.sd_tcode.specs.Within.{IsWithin}
-use Rattle.sd_tcode.specs.Memory.{HasCells}
+use Rattle.sd_op.specs.Machine.{State, register, extents_at, cells_at, after_all, state_only, answered}
+use Rattle.sd_op.specs.Within.{IsWithin}
+use Rattle.sd_op.specs.Memory.{HasCells}
 use Rattle.sd_tcode.specs.Emitted.{layout_of, tasklet_code, output_register}
 use Rattle.sd_tcode.specs.Outputs.{output_effects}
 use Rattle.sd_tcode.specs.Compiled.{Compiled, IsSafe, IsCodeOf, is_plain, room_of}
 use Rattle.sd_tcode.specs.Held.{elements_in, given_by}
-use Rattle.sd_tcode.specs.declared.array.Array.{Array}
+use Rattle.sd_op.specs.declared.array.Array.{Array}
 use Rattle.sd_tcode.proofs.Runs.{Holds}
 use Rattle.sd_tcode.proofs.Plains.{plain_set}
 use Rattle.sd_tcode.proofs.Whole.{IsGiven, is_meant, tasklet_runs, plain_runs}

@@ -1,13 +1,13 @@
 -- What a frame is given, one number after another.
-use Rattle.std.proofs.Common.{◌≡◌, ℕ, zero, suc, ◌+◌, ◌-◌, ◌<◌, ◌≤◌, ℤ, pos, List, [], ◌∷◌, length, map, get_or, take, drop, replicate, Bool, true, false, ◌==◌, if◌then◌else◌, refl, sym, ap, ◌∙◌, subst, arith}
+use Rattle.std.proofs.Common.{◌≡◌, ℕ, zero, suc, ◌+◌, ◌-◌, ◌<◌, ◌≤◌, min, ℤ, pos, List, [], ◌∷◌, length, map, get_or, take, drop, replicate, Bool, true, false, ◌==◌, if◌then◌else◌, refl, sym, ap, ◌∙◌, subst, arith}
 use Rattle.std.specs.Prelude.{slice_index_or, slice_set}
 use Rattle.std.proofs.lemmas.Bool.Decides.{nat_tests}
-use Rattle.std.proofs.lemmas.List.{length-set, length-replicate, take-set-le, drop-set-add, drop-set-lt, take-replicate, drop-replicate}
+use Rattle.std.proofs.lemmas.List.{map-set, length-set, length-replicate, take-set-le, drop-set-add, drop-set-lt, take-replicate, drop-replicate}
 use Rattle.std.proofs.Math.Seq.{take-set-lt}
-use Rattle.sd_tcode.specs.Machine.{extents_at, cells_at}
-use Rattle.sd_tcode.specs.Held.{elements_in, zero_elements, zero_cells, given_by, with_element, with_extent, with_variable}
-use Rattle.sd_tcode.specs.declared.array.Array.{Array}
-use Rattle.sd_tcode.proofs.Arrays.{cells_got}
+use Rattle.sd_op.specs.Machine.{extents_at, cells_at}
+use Rattle.sd_tcode.specs.Held.{elements_in, zero_elements, zero_cells, given_by, with_element, with_extents, with_variable}
+use Rattle.sd_op.specs.declared.array.Array.{Array}
+use Rattle.sd_op.proofs.Arrays.{cells_got}
 use Rattle.sd_tcode.proofs.Linked.{elements_same}
 
 -- what has a member is there
@@ -16,13 +16,19 @@ there_by_place [] connector at h = absurd (omega arith)
 there_by_place (first ∷ rest) zero at h = omega arith
 there_by_place (first ∷ rest) (suc connector) at h = omega (arith, there_by_place rest connector at h)
 
-elements_there : (arrays : List Array) (scalars : List ℤ) (connector : ℕ) → connector < length (elements_in arrays scalars) → (connector < length arrays) × (connector < length scalars)
+pub elements_there : (arrays : List Array) (scalars : List ℤ) (connector : ℕ) → connector < length (elements_in arrays scalars) → (connector < length arrays) × (connector < length scalars)
 elements_there [] scalars connector h = absurd (omega arith)
 elements_there (array ∷ arrays) [] connector h = absurd (omega arith)
 elements_there (array ∷ arrays) (value ∷ scalars) zero h = (omega arith, omega arith)
 elements_there (array ∷ arrays) (value ∷ scalars) (suc connector) h =
     let low = elements_there arrays scalars connector (omega arith) in
     (omega (arith, low.0), omega (arith, low.1))
+
+-- there are elements for each scalar that has an array
+pub elements_many : (arrays : List Array) (scalars : List ℤ) → length (elements_in arrays scalars) ≡ min (length scalars) (length arrays)
+elements_many [] scalars = omega arith
+elements_many (array ∷ arrays) [] = omega arith
+elements_many (array ∷ arrays) (value ∷ scalars) = omega (arith, elements_many arrays scalars)
 
 pub elements_low : (arrays : List Array) (scalars : List ℤ) (connector at : ℕ) → at < length (slice_index_or (elements_in arrays scalars) connector []) → (connector < length arrays) × (connector < length scalars)
 elements_low arrays scalars connector at h = elements_there arrays scalars connector (there_by_place (elements_in arrays scalars) connector at h)
@@ -71,13 +77,7 @@ dims_kept [] connector new e = refl
 dims_kept (array ∷ arrays) zero new e = ap (λ n. n ∷ map (λ (array : Array). length array.extents.items) arrays) e
 dims_kept (array ∷ arrays) (suc connector) new e = ap (λ l. length array.extents.items ∷ l) (dims_kept arrays connector new e)
 
--- an extent
-pub extent_set : (arrays : List Array) (connector dim extent : ℕ) (new : Array) → new.extents.items ≡ slice_set (extents_at arrays connector) dim extent →
-    map (λ array. array.extents.items) (slice_set arrays connector new) ≡ slice_set (map (λ array. array.extents.items) arrays) connector (slice_set (slice_index_or (map (λ array. array.extents.items) arrays) connector []) dim extent)
-extent_set [] connector dim extent new e = refl
-extent_set (array ∷ arrays) zero dim extent new e = ap (λ l. l ∷ map (λ (array : Array). array.extents.items) arrays) e
-extent_set (array ∷ arrays) (suc connector) dim extent new e = ap (λ l. array.extents.items ∷ l) (extent_set arrays connector dim extent new e)
-
+-- extents of the same number leave the elements
 pub elements_kept : (arrays : List Array) (scalars : List ℤ) (connector : ℕ) (new : Array) → length new.extents.items ≡ length (extents_at arrays connector) → new.cells.items ≡ cells_at arrays connector → elements_in (slice_set arrays connector new) scalars ≡ elements_in arrays scalars
 elements_kept [] scalars connector new e g = refl
 elements_kept (array ∷ arrays) [] connector new e g = by_place connector
@@ -155,11 +155,11 @@ cell_given inputs fixed arrays connector at value new e g h = (λ i. record {
   variables = drop inputs fixed;
 })
 
-pub extent_given : (inputs : ℕ) (fixed : List ℤ) (arrays : List Array) (connector dim extent : ℕ) (new : Array) → new.extents.items ≡ slice_set (extents_at arrays connector) dim extent → new.cells.items ≡ cells_at arrays connector →
-    given_by inputs fixed (slice_set arrays connector new) ≡ with_extent (given_by inputs fixed arrays) connector dim extent
-extent_given inputs fixed arrays connector dim extent new e g = (λ i. record {
-  values = elements_kept arrays (take inputs fixed) connector new (ap length e ∙ length-set (extents_at arrays connector) dim extent) g i;
-  extents = extent_set arrays connector dim extent new e i;
+pub extents_given : (inputs : ℕ) (fixed : List ℤ) (arrays : List Array) (connector : ℕ) (extents : List ℕ) (new : Array) → new.extents.items ≡ extents → length extents ≡ length (extents_at arrays connector) → new.cells.items ≡ cells_at arrays connector →
+    given_by inputs fixed (slice_set arrays connector new) ≡ with_extents (given_by inputs fixed arrays) connector extents
+extents_given inputs fixed arrays connector extents new is many cells = (λ i. record {
+  values = elements_kept arrays (take inputs fixed) connector new (ap length is ∙ many) cells i;
+  extents = (map-set (λ (array : Array). array.extents.items) arrays connector new ∙ ap (λ l. slice_set (map (λ (array : Array). array.extents.items) arrays) connector l) is) i;
   variables = drop inputs fixed;
 })
 

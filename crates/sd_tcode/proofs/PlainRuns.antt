@@ -8,13 +8,13 @@ use Rattle.sd_graph.specs.PlainTree.{ValueTree, ValueTrees, no_value, and_value,
 use Rattle.sd_graph.specs.TaskletMeaning as meaning
 use Rattle.sd_graph.specs.TaskletMeaning.{Meaning, Inputs, Progress, and_then, holds, checked, place_of, extents_of_connector, value_of, values_of, act_of, acts_of, with_effect}
 use Rattle.sd_tcode.specs.Named.{dimensions_of, SetsOf, AllSetsOf}
-use Rattle.sd_tcode.specs.Machine.{State, register}
-use Rattle.sd_tcode.specs.Within.{Room, IsWithin}
+use Rattle.sd_op.specs.Machine.{State, register}
+use Rattle.sd_op.specs.Within.{Room, IsWithin}
 use Rattle.sd_tcode.specs.Emitted.{output_register, local_register, free_register, value_code, act_code, acts_code, is_scalar, layout_of}
 use Rattle.sd_tcode.specs.Plain.{is_among, set_after, set_by}
 use Rattle.sd_tcode.specs.Outputs.{output_effects}
-use Rattle.sd_tcode.specs.declared.array.Array.{Array}
-use Rattle.sd_tcode.specs.declared.op.Op.{Op}
+use Rattle.sd_op.specs.declared.array.Array.{Array}
+use Rattle.sd_op.specs.declared.op.Op.{Op}
 use Rattle.sd_tcode.proofs.Flow.{all_front, all_back, Comes, comes_on, comes_not}
 use Rattle.sd_tcode.proofs.Runs.{Holds, Stands, Yields, AllIn, scalar_inside, value_runs}
 use Rattle.sd_tcode.proofs.Plains.{next_set, all_and_one}

@@ -8,12 +8,12 @@ use Rattle.sd_graph.specs.TaskletMeaning as meaning
 use Rattle.sd_graph.specs.TaskletMeaning.{Meaning, Inputs, Progress, and_then, element_of, acts_of, meaning_of}
 use Rattle.sd_tasklet.specs.Kept.{told}
 use Rattle.sd_tcode.specs.Named.{dimensions_of, IsNamed}
-use Rattle.sd_tcode.specs.Machine.{State, register, with_register, after_all}
-use Rattle.sd_tcode.specs.Within.{Room, IsWithin}
+use Rattle.sd_op.specs.Machine.{State, register, with_register, after_all}
+use Rattle.sd_op.specs.Within.{Room, IsWithin}
 use Rattle.sd_tcode.specs.Emitted.{variable_register, local_register, acts_code, locals_code, tasklet_code, layout_of}
 use Rattle.sd_tcode.specs.Plain.{set_by}
-use Rattle.sd_tcode.specs.declared.array.Array.{Array}
-use Rattle.sd_tcode.specs.declared.op.Op.{Op}
+use Rattle.sd_op.specs.declared.array.Array.{Array}
+use Rattle.sd_op.specs.declared.op.Op.{Op}
 use Rattle.sd_tcode.proofs.Flow.{all_front, all_back, Comes, comes_on}
 use Rattle.sd_tcode.proofs.Runs.{Holds, Stands, AllIn}
 use Rattle.sd_tcode.proofs.ActRuns.{Before, Does, does_on, acts_run}

@@ -7,8 +7,8 @@ use Rattle.sd_graph.specs.declared.operator.TwoSign.{TwoSign}
 use Rattle.sd_graph.specs.declared.operator.TwoSign.TheVariants as between
 use Rattle.sd_tcode.specs.Named.{count_of}
 use Rattle.sd_tcode.specs.declared.layout.Layout.{Layout}
-use Rattle.sd_tcode.specs.declared.op.Op.{Op}
-use Rattle.sd_tcode.specs.declared.op.Op.TheVariants.{Number, Copy, Not, Neg, Inv, Or, And, Less, LessEqual, Greater, GreaterEqual, Equal, Differ, BitOr, BitXor, BitAnd, Add, Sub, Mul, FloorDiv, Mod, Min, Max, Element, Inside, Keep, Skip, SkipIfZero, SkipUnlessZero}
+use Rattle.sd_op.specs.declared.op.Op.{Op}
+use Rattle.sd_op.specs.declared.op.Op.TheVariants.{Number, Copy, Not, Neg, Inv, Or, And, Less, LessEqual, Greater, GreaterEqual, Equal, Differ, BitOr, BitXor, BitAnd, Add, Sub, Mul, FloorDiv, Mod, Min, Max, Element, Inside, Keep, Skip, SkipIfZero, SkipUnlessZero}
 
 -- The registers in their order: the input connectors, the variables, the output connectors, the locals, and then what is computed on the way.
 -- An input connector has the register of its own number.

@@ -1,10 +1,12 @@
 -- What a frame holds.
-use Rattle.std.specs.Prelude.{◌≡◌, ℕ, ◌+◌, ℤ, pos, List, [], ◌∷◌, length, map, take, drop, ◌==◌, if◌then◌else◌, slice_index_or, slice_set, replicate}
+use Rattle.std.specs.Prelude.{◌≡◌, ℕ, ◌+◌, ◌<◌, ◌≤◌, ℤ, pos, List, [], ◌∷◌, length, map, take, drop, Bool, ◌==◌, nat_lt, nat_le, ◌&&◌, ◌||◌, if◌then◌else◌, slice_index_or, slice_set, replicate}
+use Rattle.sd_range.specs.Points.{product}
 use Rattle.sd_graph.specs.TaskletMeaning as meaning
+use Rattle.sd_tasklet.specs.Given.{IsWhole}
 use Rattle.sd_tasklet.specs.Kept.{told}
 use Rattle.sd_tasklet.specs.declared.effect.Effect.{Effect}
 use Rattle.sd_tcode.specs.Compiled.{Compiled}
-use Rattle.sd_tcode.specs.declared.array.Array.{Array}
+use Rattle.sd_op.specs.declared.array.Array.{Array}
 use Rattle.sd_tcode.specs.declared.frame.Frame.{Frame}
 
 -- the elements of each input connector; a scalar stands in its register
@@ -40,6 +42,20 @@ pub record IsFrameOf (code : Compiled) (frame : Frame) : Type 0 where
   pub inputs : frame.inputs ≡ code.layout.inputs
   pub variables : frame.variables ≡ code.layout.variables
 
+-- how many elements an input connector has room for; another connector has none
+abbrev pub room_for : meaning.Inputs → (connector : ℕ) → ℕ
+room_for inputs connector = length (slice_index_or inputs.values connector [])
+
+-- a connector has at most four dimensions and, as an input, room for as many elements as its extents multiply to
+pub record IsWholeAt (inputs : meaning.Inputs) (connector : ℕ) : Type 0 where
+  pub dimensions : length (meaning.extents_of_connector inputs connector) ≤ 4
+  pub elements : connector < length inputs.values → product (meaning.extents_of_connector inputs connector) ≤ room_for inputs connector
+
+-- a frame that may be run by this code: it has room for it, and what it is given is whole
+pub record IsReady (code : Compiled) (frame : Frame) : Type 0 where
+  pub fits : IsFrameOf code frame
+  pub whole : IsWhole (given frame)
+
 -- the effect of an output that plain code left, as it is kept
 abbrev pub kept_output : (variables : ℕ) → (registers : List ℤ) → (connector : ℕ) → Effect
 kept_output variables registers connector = record { connector = connector; at = 0 ∷ 0 ∷ 0 ∷ 0 ∷ []; value = slice_index_or registers (variables + connector) (pos 0) }
@@ -48,9 +64,16 @@ kept_output variables registers connector = record { connector = connector; at =
 abbrev pub with_element : meaning.Inputs → (connector at : ℕ) → (value : ℤ) → meaning.Inputs
 with_element inputs connector at value = record inputs { values = slice_set inputs.values connector (slice_set (slice_index_or inputs.values connector []) at value) }
 
--- one extent of a connector
-abbrev pub with_extent : meaning.Inputs → (connector dim extent : ℕ) → meaning.Inputs
-with_extent inputs connector dim extent = record inputs { extents = slice_set inputs.extents connector (slice_set (slice_index_or inputs.extents connector []) dim extent) }
+-- the extents of a connector
+abbrev pub with_extents : meaning.Inputs → (connector : ℕ) → (extents : List ℕ) → meaning.Inputs
+with_extents inputs connector extents = record inputs { extents = slice_set inputs.extents connector extents }
+
+-- a connector may have these extents: as many as it has dimensions and, as an input, with room for as many elements as they multiply to
+abbrev pub may_have : meaning.Inputs → (connector : ℕ) → (extents : List ℕ) → Bool
+may_have inputs connector extents =
+    nat_lt connector (length inputs.extents)
+    && ((length extents == length (meaning.extents_of_connector inputs connector))
+    && (nat_le (length inputs.values) connector || nat_le (product extents) (room_for inputs connector)))
 
 -- one variable
 abbrev pub with_variable : meaning.Inputs → (variable : ℕ) → (value : ℤ) → meaning.Inputs

@@ -1,5 +1,5 @@
 use crate::layout::Layout;
-use crate::op::Op;
+use sd_op::Op;
 use std::marker::Model;
 
 /// The flat code of a tasklet.
@@ -27,6 +27,37 @@ impl Model for Code {
 
 impl Code {
     ghost use Rattle.std.specs.Prelude.{◌≡◌, option_map};
+    ghost use Rattle.sd_tcode.specs.Compiled.{IsSafe};
+
+    /// Code of these instructions, with the dimensions of each connector, how many registers and
+    /// effects there are, and the outputs of plain code in the order in which it sets them.
+    pub fn new(
+        ops: Vec<Op>,
+        layout: Layout,
+        dims: Vec<u32>,
+        registers: usize,
+        slots: usize,
+        plain: Option<Vec<u32>>,
+    ) -> Code
+        requires { IsSafe (record { ops = ops.items; layout = layout; dims = dims.items; registers = registers; slots = slots; plain = option_map (λ order. order.items) plain }) }
+        ensures { result ≡ record { ops = ops.items; layout = layout; dims = dims.items; registers = registers; slots = slots; plain = option_map (λ order. order.items) plain } }
+    {
+        Code {
+            ops,
+            layout,
+            dims,
+            registers,
+            slots,
+            plain,
+        }
+    }
+
+    /// How many input connectors the code has.
+    pub fn input_count(&self) -> usize
+        ensures { result ≡ self.now.layout.inputs }
+    {
+        self.layout.inputs as usize
+    }
 
     /// The outputs in the order in which the code sets them, where each is a scalar that is set exactly
     /// once, outside of branches; `run_plain` leaves them in registers.

@@ -1,14 +1,12 @@
 ghost use Rattle.std.specs.Prelude.{◌≡◌, ◌+◌, ◌<◌, ◌++◌, ◌∷◌, [], length, map, replicate, slice_index_or, if◌then◌else◌, ◌==◌, pos, zero, take, IfOk};
 ghost use Rattle.sd_graph.specs.TaskletMeaning.{Inputs};
 ghost use Rattle.sd_graph.specs.PlainTree.{TaskletTree};
-ghost use Rattle.sd_tasklet.specs.Given.{IsWhole};
 ghost use Rattle.sd_tcode.specs.Compiled.{Compiled, IsCodeOf};
-ghost use Rattle.sd_tcode.specs.Held.{IsFrameOf, given, output_of, zero_cells, with_element, with_extent, with_variable, zeros_for};
+ghost use Rattle.sd_tcode.specs.Held.{IsFrameOf, IsReady, given, output_of, room_for, may_have, zero_cells, with_element, with_extents, with_variable, zeros_for};
 
-use crate::array::Array;
 use crate::code::Code;
-use crate::log::Log;
 use sd_list::NoMemory;
+use sd_op::{Array, Log};
 use sd_tasklet::Effect;
 use std::alloc::Global;
 
@@ -63,7 +61,7 @@ impl Frame {
         requires { length widest.now ≡ code.now.layout.inputs }
         ensures frame { IfOk result (IsFrameOf code.now) }
         ensures given { IfOk result (λ frame. given frame ≡ zeros_for code.now widest.now) }
-        ensures whole { IfOk result (λ frame. (tree : TaskletTree) → IsCodeOf tree code.now → IsWhole (given frame)) }
+        ensures ready { IfOk result (λ frame. (tree : TaskletTree) → IsCodeOf tree code.now → IsReady code.now frame) }
     {
         Ok(Frame {
             registers: zeros(alloc, code.registers)?,
@@ -77,9 +75,9 @@ impl Frame {
     /// Gives an input connector the element at a place in row order.
     #[inline(always)]
     pub fn load(&mut self, connector: u32, at: u64, value: i64)
-        requires { at < length (slice_index_or (given self.old).values connector []) }
+        requires { at < room_for (given self.old) connector }
         ensures given { given self.new ≡ with_element (given self.old) connector at value }
-        ensures frame { (code : Compiled) → IsFrameOf code self.old → IsFrameOf code self.new }
+        ensures ready { (code : Compiled) → IsReady code self.old → IsReady code self.new }
     {
         let connector = connector as usize;
         if self.arrays[connector].extents.is_empty() {
@@ -89,13 +87,21 @@ impl Frame {
         }
     }
 
-    /// Sets one extent of a connector.
-    pub fn shape(&mut self, connector: u32, dim: u32, extent: u64)
-        requires { dim < length (slice_index_or (given self.old).extents connector []) }
-        ensures given { given self.new ≡ with_extent (given self.old) connector dim extent }
-        ensures frame { (code : Compiled) → IsFrameOf code self.old → IsFrameOf code self.new }
+    /// Sets the extents of a connector, and tells whether it may have them: as many as it has
+    /// dimensions and, for an input, with room for as many elements as they multiply to. Else nothing
+    /// changes.
+    pub fn shape(&mut self, connector: u32, extents: &[u64]) -> bool
+        ensures may { result ≡ may_have (given self.old) connector extents.now }
+        ensures given { given self.new ≡ (if result then with_extents (given self.old) connector extents.now else given self.old) }
+        ensures ready { (code : Compiled) → IsReady code self.old → IsReady code self.new }
     {
-        self.arrays[connector as usize].extents[dim as usize] = extent;
+        if !self.may_have(connector, extents) {
+            return false;
+        }
+        self.arrays[connector as usize]
+            .extents
+            .copy_from_slice(extents);
+        true
     }
 
     /// Sets a variable.
@@ -103,7 +109,7 @@ impl Frame {
     pub fn set(&mut self, variable: u32, value: i64)
         requires { variable < length (given self.old).variables }
         ensures given { given self.new ≡ with_variable (given self.old) variable value }
-        ensures frame { (code : Compiled) → IsFrameOf code self.old → IsFrameOf code self.new }
+        ensures ready { (code : Compiled) → IsReady code self.old → IsReady code self.new }
     {
         self.registers[self.inputs + variable as usize] = value;
     }

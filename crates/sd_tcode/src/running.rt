@@ -3,50 +3,18 @@ ghost use Rattle.std.specs.List.{AllByRecursion};
 ghost use Rattle.sd_graph.specs.PlainTree.{TaskletTree};
 ghost use Rattle.sd_graph.specs.TaskletMeaning.{meaning_of};
 ghost use Rattle.sd_tasklet.specs.Given.{IsWhole};
-ghost use Rattle.sd_tcode.specs.Machine.{State, after_all, state_only, answered};
-ghost use Rattle.sd_tcode.specs.Within.{Room, IsWithin, most_kept};
-ghost use Rattle.sd_tcode.specs.Memory.{HasCells};
+ghost use Rattle.sd_op.specs.Machine.{State, after_all, state_only, answered};
+ghost use Rattle.sd_op.specs.Within.{Room, IsWithin, most_kept};
+ghost use Rattle.sd_op.specs.Memory.{HasCells};
 ghost use Rattle.sd_tcode.specs.Outputs.{output_effects};
 ghost use Rattle.sd_tcode.specs.Compiled.{IsCodeOf, IsSafe, room_of};
-ghost use Rattle.sd_tcode.specs.Held.{IsFrameOf, given, effects_of, output_of, kept_output};
+ghost use Rattle.sd_tcode.specs.Held.{IsFrameOf, IsReady, given, effects_of, output_of, kept_output};
 
-use crate::array::Array;
 use crate::code::Code;
 use crate::frame::Frame;
-use crate::log::Log;
-use crate::op::Op;
-use crate::step::step;
 use sd_graph::FaultKind;
+use sd_op::{Log, run_ops};
 use sd_tasklet::Effect;
-
-/// The instructions one after another.
-#[inline(always)]
-fn run_ops(
-    ops: &[Op],
-    arrays: &[Array],
-    registers: &mut [i64],
-    log: &mut Log,
-) -> Result<(), FaultKind>
-    ghost room: { Room }
-    requires within { AllByRecursion (IsWithin room) ops.now }
-    requires registers { length registers.old ≡ room.registers }
-    requires connectors { length arrays.now ≡ room.connectors }
-    requires inputs { room.inputs ≤ room.connectors }
-    requires cells { HasCells room.inputs arrays.now }
-    requires log { length log.old.0 + most_kept ops.now ≤ log.old.1 }
-    ensures many { length registers.new ≡ length registers.old }
-    ensures given { take room.given registers.new ≡ take room.given registers.old }
-    ensures slots { log.new.1 ≡ log.old.1 }
-    ensures kept { length log.new.0 ≤ length log.old.0 + most_kept ops.now }
-    ensures done { state_only (after_all arrays.now 0 ops.now (record { registers = registers.old; effects = log.old.0 })) ≡ answered result (record { registers = registers.new; effects = log.new.0 }) }
-{
-    let mut at = 0;
-    while at < ops.len() {
-        let passed = step(ops[at], arrays, registers, log)?;
-        at += 1 + passed;
-    }
-    Ok(())
-}
 
 /// The instructions of the code, from the first one on.
 #[inline(always)]
@@ -89,11 +57,10 @@ fn keep_outputs(order: &[u32], variables: usize, registers: &[i64], log: &mut Lo
 /// Runs the code on what the frame holds: its effects stand in the frame, or else the fault comes
 /// that the tasklet has. What the frame was given stays. Takes no memory.
 pub fn run(code: &Code, frame: &mut Frame) -> Result<(), FaultKind>
-    requires frame { IsFrameOf code.now frame.old }
-    requires whole { IsWhole (given frame.old) }
+    requires { IsReady code.now frame.old }
     ensures meaning { (tree : TaskletTree) → IsCodeOf tree code.now → meaning_of tree (given frame.old) ≡ answered result (effects_of frame.new) }
     ensures given { given frame.new ≡ given frame.old }
-    ensures frame { IsFrameOf code.now frame.new }
+    ensures ready { IsReady code.now frame.new }
 {
     if let Err(kind) = run_code(code, frame) {
         return Err(kind);
@@ -109,11 +76,10 @@ pub fn run(code: &Code, frame: &mut Frame) -> Result<(), FaultKind>
 /// effects. What the frame was given stays. Takes no memory.
 #[inline(always)]
 pub fn run_plain(code: &Code, frame: &mut Frame) -> Result<(), FaultKind>
-    requires frame { IsFrameOf code.now frame.old }
-    requires whole { IsWhole (given frame.old) }
+    requires { IsReady code.now frame.old }
     ensures meaning { (tree : TaskletTree) (order : List ℕ) → IsCodeOf tree code.now → code.now.plain ≡ Some order → meaning_of tree (given frame.old) ≡ answered result (output_effects (output_of frame.new) order) }
     ensures given { given frame.new ≡ given frame.old }
-    ensures frame { IsFrameOf code.now frame.new }
+    ensures ready { IsReady code.now frame.new }
     ensures outputs { (order : List ℕ) → code.now.plain ≡ Some order → AllByRecursion (λ connector. frame.new.variables + connector < length frame.new.registers.items) order }
 {
     run_code(code, frame)

@@ -4,16 +4,17 @@ use Rattle.std.specs.List.{AllByRecursion}
 use Rattle.std.proofs.lemmas.Grind.{common_steps}
 use Rattle.sd_graph.specs.TreeFold.{tasklet_tree}
 use Rattle.sd_tcode.specs.Emitted.{layout_of, tasklet_code}
-use Rattle.sd_tcode.specs.Within.{reach_all, most_kept}
+use Rattle.sd_op.specs.Within.{most_kept}
+use Rattle.sd_compile.specs.Reach.{reach_all}
 use Rattle.sd_tcode.specs.Plain.{plain_of}
 use Rattle.sd_tcode.specs.Compiled.{is_plain, AreOutputs, room_of}
 use Rattle.sd_tcode.specs.CodeView.{compiled}
-use Rattle.sd_tcode.proofs.Shapes.{IsRoom, IsShaped, tasklet_shaped, within_all}
+use Rattle.sd_compile.proofs.Shapes.{IsRoom, IsShaped, tasklet_shaped, within_all}
 use Rattle.sd_tcode.proofs.Plains.{outputs_low}
-use Rattle.sd_tcode.proofs.compiling.compile.Goals as goal
+use Rattle.sd_compile.proofs.compiling.compile.Goals as goal
 
-pub invariant_of-result : goal.invariant_of-result
-invariant_of-result c =
+pub new-requires : goal.new-requires
+new-requires c =
     let tree = tasklet_tree c.args.code.now in
     let plain = option_map (λ order. order.items) c.in_ok-plain.plain in
     let layout : c.in_ok-layout.layout ≡ layout_of tree = c.in_ok-layout.ensures in

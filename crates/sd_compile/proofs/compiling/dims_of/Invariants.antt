@@ -1,5 +1,5 @@
 use Rattle.std.proofs.Common.{◌≡◌, ◌++◌, map, take}
-use Rattle.sd_tcode.proofs.compiling.dims_of.Given as goal
+use Rattle.sd_compile.proofs.compiling.dims_of.Given as goal
 
 -- those of the connectors so far
 abbrev pub invariant-loop-port : goal.invariant-loop-port

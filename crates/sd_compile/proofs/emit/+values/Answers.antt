@@ -3,10 +3,10 @@ use Rattle.std.proofs.lemmas.Result.{on_ok_weaker}
 use Rattle.sd_graph.specs.declared.tasklet.Value.{Value}
 use Rattle.sd_graph.specs.TreeFold.{value_tree}
 use Rattle.sd_tcode.specs.Emitted as emitted
-use Rattle.sd_tcode.specs.declared.op.Op.TheVariants.{Skip, Copy}
-use Rattle.sd_tcode.proofs.Joined.{joined, choice_joined, is_jumped}
-use Rattle.sd_tcode.proofs.Values.{choice_tree}
-use Rattle.sd_tcode.proofs.emit.+values.Goals as goal
+use Rattle.sd_op.specs.declared.op.Op.TheVariants.{Skip, Copy}
+use Rattle.sd_compile.proofs.Joined.{joined, choice_joined, is_jumped}
+use Rattle.sd_compile.proofs.Values.{choice_tree}
+use Rattle.sd_compile.proofs.emit.+values.Goals as goal
 
 pub emit_value-returns-in_ok-emit_value-in-Choice-2 : goal.emit_value-returns-in_ok-emit_value-in-Choice-2
 emit_value-returns-in_ok-emit_value-in-Choice-2 t c =

@@ -4,9 +4,9 @@ use Rattle.sd_graph.specs.declared.tasklet.Act.{Act}
 use Rattle.sd_graph.specs.TreeFold.{value_tree, act_tree, act_trees}
 use Rattle.sd_tasklet.proofs.Acts.{when_tree}
 use Rattle.sd_tcode.specs.Emitted as emitted
-use Rattle.sd_tcode.specs.declared.op.Op.TheVariants.{Skip}
-use Rattle.sd_tcode.proofs.Joined.{choice_joined}
-use Rattle.sd_tcode.proofs.emit_act.+acts.Goals as goal
+use Rattle.sd_op.specs.declared.op.Op.TheVariants.{Skip}
+use Rattle.sd_compile.proofs.Joined.{choice_joined}
+use Rattle.sd_compile.proofs.emit_act.+acts.Goals as goal
 
 pub emit_act-returns-in_ok-emit_acts-in-When-2 : goal.emit_act-returns-in_ok-emit_acts-in-When-2
 emit_act-returns-in_ok-emit_acts-in-When-2 t c =

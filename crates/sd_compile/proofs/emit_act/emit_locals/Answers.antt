@@ -1,6 +1,6 @@
 use Rattle.std.proofs.Common.{◌∙◌, sym}
-use Rattle.sd_tcode.proofs.Joined.{locals_none, locals_first, locals_step}
-use Rattle.sd_tcode.proofs.emit_act.emit_locals.Goals as goal
+use Rattle.sd_compile.proofs.Joined.{locals_none, locals_first, locals_step}
+use Rattle.sd_compile.proofs.emit_act.emit_locals.Goals as goal
 
 pub loop-k-init : goal.loop-k-init
 loop-k-init c = locals_first c.args.ops.now.items c.args.first c.args.count

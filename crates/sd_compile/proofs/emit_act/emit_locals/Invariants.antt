@@ -1,6 +1,6 @@
 use Rattle.std.proofs.Common.{◌≡◌, ◌++◌, ◌+◌, ◌-◌}
 use Rattle.sd_tcode.specs.Emitted.{locals_code}
-use Rattle.sd_tcode.proofs.emit_act.emit_locals.Given as goal
+use Rattle.sd_compile.proofs.emit_act.emit_locals.Given as goal
 
 -- the code so far and that of what is left is the code of all
 abbrev pub invariant-loop-k : goal.invariant-loop-k

@@ -1,7 +1,7 @@
 use Rattle.std.proofs.Common.{drop}
 use Rattle.sd_graph.specs.TreeFold.{act_trees, tasklet_tree}
 use Rattle.sd_tcode.specs.Named.{AllSetsOf}
-use Rattle.sd_tcode.proofs.named.+sets.Given as goal
+use Rattle.sd_compile.proofs.named.+sets.Given as goal
 
 -- all set what is there where those that are left do
 abbrev pub invariant-set_names-loop-act : goal.invariant-set_names-loop-act

@@ -1,6 +1,6 @@
 use Rattle.std.proofs.Common.{◌≤◌, drop}
 use Rattle.std.specs.List.{AllByRecursion}
-use Rattle.sd_tcode.proofs.named.have_few_dimensions.Given as goal
+use Rattle.sd_compile.proofs.named.have_few_dimensions.Given as goal
 
 -- all have few where those that are left do
 abbrev pub invariant-loop-port : goal.invariant-loop-port

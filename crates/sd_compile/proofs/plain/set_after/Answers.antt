@@ -5,7 +5,7 @@ use Rattle.sd_tasklet.proofs.Acts.{out_tree}
 use Rattle.sd_tcode.specs.Plain as plain
 use Rattle.sd_tcode.specs.Emitted.{is_scalar}
 use Rattle.sd_tcode.proofs.Plains.{sets_none}
-use Rattle.sd_tcode.proofs.plain.set_after.Goals as goal
+use Rattle.sd_compile.proofs.plain.set_after.Goals as goal
 
 pub returns-then-not-is_scalar : goal.returns-then-not-is_scalar
 returns-then-not-is_scalar c =

@@ -1,7 +1,7 @@
 use Rattle.std.proofs.Common.{◌≡◌, [], drop}
 use Rattle.sd_graph.specs.TreeFold.{act_trees}
 use Rattle.sd_tcode.specs.Plain as plain
-use Rattle.sd_tcode.proofs.plain.set_by.Given as goal
+use Rattle.sd_compile.proofs.plain.set_by.Given as goal
 
 -- what is left sets with what is set as all do
 abbrev pub invariant-loop-act : goal.invariant-loop-act

@@ -1,6 +1,6 @@
 use Rattle.std.proofs.Common.{◌≡◌, ◌≤◌, ◌+◌, drop}
-use Rattle.sd_tcode.specs.Within as within
-use Rattle.sd_tcode.proofs.reach.most_kept.Given as goal
+use Rattle.sd_op.specs.Within as within
+use Rattle.sd_compile.proofs.reach.most_kept.Given as goal
 
 -- with what is left it is that of all
 abbrev pub invariant-loop-op : goal.invariant-loop-op

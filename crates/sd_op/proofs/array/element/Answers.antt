@@ -4,9 +4,9 @@ use Rattle.sd_range.specs.Subset.{inside}
 use Rattle.sd_graph.specs.RowOrder.{row_number}
 use Rattle.sd_graph.proofs.RowNumbers.{row_number_below}
 use Rattle.sd_tasklet.proofs.Places.{inside_count}
-use Rattle.sd_tcode.specs.Machine.{extents_at, cells_at}
-use Rattle.sd_tcode.proofs.Arrays.{was_inside}
-use Rattle.sd_tcode.proofs.array.element.Goals as goal
+use Rattle.sd_op.specs.Machine.{extents_at, cells_at}
+use Rattle.sd_op.proofs.Arrays.{was_inside}
+use Rattle.sd_op.proofs.array.element.Goals as goal
 
 below : (c : goal.After-row_number) → c.row_number.result < length c.cells_of.result.now
 below c =

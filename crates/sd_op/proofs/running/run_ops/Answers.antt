@@ -1,7 +1,7 @@
 use Rattle.std.proofs.Common.{◌∙◌, pos, arith}
-use Rattle.sd_tcode.specs.declared.op.Op.TheVariants.{Number}
-use Rattle.sd_tcode.proofs.Steps.{step_left, step_kept}
-use Rattle.sd_tcode.proofs.running.run_ops.Goals as goal
+use Rattle.sd_op.specs.declared.op.Op.TheVariants.{Number}
+use Rattle.sd_op.proofs.Steps.{step_left, step_kept}
+use Rattle.sd_op.proofs.running.run_ops.Goals as goal
 
 pub loop-at-preserved : goal.loop-at-preserved
 loop-at-preserved g c =

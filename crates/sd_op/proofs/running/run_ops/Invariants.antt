@@ -1,7 +1,7 @@
 use Rattle.std.proofs.Common.{◌≡◌, ◌≤◌, ◌+◌, ◌-◌, length, take, drop}
-use Rattle.sd_tcode.specs.Machine.{after_all, state_only}
-use Rattle.sd_tcode.specs.Within.{most_kept}
-use Rattle.sd_tcode.proofs.running.run_ops.Given as goal
+use Rattle.sd_op.specs.Machine.{after_all, state_only}
+use Rattle.sd_op.specs.Within.{most_kept}
+use Rattle.sd_op.proofs.running.run_ops.Given as goal
 
 abbrev pub ghost-step : goal.ghost-step
 ghost-step g a = g.room

@@ -1,7 +1,7 @@
 use Rattle.std.proofs.Common.{◌≡◌, ◌∙◌, ap, sym, subst, length, arith}
 use Rattle.std.specs.List.{AllByRecursion}
-use Rattle.sd_tcode.specs.Within.{IsWithin, most_kept}
-use Rattle.sd_tcode.specs.Memory.{HasCells}
+use Rattle.sd_op.specs.Within.{IsWithin, most_kept}
+use Rattle.sd_op.specs.Memory.{HasCells}
 use Rattle.sd_tasklet.specs.Given.{IsWhole}
 use Rattle.sd_tcode.specs.Compiled.{IsSafe}
 use Rattle.sd_tcode.proofs.Linked.{arrays_many, has_cells}

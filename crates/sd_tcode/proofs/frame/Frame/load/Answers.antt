@@ -3,10 +3,13 @@ use Rattle.std.specs.Prelude.{slice_set}
 use Rattle.std.specs.Int.{w64}
 use Rattle.std.specs.Vec.{with_item}
 use Rattle.std.proofs.lemmas.Int.{to_z-of_z}
-use Rattle.std.proofs.lemmas.List.{length-take}
-use Rattle.sd_tcode.specs.Machine.{extents_at}
-use Rattle.sd_tcode.specs.declared.array.Array.{Array}
-use Rattle.sd_tcode.proofs.Arrays.{extents_got, cells_got}
+use Rattle.std.proofs.lemmas.List.{length-take, length-set}
+use Rattle.sd_tasklet.specs.Given.{IsWhole}
+use Rattle.sd_tcode.specs.Held.{given}
+use Rattle.sd_tcode.proofs.Ready.{element_whole}
+use Rattle.sd_op.specs.Machine.{extents_at}
+use Rattle.sd_op.specs.declared.array.Array.{Array}
+use Rattle.sd_op.proofs.Arrays.{extents_got, cells_got}
 use Rattle.sd_tcode.proofs.Loads.{elements_low, scalar_given, cell_given, dims_kept, none_by_test, some_by_test, cell_there}
 use Rattle.sd_tcode.proofs.frame.Frame.load.Goals as goal
 
@@ -66,8 +69,18 @@ returns-else-is_empty-clause-given c =
     rw (to_z-of_z w64 c.args.value fits)
     (cell_given frame.inputs (take (frame.inputs + frame.variables) frame.registers.items) arrays c.args.connector c.args.at c.args.value new extents (ap (λ l. slice_set l c.args.at c.args.value) cells) some)
 
-pub returns-else-is_empty-clause-frame : goal.returns-else-is_empty-clause-frame
-returns-else-is_empty-clause-frame c code is =
+pub returns-then-is_empty-clause-ready : goal.returns-then-is_empty-clause-ready
+returns-then-is_empty-clause-ready c code is =
+    let frame = c.args.self.now in
+    let fits : FitsSigned w64 c.args.value = c.ranges.value in
+    record {
+      fits = rw (to_z-of_z w64 c.args.value fits)
+          (record { registers = length-set frame.registers.items c.args.connector c.args.value ∙ is.fits.registers; arrays = is.fits.arrays; slots = is.fits.slots; inputs = is.fits.inputs; variables = is.fits.variables });
+      whole = subst IsWhole (sym (returns-then-is_empty-clause-given c)) (element_whole (given frame) c.args.connector c.args.at c.args.value is.whole);
+    }
+
+pub returns-else-is_empty-clause-ready : goal.returns-else-is_empty-clause-ready
+returns-else-is_empty-clause-ready c code is =
     let frame = c.args.self.now in
     let arrays = frame.arrays.items in
     let element = c.index_mut-else-is_empty.result.now in
@@ -76,5 +89,8 @@ returns-else-is_empty-clause-frame c code is =
     let low = elements_low arrays scalars c.args.connector c.args.at c.requires in
     let extents = ap (λ (a : Array). a.extents.items) c.index_mut-else-is_empty.ensures.value ∙ extents_got arrays c.args.connector element low.0 in
     let new : Array = record { extents = element.extents; cells = with_item element.cells c.args.at c.args.value } in
-    rw (to_z-of_z w64 c.args.value fits)
-    (record { registers = is.registers; arrays = dims_kept arrays c.args.connector new (ap length extents) ∙ is.arrays; slots = is.slots; inputs = is.inputs; variables = is.variables })
+    record {
+      fits = rw (to_z-of_z w64 c.args.value fits)
+          (record { registers = is.fits.registers; arrays = dims_kept arrays c.args.connector new (ap length extents) ∙ is.fits.arrays; slots = is.fits.slots; inputs = is.fits.inputs; variables = is.fits.variables });
+      whole = subst IsWhole (sym (returns-else-is_empty-clause-given c)) (element_whole (given frame) c.args.connector c.args.at c.args.value is.whole);
+    }

@@ -24,9 +24,6 @@ nothing_but_zeros c =
 pub returns-clause-given : goal.returns-clause-given
 returns-clause-given c = nothing_but_zeros c
 
-pub returns-clause-whole : goal.returns-clause-whole
-returns-clause-whole c tree is = subst IsWhole (sym (nothing_but_zeros c)) (zeros_whole tree c.args.code.now c.args.widest.now is)
-
 pub returns-clause-frame : goal.returns-clause-frame
 returns-clause-frame c =
     let extents = c.in_ok-zero_arrays.ensures.extents ∙ ap (λ (l : List ℕ). map (λ count. replicate count 0) l) c.deref.ensures.value in
@@ -37,3 +34,6 @@ returns-clause-frame c =
       inputs = ap (λ (k : Compiled). k.layout.inputs) c.code.view_is;
       variables = ap (λ (k : Compiled). k.layout.variables) c.code.view_is;
     }
+
+pub returns-clause-ready : goal.returns-clause-ready
+returns-clause-ready c tree is = record { fits = returns-clause-frame c; whole = subst IsWhole (sym (nothing_but_zeros c)) (zeros_whole tree c.args.code.now c.args.widest.now is) }

@@ -1,0 +1,4 @@
+pub mod FewDimensions
+pub mod Values
+pub mod Joined
+pub mod Shapes

@@ -1,0 +1,18 @@
+//! Flat instructions and what they do.
+//!
+//! An instruction reads and writes registers of 64 bits, looks at the extents and elements of
+//! connectors, and keeps effects in a log (`specs/Machine.antt`). `run_ops` does instructions one
+//! after another, jumps forward included. That each register and connector that they name is there
+//! (`specs/Within.antt`) is asked of them, so that nothing is tested on the way; no memory is taken.
+#![tactic(auto)]
+
+mod array;
+mod log;
+mod op;
+mod running;
+mod step;
+
+pub use array::Array;
+pub use log::Log;
+pub use op::Op;
+pub use running::run_ops;
