@@ -60,12 +60,10 @@ fn four_calls(alloc: Global) -> Result<Sdfg, NoMemory> {
     graph(alloc, square(alloc, "A", ContainerKind::Argument)?, calls)
 }
 
-/// What binding answers with these sizes.
-fn answer(alloc: Global, named: &[(&str, i64)]) -> Result<String, NoMemory> {
+/// What binding answers with this one size.
+fn answer(alloc: Global, name: &str, size: i64) -> Result<String, NoMemory> {
     let mut values = Sequence::new(alloc);
-    for (name, value) in named {
-        values.push((Text::from(name.to_string(alloc)?), *value))?;
-    }
+    values.push((Text::from(name.to_string(alloc)?), size))?;
     match bind(alloc, &four_calls(alloc)?, &Sizes { values }) {
         Ok(_) => Ok("bound".to_string(alloc)?),
         Err(error) => Ok(format!(in alloc; "{error}")?),
@@ -75,25 +73,18 @@ fn answer(alloc: Global, named: &[(&str, i64)]) -> Result<String, NoMemory> {
 #[test]
 fn each_refusal_names_the_first(rt: HostRuntime) -> Result<(), Fail> {
     let alloc = rt.alloc();
-    assert_eq!(rt; answer(alloc, &[("N", 3)])?.as_str(), "bound");
-    assert_eq!(rt; answer(alloc, &[("M", 3)])?.as_str(), "arrays error 11 N");
-    assert_eq!(rt; answer(alloc, &[("N", -1)])?.as_str(), "arrays error 12 N");
-    assert_eq!(rt;
-        answer(alloc, &[("N", 16_777_217)])?.as_str(),
-        "arrays error 12 N"
-    );
-    assert_eq!(rt;
-        answer(alloc, &[("N", 16_777_216)])?.as_str(),
-        "arrays error 13 A"
-    );
-    assert_eq!(rt;
-        answer(alloc, &[("N", 4_097)])?.as_str(),
-        "arrays error 13 A"
-    );
-    assert_eq!(rt;
-        answer(alloc, &[("N", 4_096)])?.as_str(),
-        "arrays error 13 T"
-    );
-    assert_eq!(rt; answer(alloc, &[("N", 3_663)])?.as_str(), "bound");
+    let cases = [
+        ("N", 3, "bound"),
+        ("M", 3, "arrays error 11 N"),
+        ("N", -1, "arrays error 12 N"),
+        ("N", 16_777_217, "arrays error 12 N"),
+        ("N", 16_777_216, "arrays error 13 A"),
+        ("N", 4_097, "arrays error 13 A"),
+        ("N", 4_096, "arrays error 13 T"),
+        ("N", 3_663, "bound"),
+    ];
+    for (name, size, wanted) in cases {
+        assert_eq!(rt; answer(alloc, name, size)?.as_str(), wanted);
+    }
     Ok(())
 }
