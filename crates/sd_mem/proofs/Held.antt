@@ -1,6 +1,7 @@
 -- Memories of which one container changes.
-use Rattle.std.proofs.Common.{◌≡◌, ℕ, zero, suc, ◌<◌, List, [], ◌∷◌, map, length, slice_index_or, slice_set, Ok, Err, Result, refl, ap, ◌∙◌, sym, arith}
+use Rattle.std.proofs.Common.{◌≡◌, ℕ, zero, suc, ◌<◌, ◌≤◌, List, [], ◌∷◌, map, length, slice_index_or, slice_set, Ok, Err, Result, refl, ap, ◌∙◌, sym, arith}
 use Rattle.std.specs.Result.{OnOk, OnErr}
+use Rattle.std.proofs.lemmas.List.{length-map}
 use Rattle.sd_work.specs.Memory.{Contents}
 use Rattle.sd_work.specs.Change.{changed_at}
 use Rattle.sd_mem.specs.Shaped.{Shaped}
@@ -8,7 +9,7 @@ use Rattle.sd_mem.specs.Holding.{shape_held, contents_held, memory_of}
 use Rattle.sd_mem.specs.declared.holding.Holding.{Holding}
 
 -- contents of one container are changed
-contents_changed : (holdings : List Holding) (i : ℕ) (new old : Holding) (change : Contents → Contents) → old ≡ slice_index_or holdings i old →
+pub contents_changed : (holdings : List Holding) (i : ℕ) (new old : Holding) (change : Contents → Contents) → old ≡ slice_index_or holdings i old →
     contents_held new ≡ change (contents_held old) → map contents_held (slice_set holdings i new) ≡ changed_at i change (map contents_held holdings)
 contents_changed [] i new old change is same = refl
 contents_changed (holding ∷ holdings) zero new old change is same =
@@ -17,7 +18,7 @@ contents_changed (holding ∷ holdings) (suc i) new old change is same =
     ap (λ (rest : List Contents). contents_held holding ∷ rest) (contents_changed holdings i new old change is same)
 
 -- its extents stay
-shapes_kept : (holdings : List Holding) (i : ℕ) (new old : Holding) → old ≡ slice_index_or holdings i old →
+pub shapes_kept : (holdings : List Holding) (i : ℕ) (new old : Holding) → old ≡ slice_index_or holdings i old →
     shape_held new ≡ shape_held old → map shape_held (slice_set holdings i new) ≡ map shape_held holdings
 shapes_kept [] i new old is same = refl
 shapes_kept (holding ∷ holdings) zero new old is same = ap (λ (shape : List ℕ). shape ∷ map shape_held holdings) (same ∙ ap shape_held is)
@@ -79,3 +80,15 @@ pub one_written : {A : Type 0} (members : List A) (i : ℕ) (new old : A) (chang
 one_written [] i new old change is same = refl
 one_written {A} (first ∷ members) zero new old change is same = ap (λ (member : A). member ∷ members) (same ∙ ap change is)
 one_written {A} (first ∷ members) (suc i) new old change is same = ap (λ (rest : List A). first ∷ rest) (one_written members i new old change is same)
+
+-- a change of a member that is not there
+pub changed_none : {A : Type 0} (change : A → A) (members : List A) (number : ℕ) → length members ≤ number → members ≡ changed_at number change members
+changed_none change [] number beyond = refl
+changed_none change (member ∷ members) zero beyond = absurd (omega arith)
+changed_none {A} change (member ∷ members) (suc number) beyond = ap (λ (rest : List A). member ∷ rest) (changed_none change members number (omega arith))
+
+-- a container that is not there
+pub none_changed : (holdings : List Holding) (i : ℕ) (change : Contents → Contents) → length holdings ≤ i →
+    memory_of holdings ≡ made (map shape_held holdings) (changed_at i change (map contents_held holdings))
+none_changed holdings i change beyond =
+    ap (made (map shape_held holdings)) (changed_none change (map contents_held holdings) i (omega (arith, beyond, length-map holdings contents_held)))

@@ -1,5 +1,5 @@
 -- A memory with the extents of its arrays.
-use Rattle.std.specs.Prelude.{◌≡◌, ℕ, ◌<◌, ℤ, List, [], ◌∷◌, length, Option, Some, None, option_map, if◌then◌else◌, slice_index_or, slice_set, ⊤}
+use Rattle.std.specs.Prelude.{◌≡◌, ℕ, ℤ, List, [], ◌∷◌, length, Option, Some, None, option_map, if◌then◌else◌, slice_index_or, slice_set, ⊤}
 use Rattle.sd_range.specs.Points.{product}
 use Rattle.sd_range.specs.Subset.{inside}
 use Rattle.sd_work.specs.Memory.{Contents, array, stream, Memory, Memories, Reference, contents_of}
@@ -37,15 +37,6 @@ IsWhole shape (stream values) = ⊥
 -- a container is an array that is here: it holds an element for each index
 abbrev pub IsHere : Shaped → (container : ℕ) → Type 0
 IsHere memory container = IsWhole (shape_at memory container) (contents_at memory container)
-
--- contents are a stream
-abbrev pub IsStream : Contents → Type 0
-IsStream (array elements) = ⊥
-IsStream (stream values) = ⊤
-
--- a container is a stream of the memory
-abbrev pub IsStreamHere : Shaped → (container : ℕ) → Type 0
-IsStreamHere memory container = (container < length memory.contents) × IsStream (contents_at memory container)
 
 -- the number of an element in row order, where the index is inside
 abbrev pub place_in : (shape : List ℕ) → (index : List ℤ) → Option ℕ

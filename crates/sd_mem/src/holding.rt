@@ -1,9 +1,9 @@
 //! What one container holds.
-ghost use Rattle.std.specs.Prelude.{◌≡◌, ◌↔◌, ◌<◌, ◌++◌, [], ◌∷◌, ℤ, pos, length, Some, slice_get, slice_index_or, IfOk, OnOk, OnErr, IsTrue};
+ghost use Rattle.std.specs.Prelude.{◌≡◌, ◌↔◌, ◌++◌, [], ◌∷◌, slice_get, IfOk, OnOk, OnErr, IsTrue};
 ghost use Rattle.sd_work.specs.Memory.{elements_of, values_of, array};
 ghost use Rattle.sd_work.specs.Change.{changed_at, with_elements, with_values, without, written};
 ghost use Rattle.sd_num.specs.Wrapped.{wrapped};
-ghost use Rattle.sd_mem.specs.Shaped.{place_in, IsArray, IsStream};
+ghost use Rattle.sd_mem.specs.Shaped.{place_in, IsArray};
 ghost use Rattle.sd_mem.specs.Holding.{shape_held, contents_held, IsSized};
 
 use crate::place::place_of;
@@ -95,50 +95,50 @@ impl Holding {
         }
     }
 
-    /// The elements of an array.
+    /// The elements of an array; a stream has none.
     pub(crate) fn cells(&self) -> &[i64]
-        requires { IsArray (contents_held self.now) }
         ensures { result.now ≡ elements_of (contents_held self.now) }
     {
         match self {
             Holding::Array { cells, .. } => cells.as_slice(),
-            Holding::Stream { .. } => unreachable!(),
+            Holding::Stream { .. } => &[],
         }
     }
 
     /// The number of an element in row order, where the index is inside.
     pub(crate) fn place(&self, index: &[i128]) -> Option<u64>
-        requires sized { IsSized self.now }
-        requires is_array { IsArray (contents_held self.now) }
+        requires { IsSized self.now }
         ensures { result ≡ place_in (shape_held self.now) index.now }
     {
         match self {
             Holding::Array { shape, .. } => place_of(shape.as_slice(), index),
-            Holding::Stream { .. } => unreachable!(),
+            Holding::Stream { .. } => place_of(&[], index),
         }
     }
 
-    /// Writes a value to an element.
+    /// Writes a value to an element; nothing changes where there is no such element.
     pub(crate) fn set(&mut self, place: u64, by: Option<Resolution>, value: i64)
-        requires { place < length (elements_of (contents_held self.old)) }
         ensures shape { shape_held self.new ≡ shape_held self.old }
         ensures contents { contents_held self.new ≡ with_elements (changed_at place (written by value)) (contents_held self.old) }
     {
         match self {
-            Holding::Array { cells, .. } => write_to(&mut cells[place as usize], by, value),
-            Holding::Stream { .. } => unreachable!(),
+            Holding::Array { cells, .. } => {
+                if (place as usize) < cells.len() {
+                    write_to(&mut cells[place as usize], by, value);
+                }
+            }
+            Holding::Stream { .. } => {}
         }
     }
 
-    /// Appends a value to a stream.
+    /// Appends a value to a stream; an array stays as it is.
     pub(crate) fn push(&mut self, value: i64) -> Result<(), NoMemory>
-        requires { IsStream (contents_held self.old) }
         ensures shape { shape_held self.new ≡ shape_held self.old }
         ensures ok { OnOk result (contents_held self.new ≡ with_values (λ values. values ++ wrapped value ∷ []) (contents_held self.old)) }
         ensures err { OnErr result (contents_held self.new ≡ contents_held self.old) }
     {
         match self {
-            Holding::Array { .. } => unreachable!(),
+            Holding::Array { .. } => Ok(()),
             Holding::Stream { values } => {
                 values.push_back(value)?;
                 Ok(())
@@ -146,16 +146,32 @@ impl Holding {
         }
     }
 
-    /// Takes the oldest value out of a stream.
+    /// Takes the oldest value out of a stream; an array has none.
     pub(crate) fn take(&mut self) -> Option<i64>
-        requires { IsStream (contents_held self.old) }
         ensures oldest { result ≡ slice_get (values_of (contents_held self.old)) 0 }
         ensures shape { shape_held self.new ≡ shape_held self.old }
         ensures contents { contents_held self.new ≡ with_values (without 0) (contents_held self.old) }
     {
         match self {
-            Holding::Array { .. } => unreachable!(),
+            Holding::Array { .. } => None,
             Holding::Stream { values } => values.pop_front(),
+        }
+    }
+
+    /// Becomes an array of these elements, with the extents that it has.
+    pub(crate) fn hold(&mut self, cells: Vec<i64>)
+        ensures shape { shape_held self.new ≡ shape_held self.old }
+        ensures contents { contents_held self.new ≡ array cells.items }
+    {
+        let alloc = *cells.allocator();
+        match self {
+            Holding::Array { cells: held, .. } => *held = cells,
+            Holding::Stream { .. } => {
+                *self = Holding::Array {
+                    shape: Vec::new(alloc),
+                    cells,
+                }
+            }
         }
     }
 

@@ -6,6 +6,7 @@
 //! element has a place, its number in row order, so that code may find it once and use it often.
 #![tactic(auto)]
 
+mod beginning;
 mod buffer;
 mod element;
 mod holding;

@@ -1,4 +1,4 @@
-ghost use Rattle.std.specs.Prelude.{◌≡◌, ◌↔◌, IfOk, IsTrue};
+ghost use Rattle.std.specs.Prelude.{◌≡◌, ◌↔◌, [], IfOk, IsTrue};
 ghost use Rattle.std.specs.List.{AllByRecursion};
 ghost use Rattle.sd_mem.specs.Holding.{memory_of, IsSized};
 
@@ -30,6 +30,15 @@ impl Model for Memory {
 }
 
 impl Memory {
+    /// One without containers. Takes no memory.
+    pub fn empty(alloc: Global) -> Memory
+        ensures { result ≡ record { shapes = []; contents = [] } }
+    {
+        Memory {
+            holdings: Vec::new(alloc),
+        }
+    }
+
     /// The same memory once more.
     pub fn copy_of(&self, alloc: Global) -> Result<Memory, NoMemory>
         ensures { IfOk result (λ copy. copy ≡ self.now) }

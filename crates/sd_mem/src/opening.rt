@@ -43,7 +43,7 @@ impl Memory {
 }
 
 /// The extents of a container that is an array.
-fn shape_of_array(alloc: Global, container: &Container) -> Result<Vec<u64>, NoMemory>
+pub(crate) fn shape_of_array(alloc: Global, container: &Container) -> Result<Vec<u64>, NoMemory>
     ensures { IfOk result (λ shape. shape.items ≡ extents_of container.now) }
 {
     let mut shape = Vec::with_capacity(alloc, container.extents.len())?;
@@ -55,7 +55,7 @@ fn shape_of_array(alloc: Global, container: &Container) -> Result<Vec<u64>, NoMe
 }
 
 /// An array of this shape with these elements; `NoMemory` where its elements have no numbers.
-fn array_holding(shape: Vec<u64>, cells: Vec<i64>) -> Result<Holding, NoMemory>
+pub(crate) fn array_holding(shape: Vec<u64>, cells: Vec<i64>) -> Result<Holding, NoMemory>
     ensures shape { IfOk result (λ holding. shape_held holding ≡ shape.items) }
     ensures contents { IfOk result (λ holding. contents_held holding ≡ array cells.items) }
     ensures sized { IfOk result IsSized }

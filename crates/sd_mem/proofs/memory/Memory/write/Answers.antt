@@ -1,7 +1,11 @@
-use Rattle.sd_mem.specs.Shaped.{shape_at, contents_at}
-use Rattle.sd_mem.proofs.Wholes.{place_is_here}
+use Rattle.std.specs.Int.{w64}
+use Rattle.std.proofs.lemmas.Int.{to_z-of_z}
+use Rattle.std.proofs.Common.{ap, ◌∙◌, option_map, FitsSigned}
+use Rattle.sd_mem.specs.Shaped.{element, written_at}
 use Rattle.sd_mem.proofs.memory.Memory.write.Goals as goal
 
-pub set-requires : goal.set-requires
-set-requires c =
-    place_is_here (shape_at c.args.self.now c.args.container) (contents_at c.args.self.now c.args.container) c.args.index.now c.in-Some.place c.requires c.in-Some.ensures
+pub returns-in-Some-clause-written : goal.returns-in-Some-clause-written
+returns-in-Some-clause-written c =
+    let value_fits : FitsSigned w64 c.args.value = c.ranges.value in
+    let written = simp to_z-of_z at c.set.ensures in
+    written ∙ ap (λ place. written_at (option_map (element c.args.container) place) c.args.by c.args.value c.args.self.now) c.in-Some.ensures
