@@ -1,0 +1,14 @@
+//! Which loop variables are in force in a state of a graph, as places of faults show them.
+//!
+//! A state stands in a loop where it is reached from the loop's begin and leads to a marked
+//! transition back to it, both without coming to the begin again. Which states lead to one is
+//! found in a table that is raised round by round (`specs/Table.antt`), so that the time is about
+//! the marked transitions times the states times the transitions. Graphs without a marked
+//! transition are answered at once.
+#![tactic(auto)]
+
+mod force;
+mod mark;
+mod path;
+
+pub use force::loops_in_force;
