@@ -1,9 +1,7 @@
-ghost use Rattle.std.specs.Prelude.{◌≡◌, ℕ, ◌<◌, ◌∷◌, ◌++◌, map, unsigned_abs, string_bytes, IfOk, OnOk};
+ghost use Rattle.std.specs.Prelude.{◌≡◌, ◌∷◌, ◌++◌, map, unsigned_abs, string_bytes, IfOk, OnOk};
 ghost use Rattle.std.specs.List.{flat_map};
 ghost use Rattle.std.specs.Fmt.{signed_decimal};
 ghost use Rattle.sd_graph.specs.TreeFold.{graph_tree};
-ghost use Rattle.sd_graph.specs.InPlace.{arguments_of};
-ghost use Rattle.sd_mem.specs.Shaped.{contents_at, IsArray};
 ghost use Rattle.sd_json.specs.AnswerText.{extents_text};
 ghost use Rattle.sd_json.specs.AnswerText as definition;
 
@@ -60,14 +58,14 @@ fn line_of(
 }
 
 /// The line of one container of a memory: its name, its extents in brackets, and its elements in
-/// row order, with the newline at its end. The container is an array of the graph.
+/// row order, with the newline at its end. A stream has no elements; a container that is not there has no
+/// name and no extents either.
 pub fn array_line(
     alloc: Global,
     bound: &Bound,
     memory: &Memory,
     container: u32,
 ) -> Result<String, NoMemory>
-    requires { IsArray (contents_at memory.now container) }
     ensures { IfOk result (λ line. string_bytes line ≡ definition.container_line (graph_tree bound.now.graph) memory.now container) }
 {
     let elements = memory.cells(container);
@@ -79,7 +77,6 @@ pub fn array_line(
 
 /// A line for each argument of a graph, in the order of the signature, as `array_line` gives them.
 pub fn arrays_text(alloc: Global, bound: &Bound, memory: &Memory) -> Result<String, NoMemory>
-    requires { (argument : ℕ) → argument < arguments_of (graph_tree bound.now.graph) → IsArray (contents_at memory.now argument) }
     ensures { IfOk result (λ text. string_bytes text ≡ definition.text_of_arrays (graph_tree bound.now.graph) memory.now) }
 {
     let mut text = String::new(alloc);
