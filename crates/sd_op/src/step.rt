@@ -11,7 +11,7 @@ use sd_graph::{FaultKind, OneSign, TwoSign};
 use sd_tasklet::{Effect, filled, holds, one_value, two_values};
 
 /// A sign before a register.
-#[inline(always)]
+#[inline]
 fn change(sign: OneSign, registers: &mut [i64], to: u32, of: u32)
     requires to { to < length registers.old }
     requires of { of < length registers.old }
@@ -21,7 +21,7 @@ fn change(sign: OneSign, registers: &mut [i64], to: u32, of: u32)
 }
 
 /// A sign between two registers.
-#[inline(always)]
+#[inline]
 fn combine(
     sign: TwoSign,
     registers: &mut [i64],

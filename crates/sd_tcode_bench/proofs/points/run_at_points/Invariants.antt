@@ -1,0 +1,16 @@
+use Rattle.std.proofs.Common.{◌≡◌, length}
+use Rattle.sd_tcode.specs.Held.{IsReady}
+use Rattle.sd_tcode_bench.specs.Scalars.{HasScalars}
+use Rattle.sd_tcode_bench.proofs.points.run_at_points.Given as goal
+
+-- the frame is ready at each point
+abbrev pub invariant-loop-k : goal.invariant-loop-k
+invariant-loop-k l = record {
+  ready : IsReady l.code l.frame;
+  scalars : HasScalars l.frame;
+  many : length l.out ≡ length l.fn.out;
+}
+
+-- storing changes no length
+abbrev pub invariant-loop-effect : goal.invariant-loop-effect
+invariant-loop-effect l = length l.out ≡ length l.fn.out

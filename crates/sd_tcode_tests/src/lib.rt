@@ -1,0 +1,18 @@
+//! Tests of tasklets, evaluated and as flat code beside each other, in a crate of their own so that
+//! `sd_tasklet` and `sd_tcode` are proved without them.
+#![tactic(auto)]
+
+#[cfg(test)]
+mod case;
+#[cfg(test)]
+mod ends;
+#[cfg(test)]
+mod expressions;
+#[cfg(test)]
+mod faults;
+#[cfg(test)]
+mod limits;
+#[cfg(test)]
+mod statements;
+#[cfg(test)]
+mod written;
