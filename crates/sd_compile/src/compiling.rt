@@ -1,4 +1,4 @@
-ghost use Rattle.std.specs.Prelude.{◌≡◌, ◌≤◌, ◌++◌, map, IfOk, option_map, length};
+ghost use Rattle.std.specs.Prelude.{◌≡◌, ◌++◌, map, IfOk, option_map};
 ghost use Rattle.sd_graph.specs.TreeFold.{tasklet_tree};
 ghost use Rattle.sd_tcode.specs.Named.{IsNamed};
 ghost use Rattle.sd_tcode.specs.Emitted as emitted;

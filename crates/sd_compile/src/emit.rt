@@ -1,4 +1,4 @@
-ghost use Rattle.std.specs.Prelude.{◌≡◌, ℕ, ◌+◌, ◌-◌, ◌<◌, ◌∷◌, [], ◌++◌, length, slice_set, IfOk, OnOk, IsTrue};
+ghost use Rattle.std.specs.Prelude.{◌≡◌, ◌+◌, ◌-◌, ◌<◌, ◌∷◌, [], ◌++◌, length, slice_set, IfOk, OnOk};
 ghost use Rattle.sd_graph.specs.TreeFold.{value_tree, value_trees};
 ghost use Rattle.sd_tcode.specs.Named.{count_of};
 ghost use Rattle.sd_tcode.specs.Emitted as emitted;

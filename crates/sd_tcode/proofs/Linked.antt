@@ -8,7 +8,7 @@ use Rattle.sd_range.specs.Points.{product}
 use Rattle.sd_graph.specs.RowOrder.{row_number}
 use Rattle.sd_graph.specs.PlainTree.{TaskletTree}
 use Rattle.sd_graph.specs.TaskletMeaning as meaning
-use Rattle.sd_graph.specs.TaskletMeaning.{Meaning, Inputs, and_then, extents_of_connector, element_of, meaning_of}
+use Rattle.sd_graph.specs.TaskletMeaning.{Meaning, Inputs, and_then, element_of, meaning_of}
 use Rattle.sd_work.specs.declared.fault.FaultKind.{FaultKind}
 use Rattle.sd_tasklet.specs.Given.{IsWhole}
 use Rattle.sd_tasklet.specs.Kept.{told}

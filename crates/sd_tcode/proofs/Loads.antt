@@ -2,7 +2,7 @@
 use Rattle.std.proofs.Common.{◌≡◌, ℕ, zero, suc, ◌+◌, ◌-◌, ◌<◌, ◌≤◌, min, ℤ, pos, List, [], ◌∷◌, length, map, get_or, take, drop, replicate, Bool, true, false, ◌==◌, if◌then◌else◌, refl, sym, ap, ◌∙◌, subst, arith}
 use Rattle.std.specs.Prelude.{slice_index_or, slice_set}
 use Rattle.std.proofs.lemmas.Bool.Decides.{nat_tests}
-use Rattle.std.proofs.lemmas.List.{map-set, length-set, length-replicate, take-set-le, drop-set-add, drop-set-lt, take-replicate, drop-replicate}
+use Rattle.std.proofs.lemmas.List.{map-set, length-replicate, take-set-le, drop-set-add, drop-set-lt, take-replicate, drop-replicate}
 use Rattle.std.proofs.Math.Seq.{take-set-lt}
 use Rattle.sd_op.specs.Machine.{extents_at, cells_at}
 use Rattle.sd_tcode.specs.Held.{elements_in, zero_elements, zero_cells, given_by, with_element, with_extents, with_variable}

@@ -6,7 +6,7 @@ use Rattle.std.proofs.lemmas.Bool.{eqb-false}
 use Rattle.std.proofs.lemmas.List.{length-set, map-append}
 use Rattle.sd_graph.specs.PlainTree.{ValueTree, ValueTrees, no_value, and_value, ActTree, set_local, assign, branch, ActTrees, no_act, and_act, TaskletTree}
 use Rattle.sd_graph.specs.TaskletMeaning as meaning
-use Rattle.sd_graph.specs.TaskletMeaning.{Meaning, Inputs, Progress, and_then, holds, checked, place_of, extents_of_connector, value_of, values_of, act_of, acts_of, with_effect}
+use Rattle.sd_graph.specs.TaskletMeaning.{Meaning, Inputs, Progress, and_then, place_of, extents_of_connector, value_of, act_of, acts_of, with_effect}
 use Rattle.sd_tcode.specs.Named.{dimensions_of, SetsOf, AllSetsOf}
 use Rattle.sd_op.specs.Machine.{State, register}
 use Rattle.sd_op.specs.Within.{Room, IsWithin}

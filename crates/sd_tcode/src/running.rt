@@ -1,11 +1,10 @@
-ghost use Rattle.std.specs.Prelude.{◌≡◌, ℕ, ◌+◌, ◌≤◌, ◌<◌, ◌++◌, [], List, length, map, take, Some};
+ghost use Rattle.std.specs.Prelude.{◌≡◌, ℕ, ◌+◌, ◌≤◌, ◌<◌, ◌++◌, [], List, length, map, Some};
 ghost use Rattle.std.specs.List.{AllByRecursion};
 ghost use Rattle.sd_graph.specs.PlainTree.{TaskletTree};
 ghost use Rattle.sd_graph.specs.TaskletMeaning.{meaning_of};
 ghost use Rattle.sd_tasklet.specs.Given.{IsWhole};
-ghost use Rattle.sd_op.specs.Machine.{State, after_all, state_only, answered};
-ghost use Rattle.sd_op.specs.Within.{Room, IsWithin, most_kept};
-ghost use Rattle.sd_op.specs.Memory.{HasCells};
+ghost use Rattle.sd_op.specs.Machine.{after_all, state_only, answered};
+ghost use Rattle.sd_op.specs.Within.{Room};
 ghost use Rattle.sd_tcode.specs.Outputs.{output_effects};
 ghost use Rattle.sd_tcode.specs.Compiled.{IsCodeOf, IsSafe, room_of};
 ghost use Rattle.sd_tcode.specs.Held.{IsFrameOf, IsReady, given, effects_of, output_of, kept_output};

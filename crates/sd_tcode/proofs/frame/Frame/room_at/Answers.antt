@@ -1,11 +1,11 @@
-use Rattle.std.proofs.Common.{◌≡◌, ◌∙◌, ◌+◌, ◌<◌, pos, [], ◌∷◌, false, ◌==◌, if◌then◌else◌, ap, sym, length, take, List, ℤ, arith}
+use Rattle.std.proofs.Common.{◌≡◌, ◌∙◌, ◌+◌, pos, [], ◌∷◌, false, ◌==◌, if◌then◌else◌, ap, sym, length, take, List, ℤ, arith}
 use Rattle.std.specs.Prelude.{slice_index_or}
 use Rattle.sd_op.specs.Machine.{extents_at, cells_at}
 use Rattle.sd_op.specs.declared.array.Array.{Array}
 use Rattle.sd_op.proofs.Arrays.{extents_got, cells_got}
 use Rattle.sd_tcode.specs.declared.frame.Frame.{Frame}
 use Rattle.sd_tcode.proofs.Linked.{elements_same}
-use Rattle.sd_tcode.proofs.Loads.{elements_there, none_by_test, some_by_test}
+use Rattle.sd_tcode.proofs.Loads.{elements_there, none_by_test}
 use Rattle.sd_tcode.proofs.frame.Frame.room_at.Goals as goal
 
 abbrev scalars : Frame → List ℤ

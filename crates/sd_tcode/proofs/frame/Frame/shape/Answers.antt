@@ -1,10 +1,10 @@
-use Rattle.std.proofs.Common.{◌≡◌, ◌∙◌, ◌+◌, ◌<◌, ap, sym, subst, length, map, take, arith}
+use Rattle.std.proofs.Common.{◌≡◌, ◌∙◌, ◌+◌, ◌<◌, ap, sym, subst, length, take, arith}
 use Rattle.std.proofs.lemmas.List.{length-map}
 use Rattle.sd_tasklet.specs.Given.{IsWhole}
 use Rattle.sd_op.specs.Machine.{extents_at}
 use Rattle.sd_op.specs.declared.array.Array.{Array}
 use Rattle.sd_op.proofs.Arrays.{extents_got, cells_got}
-use Rattle.sd_tcode.specs.Held.{given, may_have}
+use Rattle.sd_tcode.specs.Held.{given}
 use Rattle.sd_tcode.proofs.Linked.{extents_same}
 use Rattle.sd_tcode.proofs.Loads.{extents_given, dims_kept}
 use Rattle.sd_tcode.proofs.Ready.{may_fit, extents_whole}
