@@ -2,9 +2,9 @@
 //!
 //! A state stands in a loop where it is reached from the loop's begin and leads to a marked
 //! transition back to it, both without coming to the begin again. Which states lead to one is
-//! found in a table that is raised round by round (`specs/Table.antt`), so that the time is about
-//! the marked transitions times the states times the transitions. Graphs without a marked
-//! transition are answered at once.
+//! found in a table that is raised round by round until it stays the same (`specs/Table.antt`):
+//! at most as many rounds as there are states, each over all transitions, for each marked
+//! transition. Graphs without a marked transition are answered at once.
 #![tactic(auto)]
 
 mod force;

@@ -1,5 +1,5 @@
 //! Which states lead to one.
-ghost use Rattle.std.specs.Prelude.{◌≡◌, map, IfOk};
+ghost use Rattle.std.specs.Prelude.{◌≡◌, map, IfOk, IsTrue};
 ghost use Rattle.sd_graph.specs.LoopScope as definition;
 ghost use Rattle.sd_graph.specs.TreeFold.{exit_tree, state_trees};
 ghost use Rattle.sd_loops.specs.Table as tables;
@@ -52,6 +52,13 @@ fn raised(
     Ok(next)
 }
 
+/// Whether both tables are the same.
+fn are_same(a: &[bool], b: &[bool]) -> bool
+    ensures { IsTrue result → a.now ≡ b.now }
+{
+    a == b
+}
+
 /// Whether a path leads from one state to another, without coming to the state that is avoided.
 pub(crate) fn leads_to(
     alloc: Global,
@@ -64,8 +71,11 @@ pub(crate) fn leads_to(
 {
     let mut table = Vec::new(alloc);
     for round in 0..states.len() {
-        let _ = round;
-        table = raised(alloc, states, table.as_slice(), avoided, to)?;
+        let next = raised(alloc, states, table.as_slice(), avoided, to)?;
+        if are_same(next.as_slice(), table.as_slice()) {
+            return Ok(looked(table.as_slice(), to, from));
+        }
+        table = next;
     }
     Ok(looked(table.as_slice(), to, from))
 }

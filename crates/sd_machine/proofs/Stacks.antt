@@ -30,7 +30,6 @@ memory_beyond kept level beyond = get_or_past (memories_of kept) level [] (omega
 -- ---- changes
 
 module _ {A : Type 0} (change : A → A) where
-
   -- a change before the last member, and one of the last member
   changed_before : (members : List A) (last : A) (number : ℕ) → number < length members → changed_at number change (members ++ last ∷ []) ≡ changed_at number change members ++ last ∷ []
   changed_before [] last number below = absurd (omega arith)

@@ -1,5 +1,5 @@
 -- What the end of work says of what it comes to.
-use Rattle.std.specs.Prelude.{◌≡◌, ⊤, ℕ, ◌≤◌, List, length, Option, Some, None}
+use Rattle.std.specs.Prelude.{◌≡◌, ⊤, ℕ, ◌≤◌, length, Some, None}
 use Rattle.sd_work.specs.Move.{fault_at}
 use Rattle.sd_work.specs.Step.{Outcome, Done, Faulted, Spent}
 use Rattle.sd_work.specs.BigStep.{Reached, Coming}

@@ -1,17 +1,16 @@
 -- What parts of a graph come to from where they stand.
-use Rattle.std.specs.Prelude.{◌≡◌, ℕ, ℤ, pos, ◌<◌, List, map, length, replicate, Option, Some, None, Ok, Err, slice_get, ⊤}
+use Rattle.std.specs.Prelude.{◌≡◌, ℕ, ℤ, pos, List, map, length, replicate, Option, Some, None, Ok, ⊤}
 use Rattle.sd_range.specs.declared.range.Range.{Range}
 use Rattle.sd_range.specs.Points.{points, ranges_of}
 use Rattle.sd_work.specs.Memory.{Memories}
-use Rattle.sd_work.specs.Move.{fault_at}
 use Rattle.sd_work.specs.Exit.{Values, first_exit}
 use Rattle.sd_work.specs.Exit as work
 use Rattle.sd_work.specs.Residual.{Term, owning}
-use Rattle.sd_work.specs.BigStep.{Coming, Reached, and_then, big_step, big_states, big_parts, big_takes}
-use Rattle.sd_graph.specs.PlainTree.{KindTree, ItemTrees, StateTrees, GraphTree, graph, ExitTree}
-use Rattle.sd_graph.specs.TreeParts.{containers_of, exits_at}
+use Rattle.sd_work.specs.BigStep.{Coming, Reached, and_then, big_step, big_states, big_parts}
+use Rattle.sd_graph.specs.PlainTree.{KindTree, ItemTrees, GraphTree, graph, ExitTree}
+use Rattle.sd_graph.specs.TreeParts.{exits_at}
 use Rattle.sd_graph.specs.Context.{Reach, Context, private_memory}
-use Rattle.sd_graph.specs.Unfold.{at_state, at_point, at_element, element_memory, unfold_state, unfold_kind, unfold_items, exit_of, list_of, point_terms}
+use Rattle.sd_graph.specs.Unfold.{at_state, at_point, unfold_state, unfold_kind, unfold_items, exit_of, list_of, point_terms}
 use Rattle.sd_graph.specs.declared.place.Frame.{Frame}
 use Rattle.sd_graph.specs.declared.place.Place.{Place}
 

@@ -8,7 +8,10 @@ use std::test::Fail;
 /// A memory with an array of this length and a stream.
 fn memory(alloc: Global, length: i128) -> Result<Memory, NoMemory> {
     let mut containers = IndexMap::new(alloc);
-    for (name, kind) in [("T", ContainerKind::Transient), ("S", ContainerKind::Stream)] {
+    for (name, kind) in [
+        ("T", ContainerKind::Transient),
+        ("S", ContainerKind::Stream),
+    ] {
         let extents = vec![in alloc; Affine::constant(alloc, length)]?;
         let container = Container {
             extents: Sequence::from(extents),

@@ -1,4 +1,4 @@
-use Rattle.std.proofs.Common.{ℕ, pos, slice_index_or, [], ap, sym, ◌∙◌, rules, arith, FitsSigned}
+use Rattle.std.proofs.Common.{pos, slice_index_or, [], ap, sym, ◌∙◌, rules, arith, FitsSigned}
 use Rattle.std.specs.Int.{w64}
 use Rattle.std.proofs.lemmas.Int.{to_z-of_z}
 use Rattle.sd_work.specs.Memory.{Memory, look, elements_of, stream}
