@@ -1,0 +1,52 @@
+ghost use Rattle.std.specs.Prelude.{◌≡◌, map, option_map, IfOk};
+ghost use Rattle.sd_work.specs.Exit.{all_seen};
+ghost use Rattle.sd_graph.specs.TreeFold.{graph_tree};
+ghost use Rattle.sd_machine.specs.Stack.{reference_of};
+ghost use Rattle.sd_scope.specs.Standing.{context_of};
+ghost use Rattle.sd_leaves.specs.Read.{links_seen};
+
+use sd_graph::{Link, Sdfg};
+use sd_list::{NoMemory, Sequence};
+use sd_machine::{Cell, Machine};
+use sd_scope::{Base, Scope, link_cells};
+use std::alloc::Global;
+
+/// The values of the elements of each link, in row order; `None` where one is outside.
+pub(crate) fn values_of_links(
+    alloc: Global,
+    links: &[Link],
+    graph: &Sdfg,
+    base: &Base,
+    scope: &Scope,
+    machine: &Machine,
+) -> Result<Option<Sequence<Sequence<i64>>>, NoMemory>
+    ensures { IfOk result (λ read. read ≡ links_seen (context_of (graph_tree graph.now) base.now scope.now) links.now machine.now.memories) }
+{
+    let mut read = Vec::with_capacity(alloc, links.len())?;
+    for link in links {
+        let cells = link_cells(alloc, graph, base, scope, link)?;
+        match values_of(alloc, cells.as_slice(), machine)? {
+            Some(values) => read.push(values)?,
+            None => return Ok(None),
+        }
+    }
+    Ok(Some(Sequence::from(read)))
+}
+
+/// The values of elements; `None` where one is outside.
+fn values_of(
+    alloc: Global,
+    cells: &[Option<Cell>],
+    machine: &Machine,
+) -> Result<Option<Sequence<i64>>, NoMemory>
+    ensures { IfOk result (λ values. values ≡ all_seen (map (option_map reference_of) cells.now) machine.now.memories) }
+{
+    let mut values = Vec::with_capacity(alloc, cells.len())?;
+    for cell in cells {
+        match cell {
+            Some(cell) => values.push(machine.look(*cell))?,
+            None => return Ok(None),
+        }
+    }
+    Ok(Some(Sequence::from(values)))
+}
