@@ -1,0 +1,9 @@
+pub mod Comes
+pub mod Elements
+pub mod ItemKinds
+pub mod Items
+pub mod NestedRuns
+pub mod Points
+pub mod States
+pub mod Transitions
+pub mod WholeRuns

@@ -1,0 +1,2 @@
+pub mod RunEnd
+pub mod Taking
