@@ -317,6 +317,7 @@ def levels():
         refused(8, 4, f"65 {name} are added in a map", body(["for i in dace.map[0:4]:", f"    A[0] += {shape(65)}"]))
     places(brackets)
     too_deep(brackets)
+    out_of_place(brackets)
 
 
 def places(brackets):
@@ -394,6 +395,35 @@ def too_deep(brackets):
     accepted("an element where no level is left", body([f"A[0] = {brackets(64, 'A[1+2]')}"]))
     refused(8, 3, "a sum where no level is left", body([f"A[0] = {brackets(64, '1+2')}"]))
     refused(8, 3, "what would be no form, where no level is left", body([f"A[0] = {brackets(64, '1 2 +')}"]))
+
+
+def out_of_place(brackets):
+    """Of a line that opens no block where one is awaited, or one where none is, too deep goes before that."""
+    deep, whole = brackets(65), brackets(64)
+    a_map, a_loop, a_tasklet = "for i in dace.map[0:4]:", "for k in range(4):", "with dace.tasklet:"
+    refused(8, 4, "too deep, where a block is awaited and none opens", body([a_map, f"A[0] = {deep}"]))
+    refused(4, 4, "no form, where a block is awaited and none opens", body([a_map, f"A[0 1] = {deep}"]))
+    closes = [a_loop, "    " + a_map, f"A[0] = {deep}"]
+    refused(8, 5, "too deep, on a line that closes a block and opens none that is awaited", body(closes))
+    refused(8, 4, "an elif that is too deep, where the block of its if is missing", body(["if A[0]:", f"elif {deep}:"]))
+    refused(8, 3, "a def that is too deep, where a program has no block", DEF + f"def g(A: dace.int64[{deep}]):\n")
+    # It is read as a form of the block in which it stands: the block that is awaited is not one it stands in.
+    refused(4, 3, "a statement that is too deep at top level, where a program has no block", DEF + f"A[0] = {deep}\n")
+    refused(8, 4, "64 levels are added behind a map without a block", body([a_map, f"A[0] += {whole}"]))
+    refused(4, 4, "63 levels are added behind a map without a block", body([a_map, f"A[0] += {brackets(63)}"]))
+    in_map = [a_map, "    " + a_tasklet, f"    A[0] += {whole}"]
+    refused(4, 5, "64 levels are added in a map, behind a tasklet without a block", body(in_map))
+    refused(8, 4, "a statement that is too deep behind a tasklet without a block", body([a_tasklet, f"A[0] += {deep}"]))
+    refused(4, 4, "an input that is too deep behind a tasklet without a block", body([a_tasklet, f"a << A[{deep}]"]))
+    # A block that none awaits is none of its own: its line is read as a form of the block about it.
+    refused(8, 4, "too deep, where a block opens that none awaits", body(["A[0] = 1", f"    A[1] = {deep}"]))
+    refused(4, 4, "no form, where a block opens that none awaits", body(["A[0] = 1", f"    A[0 1] = {deep}"]))
+    refused(8, 5, "too deep, where a block opens in a tasklet", tasklet(["x = 1", f"    x = {deep}"]))
+    added = tasklet(["x = 1", f"    A[0] += {deep}"])
+    refused(4, 5, "a statement that is too deep, where a block opens in a tasklet", added)
+    indented = f"    def f(A: dace.int64[{deep}]):\n        A[0] = 1\n"
+    refused(8, 1, "a def that is too deep on a first line that is indented", indented)
+    refused(8, 2, "a def that is too deep further in than its decorator", "@dace.program\n" + indented)
 
 
 def calls():

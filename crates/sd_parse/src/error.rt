@@ -1,15 +1,9 @@
 ghost use Rattle.std.specs.Prelude.{◌≡◌};
 ghost use Rattle.sd_parse.specs.ErrorNumber as errors;
 
+use sd_blocks::Refusal;
 use sd_list::NoMemory;
 use thiserror::Error;
-
-/// The number of an error and the line that it stands on, counted from 1.
-#[derive(Clone, Copy, Debug, PartialEq, Eq)]
-pub struct Refusal {
-    pub number: u8,
-    pub line: u32,
-}
 
 /// Why a source has no program.
 #[derive(Clone, Copy, Debug, PartialEq, Eq, Error)]

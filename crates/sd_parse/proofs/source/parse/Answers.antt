@@ -1,7 +1,7 @@
 use Rattle.std.proofs.Common.{rules, ◌≡◌, Ok}
 use Rattle.sd_lex.specs.TreeFold.{program_of}
-use Rattle.sd_parse.specs.SourceReading.{reads}
-use Rattle.sd_parse.proofs.readable.Fields.{well_formed, levels_of_program}
+use Rattle.sd_source.specs.SourceReading.{reads}
+use Rattle.sd_readable.proofs.Fields.{well_formed, levels_of_program}
 use Rattle.sd_parse.proofs.source.parse.Goals as goal
 
 -- src/source.rt:54:1

@@ -1,0 +1,10 @@
+pub mod Context
+pub mod ContextFold
+pub mod Declaring
+pub mod Writing
+pub mod Awaiting
+pub mod Placing
+pub mod After
+pub mod Closing
+pub mod Judging
+pub mod Continuing

@@ -1,0 +1,116 @@
+//! A line is judged: the least number that stands against it, or the context behind it.
+ghost use Rattle.std.specs.Prelude.{◌≡◌, IfOk};
+ghost use Rattle.sd_lex.specs.TreeFold.{block_of};
+ghost use Rattle.sd_line.specs.HeadFold.{head_tree};
+ghost use Rattle.sd_blocks.specs.After.{context_after};
+ghost use Rattle.sd_blocks.specs.Context as context;
+ghost use Rattle.sd_blocks.specs.ContextFold.{stepped, context_of};
+ghost use Rattle.sd_blocks.specs.Judging as definition;
+
+use crate::context::Context;
+use crate::refusal::Refusal;
+use sd_lex::Statement;
+use sd_line::Head;
+use sd_list::NoMemory;
+use sd_refusal::refusal;
+use std::alloc::Global;
+
+/// A line that is refused.
+pub fn refused(number: u8, line: u32) -> Result<(), Refusal>
+    ensures { (behind : context.Context) → stepped result behind ≡ definition.refused number line }
+{
+    Err(Refusal { number, line })
+}
+
+/// The lesser of two numbers, where there are two.
+fn least(a: Option<u8>, b: Option<u8>) -> Option<u8>
+    ensures { result ≡ definition.least a b }
+{
+    match a {
+        None => b,
+        Some(first) => match b {
+            None => Some(first),
+            Some(second) => Some(first.min(second)),
+        },
+    }
+}
+
+/// A line with a number against it is refused.
+pub fn accepted(number: Option<u8>, line: u32) -> Result<(), Refusal>
+    ensures { (behind : context.Context) → stepped result behind ≡ definition.accepted number line behind }
+{
+    match number {
+        None => Ok(()),
+        Some(number) => Err(Refusal { number, line }),
+    }
+}
+
+impl Context {
+    /// The least number that stands against a head where the next line stands.
+    pub fn against(&self, alloc: Global, head: &Head) -> Result<Option<u8>, NoMemory>
+        ensures { IfOk result (λ number. number ≡ definition.against (context_of self.now) (head_tree head.now)) }
+    {
+        refusal(alloc, &self.names, self.site(), head)
+    }
+
+    /// Judges a head and passes it; the lesser of the number before and that against it.
+    fn judge_one(
+        &mut self,
+        alloc: Global,
+        before: Option<u8>,
+        line: u32,
+        is_tasklet: bool,
+        head: Head,
+    ) -> Result<Option<u8>, NoMemory>
+        ensures { IfOk result (λ number. (number, context_of self.new) ≡ definition.judged_one line is_tasklet (before, context_of self.old) (head_tree head)) }
+    {
+        let number = least(before, self.against(alloc, &head)?);
+        self.pass(alloc, line, is_tasklet, head)?;
+        Ok(number)
+    }
+
+    /// Judges the arguments of a program one after another.
+    fn judge_arguments(
+        &mut self,
+        alloc: Global,
+        before: Option<u8>,
+        line: u32,
+        is_tasklet: bool,
+        arguments: Vec<Statement>,
+    ) -> Result<Option<u8>, NoMemory>
+        ensures { IfOk result (λ number. (number, context_of self.new) ≡ definition.judged_all line is_tasklet (before, context_of self.old) (definition.statement_heads (block_of arguments.items))) }
+    {
+        let mut number = before;
+        for argument in arguments {
+            number = self.judge_one(alloc, number, line, is_tasklet, Head::Statement(argument))?;
+        }
+        Ok(number)
+    }
+
+    /// Judges a line, and a program's arguments behind its name.
+    pub fn judge(
+        &mut self,
+        alloc: Global,
+        line: u32,
+        is_tasklet: bool,
+        head: Head,
+    ) -> Result<Result<(), Refusal>, NoMemory>
+        ensures { IfOk result (λ step. stepped step (context_of self.new) ≡ definition.judged (context_of self.old) line is_tasklet (head_tree head)) }
+    {
+        match head {
+            Head::Program { name, arguments } => {
+                let alone = Head::Program {
+                    name,
+                    arguments: Vec::new(alloc),
+                };
+                let number = self.judge_one(alloc, None, line, is_tasklet, alone)?;
+                let number = self.judge_arguments(alloc, number, line, is_tasklet, arguments)?;
+                Ok(accepted(number, line))
+            }
+            other => {
+                let number = self.judge_one(alloc, None, line, is_tasklet, other)?;
+                Ok(accepted(number, line))
+            }
+        }
+    }
+}

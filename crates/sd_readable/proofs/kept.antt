@@ -1,0 +1,11 @@
+pub mod Passing
+pub mod Heads
+pub mod Ahead
+pub mod AheadKept
+pub mod Steps
+pub mod Nesting
+pub mod Trees
+pub mod Affine
+pub mod InForce
+pub mod Counted
+pub mod NewNames

@@ -1,0 +1,9 @@
+pub mod Forms
+pub mod LevelForms
+pub mod LineForms
+pub mod Connectors
+pub mod Places
+pub mod AffinePlaces
+pub mod LineLimits
+pub mod Tasks
+pub mod TasksKept

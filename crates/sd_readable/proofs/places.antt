@@ -1,0 +1,9 @@
+pub mod Placed
+pub mod PlacedNames
+pub mod PlacedKept
+pub mod PlacedBlocks
+pub mod PlacedEnds
+pub mod PlacedFields
+pub mod KnownFields
+pub mod LineLevels
+pub mod ReadFields

@@ -1,0 +1,9 @@
+pub mod Lines
+pub mod LineReading
+pub mod LinesReading
+pub mod Prefix
+pub mod NodeRefusal
+pub mod TokenLines
+pub mod TokenPlaces
+pub mod SourceLines
+pub mod SourceReading
