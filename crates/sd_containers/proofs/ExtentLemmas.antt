@@ -10,9 +10,9 @@ use Rattle.sd_program.specs.Affines.{affine_number, affines_of}
 use Rattle.sd_program.specs.Bounds.{EachExpression, EachBound}
 use Rattle.sd_program.specs.Every.{Every, EveryIn, EveryOf}
 use Rattle.sd_program.specs.Small.{IsSmall, IsWithinLimits}
-use Rattle.sd_task.specs.Names.{with_numbered}
-use Rattle.sd_task.specs.Ranges.{extents_of}
-use Rattle.sd_task.specs.SmallExtents.{HasSmallExtents, HaveSmallExtents}
+use Rattle.sd_in_force.specs.Names.{with_numbered}
+use Rattle.sd_in_force.specs.Ranges.{extents_of}
+use Rattle.sd_in_force.specs.SmallExtents.{HasSmallExtents, HaveSmallExtents}
 use Rattle.sd_program.specs.DeclaredNames.{container_names}
 use Rattle.sd_containers.specs.Declarations.{Containers, containers_with, containers_with_all, containers_of_function, with_element, element_name}
 

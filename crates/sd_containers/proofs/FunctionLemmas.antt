@@ -4,7 +4,7 @@ use Rattle.std.specs.List.{IsDistinct}
 use Rattle.std.proofs.lemmas.List.{append-nil}
 use Rattle.sd_lex.specs.PlainTree.{Block, FunctionTree}
 use Rattle.sd_program.specs.Names.{Name, Named}
-use Rattle.sd_task.specs.Names.{with_numbered}
+use Rattle.sd_in_force.specs.Names.{with_numbered}
 use Rattle.sd_containers.specs.Declarations.{Containers, containers_with_all, containers_of_function}
 use Rattle.sd_program.specs.DeclaredNames.{declared_names_all, container_names}
 use Rattle.sd_containers.specs.NamesToCome.{AreToCome, Declares}

@@ -9,8 +9,8 @@ use Rattle.sd_graph.specs.declared.container.ContainerKind.TheVariants.{Argument
 use Rattle.sd_range.specs.declared.affine.Affine.{Affine}
 use Rattle.sd_program.specs.Names.{Name, Named}
 use Rattle.sd_program.specs.Affines.{affine_number}
-use Rattle.sd_task.specs.Names.{with_numbered}
-use Rattle.sd_task.specs.Ranges.{extents_of}
+use Rattle.sd_in_force.specs.Names.{with_numbered}
+use Rattle.sd_in_force.specs.Ranges.{extents_of}
 use Rattle.sd_program.specs.DeclaredNames.{container_names}
 
 -- ---- variables

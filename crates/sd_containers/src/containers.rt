@@ -6,8 +6,8 @@ ghost use Rattle.sd_graph.specs.TreeParts.{has_name};
 ghost use Rattle.sd_program.specs.Bounds.{EachBound, EachExpression};
 ghost use Rattle.sd_program.specs.Every.{Every, EveryIn, EveryOf};
 ghost use Rattle.sd_program.specs.Small.{IsSmall};
-ghost use Rattle.sd_task.specs.Ranges.{extents_of};
-ghost use Rattle.sd_task.specs.SmallExtents.{HaveSmallExtents};
+ghost use Rattle.sd_in_force.specs.Ranges.{extents_of};
+ghost use Rattle.sd_in_force.specs.SmallExtents.{HaveSmallExtents};
 ghost use Rattle.sd_program.specs.DeclaredNames.{declared_names, declared_names_all, container_names};
 ghost use Rattle.sd_containers.specs.NamesToCome.{Declares};
 ghost use Rattle.sd_containers.specs.Declarations as definition;
@@ -17,10 +17,10 @@ use crate::fresh::fresh_name;
 use crate::name_list::set_of;
 use indexmap::{IndexMap, IndexSet};
 use sd_graph::{Container, ContainerKind};
+use sd_in_force::{Scope, affine, number};
 use sd_lex::{Expr, Function, Statement, has_connector};
 use sd_list::{NoMemory, Sequence};
 use sd_range::Affine;
-use sd_task::{Scope, affine, number};
 use std::alloc::Global;
 
 /// The size symbols of a program, and the names that it declares for containers.
@@ -125,50 +125,24 @@ fn declare_of_statement(
     match statement {
         Statement::Argument { name, extents, .. } => {
             let extents = extents_of(alloc, &known.symbols, extents)?;
-            declare_written(
-                alloc,
-                known,
-                containers,
-                name.as_str(),
-                extents,
-                ContainerKind::Argument,
-            )
+            let kind = ContainerKind::Argument;
+            declare_written(alloc, known, containers, name.as_str(), extents, kind)
         }
         Statement::Local { name, extents, .. } => {
             let extents = extents_of(alloc, &known.symbols, extents)?;
-            declare_written(
-                alloc,
-                known,
-                containers,
-                name.as_str(),
-                extents,
-                array_kind(in_scope),
-            )
+            let kind = array_kind(in_scope);
+            declare_written(alloc, known, containers, name.as_str(), extents, kind)
         }
         Statement::Stream { name, .. } => {
-            let none = Vec::new(alloc);
-            declare_written(
-                alloc,
-                known,
-                containers,
-                name.as_str(),
-                none,
-                stream_kind(in_scope),
-            )
+            let (none, kind) = (Vec::new(alloc), stream_kind(in_scope));
+            declare_written(alloc, known, containers, name.as_str(), none, kind)
         }
         Statement::Consume { element, body, .. } => {
             if has_connector(body) {
                 return declare_taken(alloc, known, containers, element.as_str());
             }
-            let one = vec![in alloc; number(alloc, 1)]?;
-            declare_written(
-                alloc,
-                known,
-                containers,
-                element.as_str(),
-                one,
-                ContainerKind::Private,
-            )?;
+            let (one, kind) = (vec![in alloc; number(alloc, 1)]?, ContainerKind::Private);
+            declare_written(alloc, known, containers, element.as_str(), one, kind)?;
             declare_of_block(alloc, known, true, containers, body)
         }
         Statement::Map { body, .. } => declare_of_block(alloc, known, true, containers, body),

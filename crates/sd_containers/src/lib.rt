@@ -13,3 +13,6 @@ mod variables;
 
 pub use containers::containers_of_function;
 pub use variables::variable_names;
+
+#[cfg(test)]
+mod tests;

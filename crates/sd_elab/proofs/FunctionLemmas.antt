@@ -5,14 +5,16 @@ use Rattle.sd_lex.specs.PlainTree.{FunctionTree}
 use Rattle.sd_lex.specs.TreeFold.{function_of}
 use Rattle.sd_lex.specs.declared.syntax.program.Function.{Function}
 use Rattle.sd_graph.proofs.TreeLemmas.{map_grown}
-use Rattle.sd_graph.specs.PlainTree.{no_item, GraphTree}
+use Rattle.sd_graph.specs.PlainTree.{no_item, GraphTree, graph}
+use Rattle.sd_graph.specs.TreeFold.{PlainState, states_listed}
 use Rattle.sd_program.specs.Bounds.{EachBound}
 use Rattle.sd_program.specs.Every.{EveryOf}
+use Rattle.sd_program.specs.Declared.{containers_in_all}
 use Rattle.sd_program.specs.IsAffine.{IsAffine}
 use Rattle.sd_program.specs.Names.{Name, Named}
 use Rattle.sd_program.specs.Small.{IsSmall}
 use Rattle.sd_program.specs.DeclaredNames.{container_names}
-use Rattle.sd_containers.specs.Declarations.{containers_of_function}
+use Rattle.sd_containers.specs.Declarations.{Containers, containers_of_function, variable_names_all}
 use Rattle.sd_items.specs.Graphs.{no_graph, graph_named}
 use Rattle.sd_elab.specs.BuildingOf.{nothing_made}
 use Rattle.sd_elab.specs.Elaborable.{IsElaborable, AreElaborable}
@@ -106,3 +108,10 @@ graph_of_source symbols first second functions above last graphs tree same same_
 pub graph_of_none : (symbols : List Name) (functions : List Function) → length functions ≡ 0 → latest (graphs_with symbols [] (map function_of functions)) ≡ no_graph
 graph_of_none symbols [] none = refl
 graph_of_none symbols (function ∷ functions) none = absurd (omega arith)
+
+-- a graph is that of a program where its parts are
+pub graph_made_of : (symbols : List Name) (graphs : Name → GraphTree) (function : FunctionTree) (name : Name) (containers : Containers) (arguments : ℕ) (variables : List Name) (count : ℕ) (states : List PlainState) →
+    name ≡ function.name → containers ≡ containers_of_function symbols function → arguments ≡ containers_in_all function.arguments → variables ≡ variable_names_all function.body symbols → count ≡ length symbols →
+    states ≡ states_of_function symbols graphs function → graph name containers arguments variables count (states_listed states) ≡ function_graph symbols graphs function
+graph_made_of symbols graphs function name containers arguments variables count states named held counted listed known made =
+    λ i. graph (named i) (held i) (counted i) (listed i) (known i) (states_listed (made i))

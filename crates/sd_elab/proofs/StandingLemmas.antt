@@ -6,7 +6,7 @@ use Rattle.sd_program.specs.Names.{Name, Named}
 use Rattle.sd_program.specs.Declared.{states_in_all, containers_in, containers_in_all}
 use Rattle.sd_items.specs.Counts.{variables_in_all}
 use Rattle.sd_items.specs.NamesBehind.{table_behind_state, table_behind_all}
-use Rattle.sd_task.specs.Stack.{without_newest}
+use Rattle.sd_in_force.specs.Stack.{without_newest}
 use Rattle.sd_task.specs.Table.{Table}
 use Rattle.sd_elab.specs.Standing.{Standing, behind, behind_all, state_behind, with_loop_variable}
 use Rattle.sd_elab.specs.BuildingOf.{without_loop_variable}

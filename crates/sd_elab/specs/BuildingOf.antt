@@ -6,8 +6,8 @@ use Rattle.sd_lex.specs.PlainTree.{StatementTree}
 use Rattle.sd_program.specs.Names.{Name}
 use Rattle.sd_program.specs.Declared.{containers_in}
 use Rattle.sd_items.specs.Counts.{variables_in}
-use Rattle.sd_task.specs.SmallExtents.{HaveSmallExtents}
-use Rattle.sd_task.specs.Stack.{without_newest}
+use Rattle.sd_in_force.specs.SmallExtents.{HaveSmallExtents}
+use Rattle.sd_in_force.specs.Stack.{without_newest}
 use Rattle.sd_task.specs.Table.{with_container}
 use Rattle.sd_elab.specs.Standing.{Standing}
 use Rattle.sd_elab.specs.Threaded.{Threaded}

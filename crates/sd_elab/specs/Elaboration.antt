@@ -5,7 +5,7 @@ use Rattle.sd_graph.specs.PlainTree.{no_item, GraphTree, graph}
 use Rattle.sd_graph.specs.TreeFold.{PlainState, states_listed}
 use Rattle.sd_program.specs.Names.{Name, Named}
 use Rattle.sd_items.specs.Graphs.{no_graph, graph_named}
-use Rattle.sd_task.specs.Names.{with_numbered}
+use Rattle.sd_in_force.specs.Names.{with_numbered}
 use Rattle.sd_task.specs.Table.{Table}
 use Rattle.sd_program.specs.Declared.{containers_in_all}
 use Rattle.sd_containers.specs.Declarations.{variable_names_all, containers_of_function}

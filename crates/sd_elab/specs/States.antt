@@ -5,7 +5,7 @@ use Rattle.sd_range.specs.Arithmetic.{affine_zero}
 use Rattle.sd_graph.specs.PlainTree.{ItemTrees, no_item, ExitTree, GraphTree}
 use Rattle.sd_graph.specs.TreeFold.{PlainState}
 use Rattle.sd_program.specs.Names.{Name}
-use Rattle.sd_task.specs.Ranges.{affine_or}
+use Rattle.sd_in_force.specs.Ranges.{affine_or}
 use Rattle.sd_task.specs.ElementCode.{guard_of, below}
 use Rattle.sd_items.specs.Items.{items_with}
 use Rattle.sd_elab.specs.Exits.{plainly, setting, if_holds, back_to, stepped_on}

@@ -7,10 +7,10 @@ ghost use Rattle.sd_program.specs.Every.{Every};
 ghost use Rattle.sd_program.specs.Small.{IsSmall};
 ghost use Rattle.sd_range.specs.Arithmetic.{affine_zero};
 ghost use Rattle.sd_items.specs.Graphs.{graph_named};
-ghost use Rattle.sd_items.specs.GraphsOf.{graphs_of};
+ghost use Rattle.sd_items.specs.GraphsByNumber.{graphs_of};
 ghost use Rattle.sd_items.specs.Items.{items_with};
 ghost use Rattle.sd_task.specs.ElementCode.{guard_of, below};
-ghost use Rattle.sd_task.specs.Ranges.{affine_or};
+ghost use Rattle.sd_in_force.specs.Ranges.{affine_or};
 ghost use Rattle.sd_task.specs.TableOf.{table_of};
 ghost use Rattle.sd_elab.specs.BuildingOf.{threaded_of, standing_of, HasSmallContainers, argument_passed, declared, item_behind, without_loop_variable};
 ghost use Rattle.sd_elab.specs.Exits as exits;
@@ -20,10 +20,11 @@ ghost use Rattle.sd_elab.specs.Threaded.{closed, holding, to_block, join_of, in_
 use crate::count::states_in_all;
 use crate::exit::{back_to, if_holds, plainly, setting, step_back};
 use sd_graph::{Exit, Guard, Item, State};
+use sd_in_force::{affine_or, more, number};
 use sd_items::{Graphs, Numbers, push_item};
 use sd_lex::{Expr, Statement};
 use sd_list::NoMemory;
-use sd_task::{Names, affine_or, guard, guard_below, more, number};
+use sd_task::{Names, guard, guard_below};
 use std::alloc::Global;
 
 /// The states that are finished, and the items of the current one.
@@ -181,7 +182,7 @@ impl Building {
 
     /// The current state goes on to a loop, and gives its variable the begin. The variable is the
     /// next one, and is in force from here on.
-    #[tactic(auto, using(sd_task::proofs::SmallLemmas::zero_within))]
+    #[tactic(auto, using(sd_in_force::proofs::SmallLemmas::zero_within))]
     pub(crate) fn begin_loop(
         &mut self,
         alloc: Global,

@@ -2,9 +2,9 @@ ghost use Rattle.std.specs.Prelude.{◌≡◌, IfOk};
 ghost use Rattle.sd_lex.specs.TreeFold.{statement_of, block_of};
 ghost use Rattle.sd_program.specs.Declared as declared;
 
+use sd_in_force::more;
 use sd_lex::Statement;
 use sd_list::NoMemory;
-use sd_task::more;
 
 /// How many states a statement makes.
 #[cycle(counts)]

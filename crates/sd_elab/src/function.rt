@@ -2,9 +2,9 @@ ghost use Rattle.std.specs.Prelude.{◌≡◌, map, string_bytes, IfOk, OnOk};
 ghost use Rattle.sd_containers.specs.Declarations.{containers_of_function as containers_defined};
 ghost use Rattle.sd_graph.specs.TreeFold.{graph_tree, named_container, state_tree};
 ghost use Rattle.sd_items.specs.Graphs.{graph_named};
-ghost use Rattle.sd_items.specs.GraphsOf.{graphs_of};
+ghost use Rattle.sd_items.specs.GraphsByNumber.{graphs_of};
 ghost use Rattle.sd_lex.specs.TreeFold.{function_of, block_of};
-ghost use Rattle.sd_task.specs.SmallExtents.{HaveSmallExtents};
+ghost use Rattle.sd_in_force.specs.SmallExtents.{HaveSmallExtents};
 ghost use Rattle.sd_task.specs.TableOf.{table_of};
 ghost use Rattle.sd_elab.specs.BuildingOf.{threaded_of, standing_of, HasSmallContainers, nothing_made};
 ghost use Rattle.sd_elab.specs.Elaborable.{IsElaborable};
@@ -14,10 +14,11 @@ use crate::building::Building;
 use crate::thread::thread_all;
 use sd_containers::{containers_of_function, variable_names};
 use sd_graph::Sdfg;
+use sd_in_force::{Scope, more};
 use sd_items::{Graphs, Numbers, count_containers};
 use sd_lex::{Function, Statement};
 use sd_list::NoMemory;
-use sd_task::{Names, Scope, more};
+use sd_task::Names;
 use std::alloc::Global;
 
 /// Puts the arguments in force; the first is container 0.

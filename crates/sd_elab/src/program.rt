@@ -1,34 +1,17 @@
 ghost use Rattle.std.specs.Prelude.{◌≡◌, [], map, string_bytes, IfOk};
 ghost use Rattle.sd_graph.specs.TreeFold.{graph_tree};
-ghost use Rattle.sd_items.specs.Graphs.{no_graph};
-ghost use Rattle.sd_items.specs.GraphsOf.{graphs_of};
+ghost use Rattle.sd_items.specs.GraphsByNumber.{graphs_of};
 ghost use Rattle.sd_lex.specs.TreeFold.{function_of, program_of};
 ghost use Rattle.sd_elab.specs.Elaboration as definition;
 ghost use Rattle.sd_program.specs.WellFormed.{IsWellFormed};
 ghost use Rattle.sd_elab.specs.Elaborable.{AreElaborable};
 
 use crate::function::function_graph;
-use indexmap::IndexMap;
 use sd_graph::Sdfg;
-use sd_items::Graphs;
+use sd_items::{Graphs, empty_graph};
 use sd_lex::{Function, Program};
 use sd_list::NoMemory;
 use std::alloc::Global;
-
-/// A graph with nothing in it.
-#[tactic(auto, using(sd_graph::proofs::TreeLemmas::graph_rolled))]
-fn empty_graph(alloc: Global) -> Sdfg
-    ensures { graph_tree result ≡ no_graph }
-{
-    Sdfg {
-        name: String::new(alloc),
-        containers: IndexMap::new(alloc),
-        arguments: 0,
-        variables: Vec::new(alloc),
-        symbols: 0,
-        states: Vec::new(alloc),
-    }
-}
 
 /// The graphs of programs, each of which calls those before it.
 fn graphs_above(
@@ -50,9 +33,13 @@ fn graphs_above(
 
 /// The graph of a source: that of its last program, whose calls are of the programs before it.
 ///
-/// The states of a block are counted once for each loop and branch about it, and a name is looked
-/// for among all names and graphs that are in force, so the work is not linear in the source. A
-/// source without a program has a graph with nothing in it.
+/// A source without a program has a graph with nothing in it.
+///
+/// Names and graphs are looked up by hash. The states of a block are counted once for each loop and
+/// branch about it, the containers of a block once for each scope about it, and a free name for the
+/// element of a tasklet is the first of `x$1`, `x$2` and so on that is free. A program that was read has
+/// at most 256 states and 256 containers, so each of these is bounded by a number, and the work is
+/// linear in the graph.
 #[tactic(auto, using(crate::proofs::FunctionLemmas::elaborable_all, crate::proofs::FunctionLemmas::elaborable_before, crate::proofs::FunctionLemmas::graph_of_none))]
 pub fn elaborate(alloc: Global, program: &Program) -> Result<Sdfg, NoMemory>
     requires well_formed { IsWellFormed (program_of program.now) }

@@ -1,7 +1,7 @@
 ghost use Rattle.std.specs.Prelude.{◌≡◌, OnOk};
 ghost use Rattle.sd_lex.specs.TreeFold.{statement_of, block_of};
 ghost use Rattle.sd_items.specs.Graphs.{graph_named};
-ghost use Rattle.sd_items.specs.GraphsOf.{graphs_of};
+ghost use Rattle.sd_items.specs.GraphsByNumber.{graphs_of};
 ghost use Rattle.sd_program.specs.Bounds.{EachBound};
 ghost use Rattle.sd_program.specs.Every.{Every, EveryIn};
 ghost use Rattle.sd_program.specs.IsAffine.{IsAffine};

@@ -8,7 +8,7 @@ use Rattle.sd_graph.specs.TreeFold.{PlainState}
 use Rattle.sd_graph.specs.TreeParts.{exits_at}
 use Rattle.sd_program.specs.Names.{Name}
 use Rattle.sd_program.specs.Declared.{states_in, states_in_all, states_in_other}
-use Rattle.sd_task.specs.Ranges.{affine_or}
+use Rattle.sd_in_force.specs.Ranges.{affine_or}
 use Rattle.sd_task.specs.ElementCode.{guard_of, below}
 use Rattle.sd_elab.specs.Exits.{plainly, setting, if_holds, back_to, stepped_on}
 use Rattle.sd_elab.specs.Standing.{Standing, behind, behind_all, state_behind, with_loop_variable}

@@ -16,7 +16,7 @@ use Rattle.sd_program.specs.Place as place_of
 use Rattle.sd_program.specs.Place.{Holder, program, signature, Place, past, past_all, in_loop, in_signature, in_function, EveryAt, EveryFrom, EveryOfFunction, EveryFunction}
 use Rattle.sd_program.specs.Known.{StandsIn, StandsInProgram, IsPlaced, IsKnown}
 use Rattle.sd_program.specs.WellFormed.{IsWellFormed}
-use Rattle.sd_task.specs.Names.{with_numbered}
+use Rattle.sd_in_force.specs.Names.{with_numbered}
 use Rattle.sd_task.specs.Table.{Table}
 use Rattle.sd_items.specs.NamesBehind.{table_behind_state, table_behind_all}
 use Rattle.sd_items.specs.Graphs.{no_graph, graph_named}

@@ -11,7 +11,7 @@ use Rattle.sd_graph.specs.Upwards.{ExitsLeadUpwards, KindLeadsUpwards, ItemsLead
 use Rattle.sd_program.specs.Names.{Name, Named, in_force}
 use Rattle.sd_program.specs.Declared.{states_in, states_in_all, states_in_other, containers_in}
 use Rattle.sd_task.specs.Table.{Table, with_container, with_variables}
-use Rattle.sd_task.specs.Ranges.{affine_or}
+use Rattle.sd_in_force.specs.Ranges.{affine_or}
 use Rattle.sd_task.specs.ElementCode.{guard_of, below}
 use Rattle.sd_items.specs.Counts.{variables_in}
 use Rattle.sd_items.specs.NamesBehind.{table_behind}

@@ -2,8 +2,8 @@
 use Rattle.std.proofs.Common.{◌≡◌, ◌∙◌, ℕ, suc, ◌+◌, ◌-◌, ◌≤◌, List, [], ◌∷◌, length, drop, refl, ap, arith}
 use Rattle.sd_lex.specs.PlainTree.{StatementTree, argument_array, local_array, local_stream, assign, copy, reduce, map_scope, tasklet, consume_scope, call, for_loop, while_loop, branch, input, output, set, set_at, tasklet_branch}
 use Rattle.sd_program.specs.Names.{Name, Named}
-use Rattle.sd_task.specs.Names.{with_numbered}
-use Rattle.sd_task.specs.Stack.{oldest}
+use Rattle.sd_in_force.specs.Names.{with_numbered}
+use Rattle.sd_in_force.specs.Stack.{oldest}
 use Rattle.sd_task.specs.Table.{Table, with_container}
 use Rattle.sd_items.specs.NamesBehind.{table_behind}
 

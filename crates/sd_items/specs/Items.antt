@@ -10,7 +10,7 @@ use Rattle.sd_graph.specs.TreeParts.{containers_of}
 use Rattle.sd_graph.specs.declared.container.Container.{Container}
 use Rattle.sd_graph.specs.declared.link.Link.{Link}
 use Rattle.sd_program.specs.Names.{Name}
-use Rattle.sd_task.specs.Ranges.{parameters_of}
+use Rattle.sd_in_force.specs.Ranges.{parameters_of}
 use Rattle.sd_task.specs.Table.{Table, with_container, with_variables, container_number}
 use Rattle.sd_task.specs.Links.{link_to, subset_link, resolution_of}
 use Rattle.sd_program.specs.Declared.{containers_in}

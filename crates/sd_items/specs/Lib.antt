@@ -3,5 +3,5 @@ pub mod Counts
 pub mod NamesBehind
 pub mod Items
 pub mod Graphs
-pub mod GraphsOf
+pub mod GraphsByNumber
 pub mod Scopes

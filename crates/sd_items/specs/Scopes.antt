@@ -5,7 +5,7 @@ use Rattle.sd_lex.specs.StatementKind.{has_connector}
 use Rattle.sd_graph.specs.PlainTree as plain
 use Rattle.sd_graph.specs.PlainTree.{KindTree, ItemTrees, GraphTree}
 use Rattle.sd_program.specs.Names.{Name}
-use Rattle.sd_task.specs.Ranges.{parameters_of}
+use Rattle.sd_in_force.specs.Ranges.{parameters_of}
 use Rattle.sd_task.specs.Table.{Table, with_container, with_variables, container_number}
 use Rattle.sd_tasklet_item.specs.Item.{task_with, inputs_of, outputs_of}
 use Rattle.sd_items.specs.Items.{taken_link, items_of_body}

@@ -6,10 +6,10 @@ ghost use Rattle.sd_graph.specs.TreeFold.{kind_tree, named_container};
 ghost use Rattle.sd_graph.specs.TreeParts.{containers_of};
 ghost use Rattle.sd_program.specs.Bounds.{EachDimension};
 ghost use Rattle.sd_program.specs.Small.{IsSmall};
-ghost use Rattle.sd_task.specs.SmallExtents.{HaveSmallExtents};
+ghost use Rattle.sd_in_force.specs.SmallExtents.{HaveSmallExtents};
 ghost use Rattle.sd_task.specs.TableOf.{table_of};
 ghost use Rattle.sd_items.specs.Graphs.{graph_named};
-ghost use Rattle.sd_items.specs.GraphsOf.{graphs_of};
+ghost use Rattle.sd_items.specs.GraphsByNumber.{graphs_of};
 ghost use Rattle.sd_items.specs.Items as definition;
 
 use crate::graphs::Graphs;

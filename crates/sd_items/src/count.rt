@@ -3,9 +3,9 @@ ghost use Rattle.sd_lex.specs.TreeFold.{statement_of, block_of};
 ghost use Rattle.sd_items.specs.Counts as counts;
 ghost use Rattle.sd_program.specs.Declared as declared;
 
+use sd_in_force::more;
 use sd_lex::Statement;
 use sd_list::NoMemory;
-use sd_task::more;
 
 /// How many containers a statement declares, in the blocks below it too.
 #[cycle(containers)]

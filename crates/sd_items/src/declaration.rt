@@ -5,9 +5,10 @@ ghost use Rattle.sd_items.specs.NamesBehind.{own_of, table_behind};
 ghost use Rattle.sd_task.specs.TableOf.{table_of};
 
 use crate::count::containers_in;
+use sd_in_force::more;
 use sd_lex::Statement;
 use sd_list::NoMemory;
-use sd_task::{Names, more};
+use sd_task::Names;
 use std::alloc::Global;
 
 /// The name that a statement declares itself is in force, for the container of this number.

@@ -1,19 +1,38 @@
-ghost use Rattle.std.specs.Prelude.{◌≡◌, [], ◌∷◌, string_bytes, option_map, IfOk, OnOk};
-ghost use Rattle.std.specs.Option.{option_copied};
+ghost use Rattle.std.specs.Prelude.{◌≡◌, [], ◌∷◌, string_bytes, IfOk, OnOk};
 ghost use Rattle.sd_graph.specs.TreeFold.{graph_tree};
-ghost use Rattle.sd_program.specs.Names.{in_force};
 ghost use Rattle.sd_items.specs.Graphs.{no_graph, graph_named};
-ghost use Rattle.sd_items.specs.GraphsOf.{graphs_of, graphs_listed};
+ghost use Rattle.sd_items.specs.GraphsByNumber.{graphs_of};
 
 use indexmap::IndexMap;
 use sd_graph::Sdfg;
+use sd_in_force::Scope;
 use sd_list::NoMemory;
 use std::alloc::Global;
+use std::marker::Model;
 
-/// Graphs of earlier programs; the latest of a name counts.
+/// Graphs of earlier programs by name; the latest of a name counts.
 #[derive(Drop)]
 pub struct Graphs {
-    entries: Vec<(String, Sdfg)>,
+    /// The name of each graph, with its place.
+    numbers: Scope,
+    graphs: Vec<Sdfg>,
+}
+
+impl Model for Graphs {
+    ghost use Rattle.std.specs.Prelude.{ℕ, List, length};
+    ghost use Rattle.std.specs.Coded.{codes};
+    ghost use Rattle.sd_graph.specs.contracts.graph.Sdfg as sdfg;
+    ghost use Rattle.sd_graph.specs.declared.graph.Sdfg.{Sdfg};
+    ghost use Rattle.sd_program.specs.Names.{Named};
+    ghost use Rattle.sd_items.specs.GraphsByNumber.{AreBelow};
+
+    ghost Value = { Named ℕ × List Sdfg };
+
+    ghost coded = { Prim.hlevel (codes, sdfg.the_row.coded) };
+
+    ghost view = { λ known. (known.numbers, known.graphs.items) };
+
+    ghost invariant = { λ known. AreBelow (length known.graphs.items) known.numbers };
 }
 
 impl Graphs {
@@ -22,32 +41,37 @@ impl Graphs {
         ensures { graphs_of result ≡ [] }
     {
         Graphs {
-            entries: Vec::new(alloc),
+            numbers: Scope::new(alloc),
+            graphs: Vec::new(alloc),
         }
     }
 
     /// One more graph, the latest.
-    #[tactic(auto, using(crate::proofs::GraphsLemmas::graphs_grown))]
+    #[tactic(auto, using(crate::proofs::GraphsLemmas::below_grown))]
     pub fn push(&mut self, name: String, graph: Sdfg) -> Result<(), NoMemory>
         ensures { OnOk result (graphs_of self.new ≡ (string_bytes name, graph_tree graph) ∷ graphs_of self.old) }
     {
-        self.entries.push((name, graph))?;
+        let number = u32::try_from(self.graphs.len()).map_err(|_| NoMemory)?;
+        self.graphs.reserve(1)?;
+        self.numbers.push(name, number)?;
+        self.graphs.push(graph)?;
         Ok(())
     }
 
     /// The latest graph of a name once more; one without anything where there is none.
+    #[tactic(auto, using(crate::proofs::GraphsLemmas::found_below, crate::proofs::GraphsLemmas::named_found))]
     pub(crate) fn copy_of(&self, alloc: Global, name: &str) -> Result<Sdfg, NoMemory>
         ensures { IfOk result (λ graph. graph_tree graph ≡ graph_named (graphs_of self.now) name.now) }
     {
-        match newest(&self.entries, name) {
-            Some(graph) => graph.copy_of(alloc),
-            None => Ok(empty(alloc)),
+        match self.numbers.find(name) {
+            Some(number) => self.graphs[number as usize].copy_of(alloc),
+            None => Ok(empty_graph(alloc)),
         }
     }
 }
 
 /// A graph without anything.
-fn empty(alloc: Global) -> Sdfg
+pub fn empty_graph(alloc: Global) -> Sdfg
     ensures { graph_tree result ≡ no_graph }
 {
     Sdfg {
@@ -58,17 +82,4 @@ fn empty(alloc: Global) -> Sdfg
         symbols: 0,
         states: Vec::new(alloc),
     }
-}
-
-/// The graph of the last entry with a name.
-fn newest<'a>(entries: &'a [(String, Sdfg)], name: &str) -> Option<&'a Sdfg>
-    ensures { option_map graph_tree (option_copied result) ≡ in_force (graphs_listed entries.now) name.now }
-{
-    let mut answer = None;
-    for (other, graph) in entries {
-        if name == other.as_str() {
-            answer = Some(graph);
-        }
-    }
-    answer
 }

@@ -12,5 +12,5 @@ mod item;
 mod simple;
 
 pub use count::{count_containers, count_variables};
-pub use graphs::Graphs;
+pub use graphs::{Graphs, empty_graph};
 pub use item::{Numbers, push_item};

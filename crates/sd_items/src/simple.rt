@@ -6,7 +6,7 @@ ghost use Rattle.sd_graph.specs.TreeFold.{kind_tree};
 ghost use Rattle.sd_program.specs.Bounds.{EachDimension};
 ghost use Rattle.sd_program.specs.Small.{IsSmall};
 ghost use Rattle.sd_task.specs.Links as links;
-ghost use Rattle.sd_task.specs.SmallExtents.{HaveSmallExtents};
+ghost use Rattle.sd_in_force.specs.SmallExtents.{HaveSmallExtents};
 ghost use Rattle.sd_task.specs.TableOf.{table_of};
 
 use sd_graph::ItemKind;

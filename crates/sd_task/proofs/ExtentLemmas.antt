@@ -5,7 +5,7 @@ use Rattle.std.specs.List.{AllByRecursion}
 use Rattle.sd_graph.specs.TreeFold.{named_container}
 use Rattle.sd_graph.specs.declared.container.Container.{Container}
 use Rattle.sd_program.specs.Small.{IsWithinLimits}
-use Rattle.sd_task.specs.SmallExtents.{HaveSmallExtents}
+use Rattle.sd_in_force.specs.SmallExtents.{HaveSmallExtents}
 use Rattle.sd_task.specs.Table.{extents_at}
 
 pub extents_found : (entries : List (String Global × Container)) (container : ℕ) (entry : String Global × Container) →

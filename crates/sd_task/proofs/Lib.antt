@@ -1,6 +1,1 @@
-pub mod AffineLemmas
 pub mod ExtentLemmas
-pub mod ListLemmas
-pub mod ScopeLemmas
-pub mod SmallLemmas
-pub mod SubsetLemmas

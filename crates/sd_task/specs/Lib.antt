@@ -1,12 +1,6 @@
-pub mod Names
-pub mod Ranges
 pub mod Table
-pub mod Subsets
 pub mod Links
 pub mod Operators
 pub mod UsedVariables
 pub mod ElementCode
-pub mod Stack
 pub mod TableOf
-pub mod Exact
-pub mod SmallExtents

@@ -12,7 +12,7 @@ use Rattle.sd_graph.specs.declared.tasklet.Port.{Port}
 use Rattle.sd_program.specs.Names.{Name}
 use Rattle.sd_program.specs.Affines.{affines_of}
 use Rattle.sd_task.specs.Table.{Table, container_number, extents_at}
-use Rattle.sd_task.specs.Subsets.{subset_of, connector_subset, ranges_among}
+use Rattle.sd_in_force.specs.Subsets.{subset_of, connector_subset, ranges_among}
 
 -- the resolution that a lambda stands for
 abbrev pub resolution_of : Lambda → Resolution

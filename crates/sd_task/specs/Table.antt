@@ -3,7 +3,7 @@ use Rattle.std.specs.Prelude.{ℕ, zero, suc, List, [], ◌∷◌}
 use Rattle.sd_range.specs.declared.affine.Affine.{Affine}
 use Rattle.sd_graph.specs.declared.container.Container.{Container}
 use Rattle.sd_program.specs.Names.{Name, Named}
-use Rattle.sd_task.specs.Names.{number_or, with_numbered}
+use Rattle.sd_in_force.specs.Names.{number_or, with_numbered}
 
 pub record Table : Type 0 where
   -- the containers and the variables in force

@@ -6,16 +6,14 @@ ghost use Rattle.sd_program.specs.Affines.{affines_of};
 ghost use Rattle.sd_task.specs.Links as definition;
 ghost use Rattle.sd_program.specs.Bounds.{EachExpression, EachDimension};
 ghost use Rattle.sd_program.specs.Small.{IsSmall, IsWithinLimits};
-ghost use Rattle.sd_task.specs.SmallExtents.{HaveSmallExtents};
-ghost use Rattle.sd_task.specs.Subsets as subsets;
+ghost use Rattle.sd_in_force.specs.SmallExtents.{HaveSmallExtents};
+ghost use Rattle.sd_in_force.specs.Subsets as subsets;
 ghost use Rattle.sd_task.specs.Table.{extents_at};
 ghost use Rattle.sd_task.specs.TableOf.{table_of};
 
-use crate::expression::affine;
 use crate::names::Names;
-use crate::scope::Scope;
-use crate::subset::{connector_subset, subset};
 use sd_graph::{Link, Memlet, Port};
+use sd_in_force::{Scope, affine, connector_subset, subset_of};
 use sd_lex::{Expr, Lambda, Moved, Slot};
 use sd_list::{NoMemory, Sequence, Text};
 use sd_num::Resolution;
@@ -110,7 +108,7 @@ pub fn subset_link(
     ensures { IfOk result (λ link. link ≡ definition.subset_link (table_of names.now) connector.now name.now (dimensions_of slots.now)) }
 {
     let container = names.containers.number_or(0, name);
-    let dims = subset(alloc, &names.variables, slots, extents(names, container))?;
+    let dims = subset_of(alloc, &names.variables, slots, extents(names, container))?;
     link_to(alloc, connector, container, dims, 1, None)
 }
 

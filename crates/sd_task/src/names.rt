@@ -1,6 +1,6 @@
-use crate::scope::Scope;
 use indexmap::IndexMap;
 use sd_graph::Container;
+use sd_in_force::Scope;
 
 /// The containers and variables in force, and all containers of the program.
 #[derive(Drop)]

@@ -2,7 +2,7 @@
 use Rattle.std.proofs.Common.{◌≡◌, ℕ, suc, ◌-◌, ◌≤◌, ◌∷◌, length, drop, refl, ap, arith, Bool, true, false, cond}
 use Rattle.sd_lex.specs.PlainTree.{StatementTree, argument_array, local_array, local_stream, assign, copy, reduce, map_scope, tasklet, consume_scope, call, for_loop, while_loop, branch, input, output, set, set_at, tasklet_branch}
 use Rattle.sd_program.specs.Names.{Name, Named}
-use Rattle.sd_task.specs.Stack.{oldest}
+use Rattle.sd_in_force.specs.Stack.{oldest}
 use Rattle.sd_tasklet_item.specs.Code.{is_assigned, locals_behind}
 
 pub oldest_all : (names : Named ℕ) → oldest (length names) names ≡ names

@@ -4,7 +4,7 @@ use Rattle.sd_lex.specs.PlainTree.{Expression, number, named, element_at, one, t
 use Rattle.sd_graph.specs.PlainTree as plain
 use Rattle.sd_graph.specs.PlainTree.{ValueTree, ValueTrees, ActTree, ActTrees}
 use Rattle.sd_program.specs.Names.{Name, Named, in_force}
-use Rattle.sd_task.specs.Names.{number_or}
+use Rattle.sd_in_force.specs.Names.{number_or}
 use Rattle.sd_task.specs.Operators.{one_sign, two_sign}
 use Rattle.sd_task.specs.UsedVariables.{with_variable, variable_value}
 

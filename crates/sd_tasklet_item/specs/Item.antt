@@ -4,7 +4,7 @@ use Rattle.sd_lex.specs.PlainTree.{StatementTree, input, output, Block, no_state
 use Rattle.sd_graph.specs.PlainTree.{TaskletTree, KindTree, task}
 use Rattle.sd_graph.specs.declared.link.Link.{Link}
 use Rattle.sd_program.specs.Names.{Named}
-use Rattle.sd_task.specs.Names.{with_numbered}
+use Rattle.sd_in_force.specs.Names.{with_numbered}
 use Rattle.sd_task.specs.Table.{Table}
 use Rattle.sd_task.specs.Links.{memlet_link, ports_of}
 use Rattle.sd_tasklet_item.specs.Code.{used_acts_all, next_behind_all, acts_of}

@@ -7,9 +7,9 @@ use crate::names::{Connectors, Locals};
 use crate::value::{value, values};
 use indexmap::IndexSet;
 use sd_graph::{Act, Value};
+use sd_in_force::Scope;
 use sd_lex::Statement;
 use sd_list::NoMemory;
-use sd_task::Scope;
 use std::alloc::Global;
 
 /// What is assigned to an output connector, or else to a local.

@@ -4,7 +4,7 @@ ghost use Rattle.sd_lex.specs.TreeFold.{block_of};
 ghost use Rattle.sd_program.specs.Bounds.{EachBound};
 ghost use Rattle.sd_program.specs.Every.{EveryIn};
 ghost use Rattle.sd_program.specs.Small.{IsSmall};
-ghost use Rattle.sd_task.specs.SmallExtents.{HaveSmallExtents};
+ghost use Rattle.sd_in_force.specs.SmallExtents.{HaveSmallExtents};
 ghost use Rattle.sd_task.specs.TableOf.{table_of};
 ghost use Rattle.sd_tasklet_item.specs.Item as definition;
 
@@ -13,9 +13,10 @@ use crate::link::{push_inputs, push_outputs};
 use crate::names::{Connectors, Locals};
 use crate::used::used_variables;
 use sd_graph::{ItemKind, Link, Tasklet};
+use sd_in_force::Scope;
 use sd_lex::Statement;
 use sd_list::NoMemory;
-use sd_task::{Names, Scope, ports};
+use sd_task::{Names, ports};
 use std::alloc::Global;
 
 /// The code of a tasklet with these links.

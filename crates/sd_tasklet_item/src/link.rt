@@ -3,7 +3,7 @@ ghost use Rattle.sd_lex.specs.TreeFold.{block_of};
 ghost use Rattle.sd_program.specs.Bounds.{EachBound};
 ghost use Rattle.sd_program.specs.Every.{EveryIn};
 ghost use Rattle.sd_program.specs.Small.{IsSmall};
-ghost use Rattle.sd_task.specs.SmallExtents.{HaveSmallExtents};
+ghost use Rattle.sd_in_force.specs.SmallExtents.{HaveSmallExtents};
 ghost use Rattle.sd_task.specs.TableOf.{table_of};
 ghost use Rattle.sd_tasklet_item.specs.Item as definition;
 

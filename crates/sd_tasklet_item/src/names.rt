@@ -3,8 +3,8 @@ ghost use Rattle.sd_tasklet_item.specs.Code as definition;
 ghost use Rattle.sd_tasklet_item.specs.Item.{connectors_from};
 
 use sd_graph::Link;
+use sd_in_force::{Scope, more};
 use sd_list::NoMemory;
-use sd_task::{Scope, more};
 use std::alloc::Global;
 
 /// The connectors of a tasklet, by name.

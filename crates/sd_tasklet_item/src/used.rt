@@ -5,9 +5,9 @@ ghost use Rattle.sd_tasklet_item.specs.Code as definition;
 use crate::names::{Connectors, Locals};
 use crate::value::{push_all_used, push_used};
 use indexmap::IndexSet;
+use sd_in_force::Scope;
 use sd_lex::Statement;
 use sd_list::NoMemory;
-use sd_task::Scope;
 use std::alloc::Global;
 
 /// Adds the variables that a line of a tasklet uses, and declares its local.

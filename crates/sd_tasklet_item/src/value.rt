@@ -8,9 +8,10 @@ ghost use Rattle.sd_task.specs.UsedVariables.{variable_value};
 use crate::names::Connectors;
 use indexmap::IndexSet;
 use sd_graph::Value;
+use sd_in_force::Scope;
 use sd_lex::Expr;
 use sd_list::NoMemory;
-use sd_task::{Scope, one_sign, push_variable, two_sign, variable_value};
+use sd_task::{one_sign, push_variable, two_sign, variable_value};
 use std::alloc::Global;
 
 /// Adds the variable for which a name stands, if it stands for one.

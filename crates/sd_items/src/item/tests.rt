@@ -5,15 +5,15 @@ ghost use Rattle.sd_lex.specs.TreeFold.{expression_of, statement_of, block_of, d
 ghost use Rattle.sd_program.specs.Bounds.{EachBound, EachEnd};
 ghost use Rattle.sd_program.specs.Every.{Every, EveryIn};
 ghost use Rattle.sd_program.specs.Small.{IsSmall};
-ghost use Rattle.sd_task.specs.SmallExtents.{HaveSmallExtents};
+ghost use Rattle.sd_in_force.specs.SmallExtents.{HaveSmallExtents};
 ghost use Rattle.sd_task.specs.TableOf.{table_of};
 
 use super::*;
 use indexmap::IndexMap;
 use sd_graph::{Container, ContainerKind, Sdfg};
+use sd_in_force::Scope;
 use sd_lex::{Expr, Lambda, Moved};
 use sd_num::Resolution;
-use sd_task::Scope;
 use std::test::Fail;
 
 // ---- statements

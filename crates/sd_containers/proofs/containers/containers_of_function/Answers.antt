@@ -3,7 +3,7 @@ use Rattle.sd_lex.specs.PlainTree.{FunctionTree}
 use Rattle.sd_lex.specs.TreeFold.{block_of, function_of}
 use Rattle.sd_graph.specs.TreeFold.{named_container}
 use Rattle.sd_program.specs.Names.{Name}
-use Rattle.sd_task.specs.SmallExtents.{HaveSmallExtents}
+use Rattle.sd_in_force.specs.SmallExtents.{HaveSmallExtents}
 use Rattle.sd_containers.specs.Declarations.{Containers, containers_of_function}
 use Rattle.sd_program.specs.DeclaredNames.{container_names}
 use Rattle.sd_containers.proofs.ExtentLemmas.{small_of_function}

@@ -1,7 +1,7 @@
 use Rattle.std.proofs.Common.{ap, ◌∙◌, map, string_bytes}
 use Rattle.sd_graph.specs.TreeFold.{exit_tree}
 use Rattle.sd_items.specs.Graphs.{graph_named}
-use Rattle.sd_items.specs.GraphsOf.{graphs_of}
+use Rattle.sd_items.specs.GraphsByNumber.{graphs_of}
 use Rattle.sd_lex.specs.TreeFold.{function_of, block_of}
 use Rattle.sd_elab.specs.BuildingOf.{threaded_of, standing_of}
 use Rattle.sd_elab.specs.Standing.{behind_all}

@@ -2,7 +2,7 @@ use Rattle.std.proofs.Common.{◌≡◌, ◌∙◌, ap, sym, map, string_bytes}
 use Rattle.std.proofs.lemmas.Result.{IfOk-weaker}
 use Rattle.sd_graph.specs.TreeFold.{graph_tree}
 use Rattle.sd_items.specs.Graphs.{graph_named}
-use Rattle.sd_items.specs.GraphsOf.{graphs_of}
+use Rattle.sd_items.specs.GraphsByNumber.{graphs_of}
 use Rattle.sd_lex.specs.TreeFold.{function_of, program_of}
 use Rattle.sd_elab.specs.Elaboration.{function_graph, graph_of}
 use Rattle.sd_elab.proofs.FunctionLemmas.{elaborable_all, elaborable_last, graph_of_source}

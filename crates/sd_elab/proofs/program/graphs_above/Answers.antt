@@ -1,6 +1,6 @@
 use Rattle.std.proofs.Common.{rules, drop, map, string_bytes, subst, ◌+◌, ◌∙◌}
 use Rattle.sd_graph.specs.TreeFold.{graph_tree}
-use Rattle.sd_items.specs.GraphsOf.{graphs_of}
+use Rattle.sd_items.specs.GraphsByNumber.{graphs_of}
 use Rattle.sd_lex.specs.TreeFold.{function_of}
 use Rattle.sd_elab.specs.Elaborable.{AreElaborable}
 use Rattle.sd_elab.proofs.FunctionLemmas.{graphs_more, functions_more}

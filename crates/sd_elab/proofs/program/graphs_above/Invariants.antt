@@ -1,6 +1,6 @@
 use Rattle.std.proofs.Common.{◌≡◌, [], drop, map, string_bytes}
 use Rattle.sd_lex.specs.TreeFold.{function_of}
-use Rattle.sd_items.specs.GraphsOf.{graphs_of}
+use Rattle.sd_items.specs.GraphsByNumber.{graphs_of}
 use Rattle.sd_elab.specs.Elaborable.{AreElaborable}
 use Rattle.sd_elab.specs.Elaboration.{graphs_with}
 use Rattle.sd_elab.proofs.program.graphs_above.Given as goal

@@ -1,7 +1,7 @@
 use Rattle.std.proofs.Common.{◌∙◌, ◌+◌, rules, ap, sym, subst, drop, option_map}
 use Rattle.std.proofs.lemmas.Result.{on_ok_weaker}
 use Rattle.sd_items.specs.Graphs.{graph_named}
-use Rattle.sd_items.specs.GraphsOf.{graphs_of}
+use Rattle.sd_items.specs.GraphsByNumber.{graphs_of}
 use Rattle.sd_lex.specs.PlainTree.{Block, for_loop}
 use Rattle.sd_lex.specs.TreeFold.{expression_of, statement_of, block_of}
 use Rattle.sd_program.specs.Bounds.{EachBound}

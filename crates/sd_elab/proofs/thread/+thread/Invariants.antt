@@ -1,7 +1,7 @@
 use Rattle.std.proofs.Common.{◌≡◌, drop}
 use Rattle.sd_lex.specs.TreeFold.{block_of}
 use Rattle.sd_items.specs.Graphs.{graph_named}
-use Rattle.sd_items.specs.GraphsOf.{graphs_of}
+use Rattle.sd_items.specs.GraphsByNumber.{graphs_of}
 use Rattle.sd_program.specs.Bounds.{EachBound}
 use Rattle.sd_program.specs.Every.{EveryIn}
 use Rattle.sd_program.specs.IsAffine.{IsAffine}

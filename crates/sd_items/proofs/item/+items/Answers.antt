@@ -7,16 +7,16 @@ use Rattle.sd_graph.specs.TreeFold.{item_trees, kind_tree}
 use Rattle.sd_program.specs.Bounds.{EachBound}
 use Rattle.sd_program.specs.Every.{Every, EveryIn}
 use Rattle.sd_program.specs.Small.{IsSmall}
-use Rattle.sd_task.specs.SmallExtents.{HaveSmallExtents}
+use Rattle.sd_in_force.specs.SmallExtents.{HaveSmallExtents}
 use Rattle.sd_task.specs.TableOf.{table_of}
 use Rattle.sd_tasklet_item.specs.Item.{tasklet_item}
 use Rattle.sd_items.specs.Appended.{appended}
 use Rattle.sd_items.specs.Graphs.{graph_named}
-use Rattle.sd_items.specs.GraphsOf.{graphs_of}
+use Rattle.sd_items.specs.GraphsByNumber.{graphs_of}
 use Rattle.sd_items.specs.Items.{items_with}
 use Rattle.sd_items.specs.NamesBehind.{table_behind}
 use Rattle.sd_items.specs.Scopes.{consume_kind}
-use Rattle.sd_task.proofs.ListLemmas.{drop_all}
+use Rattle.sd_in_force.proofs.ListLemmas.{drop_all}
 use Rattle.sd_items.proofs.ListLemmas.{on_ok}
 use Rattle.sd_items.proofs.ItemLemmas.{all_items_made, nothing_behind, one_step, tasklet_made, consume_made, containers_counted, variables_counted}
 use Rattle.sd_lex.specs.declared.syntax.statement.Statement.TheOpen as layers

@@ -5,12 +5,12 @@ use Rattle.sd_program.specs.Bounds.{EachBound}
 use Rattle.sd_program.specs.Declared.{containers_in_all}
 use Rattle.sd_program.specs.Every.{EveryIn}
 use Rattle.sd_program.specs.Small.{IsSmall}
-use Rattle.sd_task.specs.SmallExtents.{HaveSmallExtents}
+use Rattle.sd_in_force.specs.SmallExtents.{HaveSmallExtents}
 use Rattle.sd_task.specs.TableOf.{table_of}
 use Rattle.sd_items.specs.Appended.{appended}
 use Rattle.sd_items.specs.Counts.{variables_in_all}
 use Rattle.sd_items.specs.Graphs.{graph_named}
-use Rattle.sd_items.specs.GraphsOf.{graphs_of}
+use Rattle.sd_items.specs.GraphsByNumber.{graphs_of}
 use Rattle.sd_items.specs.Items.{items_of_body}
 use Rattle.sd_items.proofs.Kept.{IsKept}
 use Rattle.sd_items.proofs.item.+items.Given as goal

@@ -1,5 +1,5 @@
 use Rattle.std.proofs.Common.{◌≡◌, ◌+◌, drop}
-use Rattle.sd_task.specs.Subsets.{ranges_among}
+use Rattle.sd_in_force.specs.Subsets.{ranges_among}
 use Rattle.sd_task.proofs.link.ranges_among.Given as goal
 
 abbrev pub invariant-loop-dim : goal.invariant-loop-dim

@@ -4,8 +4,8 @@ use Rattle.std.proofs.lemmas.List.{drop_more}
 use Rattle.sd_graph.specs.PlainTree.{ActTree, ActTrees}
 use Rattle.sd_graph.specs.TreeFold.{act_tree}
 use Rattle.sd_lex.specs.TreeFold.{statement_of, block_of}
-use Rattle.sd_task.specs.Stack.{oldest}
-use Rattle.sd_task.proofs.ListLemmas.{drop_all}
+use Rattle.sd_in_force.specs.Stack.{oldest}
+use Rattle.sd_in_force.proofs.ListLemmas.{drop_all}
 use Rattle.sd_tasklet_item.specs.Code.{act_of, acts_of, followed_by}
 use Rattle.sd_tasklet_item.proofs.CodeLemmas.{acts_before, acts_before_more, acts_before_none, acts_stepped}
 use Rattle.sd_tasklet_item.proofs.LocalLemmas.{behind_keeps, behind_longer}

@@ -1,5 +1,5 @@
 use Rattle.std.proofs.Common.{◌≡◌, drop, map}
-use Rattle.sd_task.specs.Names.{with_numbered}
+use Rattle.sd_in_force.specs.Names.{with_numbered}
 use Rattle.sd_tasklet_item.specs.Item.{connectors_from}
 use Rattle.sd_tasklet_item.proofs.names.numbered.Given as goal
 

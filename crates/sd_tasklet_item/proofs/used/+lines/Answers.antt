@@ -1,7 +1,7 @@
 use Rattle.std.proofs.Common.{arith, ◌≤◌, ◌∙◌, ap, sym, subst, length}
 use Rattle.std.proofs.lemmas.Grind.{common_steps}
 use Rattle.sd_lex.specs.TreeFold.{statement_of}
-use Rattle.sd_task.specs.Stack.{oldest}
+use Rattle.sd_in_force.specs.Stack.{oldest}
 use Rattle.sd_tasklet_item.proofs.LocalLemmas.{behind_keeps, behind_longer}
 use Rattle.sd_tasklet_item.proofs.used.+lines.Goals as goal
 

@@ -1,6 +1,6 @@
 use Rattle.std.proofs.Common.{◌≡◌, ◌≤◌, drop, length}
 use Rattle.sd_lex.specs.TreeFold.{block_of}
-use Rattle.sd_task.specs.Stack.{oldest}
+use Rattle.sd_in_force.specs.Stack.{oldest}
 use Rattle.sd_tasklet_item.specs.Code.{used_acts_all, next_behind_all}
 use Rattle.sd_tasklet_item.proofs.used.+lines.Given as goal
 

@@ -3,7 +3,7 @@ use Rattle.sd_graph.specs.TreeFold.{values_listed}
 use Rattle.sd_lex.specs.TreeFold.{expression_of}
 use Rattle.sd_tasklet_item.specs.Code.{task_value}
 use Rattle.sd_tasklet_item.proofs.CodeLemmas.{values_mapped}
-use Rattle.sd_task.proofs.ListLemmas.{all_mapped}
+use Rattle.sd_in_force.proofs.ListLemmas.{all_mapped}
 use Rattle.sd_tasklet_item.proofs.value.+values.Goals as goal
 
 pub values-returns : goal.values-returns
