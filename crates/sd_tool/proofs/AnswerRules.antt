@@ -1,17 +1,14 @@
 -- The rules of answers over plain variables: what one use of a shelf says, said of a longer one.
-use Rattle.std.proofs.Common.{◌≡◌, ℕ, ◌^◌, ◌≤◌, List, Option, Some, true, refl, subst, sym, arith, IfSome}
+use Rattle.std.proofs.Common.{◌≡◌, ℕ, ◌^◌, ◌≤◌, List, Option, Some, None, Result, Ok, Err, refl, subst, sym, arith, IfSome}
 use Rattle.std.proofs.lemmas.Option.{IfSome_then}
 use Rattle.sd_io.specs.Shelf.{IsTold, IsToldLonger}
-use Rattle.sd_tool.specs.Finding.{Finds}
-use Rattle.sd_tool.specs.Command.{Files, IsRun}
-use Rattle.sd_tool.specs.OneMap.{OneMap, IsForm, without_empty_lines}
-use Rattle.sd_tool.specs.Source.{one_map_of}
-use Rattle.sd_tool.specs.Answers.{ShelfUse, shelf_use, Answer, Reads, Unread, faulty, longer, ReadsSource, Answers, no_source, no_arrays}
-use Rattle.sd_tool.specs.Refusal.{answer_of}
-use Rattle.sd_tool.specs.declared.refusal.Refusal.{Refusal}
-use Rattle.sd_tool.specs.declared.source.Source.{Source}
+use Rattle.sd_graph.specs.PlainTree.{GraphTree}
+use Rattle.sd_tool.specs.Command.{Call, IsRun}
+use Rattle.sd_tool.specs.Work.{Work, source_graph, prepared}
+use Rattle.sd_tool.specs.Answers.{ShelfUse, shelf_use, Answer, source_refused, arrays_refused, Reads, Unread, faulty, longer, ReadsSource, Comes, Answers, no_source, no_program, no_arrays, no_work, runs}
+use Rattle.sd_tool.specs.Ending.{answer_of, Refuses, TellsRun}
+use Rattle.sd_tool.specs.declared.ending.Ending.{Ending}
 use Rattle.sd_tool.proofs.SinkLemmas.{HasRisen-later, HasRisen-earlier}
-use Rattle.sd_tool.proofs.Reading.{wanted, unwanted}
 
 -- one use is a part of another: what is told is the same, and no count falls outside it
 pub record IsPart (part whole : ShelfUse) : Type 0 where
@@ -58,29 +55,52 @@ Unread-part part whole name limit is (longer told rose) =
     longer (subst (λ content. IsToldLonger content limit) (sym (is.told name)) told)
     (HasRisen-earlier _ _ _ (HasRisen-later _ _ _ (is.overruns_before name) rose) (is.overruns_after name))
 
--- the refusal of a source that is not read
-pub refuses_source : (words : List (List ℕ)) (shelf : ShelfUse) (files : Files) (refusal : Refusal) → IsRun words files →
-    IfSome (answer_of refusal) (Unread shelf files.source (2 ^ 20)) → IfSome (answer_of refusal) (Answers words shelf)
-refuses_source words shelf files refusal asked unread = IfSome_then (answer_of refusal) unread (λ answer why. no_source files asked why)
+-- a reading that is refused has an error, of which this is so
+refused_so : {X E : Type 0} (told : E → Answer) (reading : Result X E) (answer : Option Answer) (P : Answer → Type 0) → ((error : E) → reading ≡ Err error → P (told error)) → Refuses told reading answer → IfSome answer P
+refused_so told reading None P each refuses = tt
+refused_so told (Ok read) (Some answer) P each refuses = absurd refuses
+refused_so told (Err error) (Some answer) P each refuses = subst P (sym refuses) (each error refl)
 
--- and that of an arrays file
-pub refuses_arrays : (words : List (List ℕ)) (part whole : ShelfUse) (files : Files) (p : OneMap) (refusal : Refusal) → IsPart part whole → ReadsSource words whole files p →
-    IfSome (answer_of refusal) (Unread part files.arrays (2 ^ 26)) → IfSome (answer_of refusal) (Answers words whole)
-refuses_arrays words part whole files p refusal is source unread =
-    IfSome_then (answer_of refusal) unread (λ answer why. no_arrays files p source (Unread-part part whole files.arrays (2 ^ 26) is why))
+-- a source that is not read
+pub refuses_source : (words : List (List ℕ)) (shelf : ShelfUse) (call : Call) (ending : Ending) → IsRun words call →
+    IfSome (answer_of ending) (Unread shelf call.source (2 ^ 20)) → IfSome (answer_of ending) (Answers words shelf)
+refuses_source words shelf call ending asked unread = IfSome_then (answer_of ending) unread (λ answer why. no_source call asked why)
 
--- a source was read, and what was found is what it says
-pub source_says : (words : List (List ℕ)) (part whole : ShelfUse) (files : Files) (text compact : List ℕ) (found : Option Source) (s : Source) →
-    IsPart part whole → IsRun words files → Reads part files.source (2 ^ 20) text → compact ≡ without_empty_lines true text → found ≡ Some s → Finds one_map_of (IsForm compact) found →
-    ReadsSource words whole files (one_map_of s)
-source_says words part whole files text compact found s is asked reads compacted found_is finds = record {
+-- a source with an error
+pub refuses_program : (words : List (List ℕ)) (shelf : ShelfUse) (call : Call) (text : List ℕ) (ending : Ending) → IsRun words call → Reads shelf call.source (2 ^ 20) text →
+    Refuses source_refused (source_graph text) (answer_of ending) → IfSome (answer_of ending) (Answers words shelf)
+refuses_program words shelf call text ending asked reads refuses =
+    refused_so source_refused (source_graph text) (answer_of ending) (Answers words shelf) (λ refusal is. no_program call text refusal asked reads is) refuses
+
+-- a source was read in a part of the call
+pub reads_source : (words : List (List ℕ)) (part whole : ShelfUse) (call : Call) (text : List ℕ) (tree : GraphTree) → IsPart part whole → IsRun words call → Reads part call.source (2 ^ 20) text →
+    source_graph text ≡ Ok tree → ReadsSource words whole call tree
+reads_source words part whole call text tree is_part asked reads is = record {
   asked = asked;
   source = text;
-  reads = Reads-part part whole files.source (2 ^ 20) text is reads;
-  spells = subst (λ t. IsForm t (one_map_of s)) compacted (wanted one_map_of (IsForm compact) found s found_is finds);
+  reads = Reads-part part whole call.source (2 ^ 20) text is_part reads;
+  is = is;
 }
 
--- a source was read, and nothing was found
-pub source_says_nothing : (text compact : List ℕ) (found : Option Source) → compact ≡ without_empty_lines true text → ((s : Source) → found ≡ Some s → ⊥) → Finds one_map_of (IsForm compact) found →
-    (p : OneMap) → IsForm (without_empty_lines true text) p → ⊥
-source_says_nothing text compact found compacted none finds p form = unwanted one_map_of (IsForm compact) found none finds p (subst (λ t. IsForm t p) (sym compacted) form)
+-- an arrays file that is not read in a part of the call
+pub refuses_arrays : (words : List (List ℕ)) (part whole : ShelfUse) (call : Call) (tree : GraphTree) (ending : Ending) → IsPart part whole → ReadsSource words whole call tree →
+    IfSome (answer_of ending) (Unread part call.arrays (2 ^ 26)) → IfSome (answer_of ending) (Answers words whole)
+refuses_arrays words part whole call tree ending is_part source unread =
+    IfSome_then (answer_of ending) unread (λ answer why. no_arrays call tree source (Unread-part part whole call.arrays (2 ^ 26) is_part why))
+
+-- an arrays file that comes to no work
+pub refuses_work : (words : List (List ℕ)) (part whole : ShelfUse) (call : Call) (tree : GraphTree) (bytes : List ℕ) (ending : Ending) → IsPart part whole → ReadsSource words whole call tree → Reads part call.arrays (2 ^ 26) bytes →
+    Refuses arrays_refused (prepared tree bytes) (answer_of ending) → IfSome (answer_of ending) (Answers words whole)
+refuses_work words part whole call tree bytes ending is_part source reads refuses =
+    refused_so arrays_refused (prepared tree bytes) (answer_of ending) (Answers words whole)
+    (λ refusal is. no_work call tree bytes refusal source (Reads-part part whole call.arrays (2 ^ 26) bytes is_part reads) is) refuses
+
+-- one that does
+pub comes_to : (words : List (List ℕ)) (part whole : ShelfUse) (call : Call) (tree : GraphTree) (bytes : List ℕ) (work : Work) → IsPart part whole → ReadsSource words whole call tree → Reads part call.arrays (2 ^ 26) bytes →
+    prepared tree bytes ≡ Ok work → Comes words whole call work
+comes_to words part whole call tree bytes work is_part source reads is =
+    record { tree = tree; source = source; arrays = bytes; reads = Reads-part part whole call.arrays (2 ^ 26) bytes is_part reads; is = is }
+
+-- what tells the run is the answer
+pub answers_run : (words : List (List ℕ)) (shelf : ShelfUse) (call : Call) (work : Work) (answer : Answer) → Comes words shelf call work → TellsRun work call.turns answer → Answers words shelf answer
+answers_run words shelf call work answer comes tells = subst (Answers words shelf) (sym tells.is) (runs call work tells.outcome comes tells.ends)

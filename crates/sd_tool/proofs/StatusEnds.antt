@@ -1,18 +1,23 @@
 -- Each status of a call, from how it ends.
-use Rattle.std.proofs.Common.{◌≡◌, ◌⊎◌, ℕ, ◌<◌, ◌≤◌, ◌^◌, List, [], length, refl, ap, sym, ◌∙◌, subst, arith, inl, inr, true}
+use Rattle.std.proofs.Common.{◌≡◌, ◌⊎◌, ℕ, ◌<◌, ◌≤◌, ◌^◌, List, [], length, Ok, Err, refl, ap, sym, ◌∙◌, subst, arith, inl, inr}
 use Rattle.sd_io.specs.Count.{HasRisen}
 use Rattle.sd_io.specs.Shelf.{IsToldLonger}
-use Rattle.sd_tool.specs.Command.{Files, IsRun}
-use Rattle.sd_tool.specs.OneMap.{OneMap, Spells, without_empty_lines}
-use Rattle.sd_tool.specs.Given.{Given, Tells}
-use Rattle.sd_tool.specs.Answers.{ShelfUse, Answer, outcome, bad_words, source_refused, arrays_refused, read_fault, too_long, Reads, Unread, faulty, longer, ReadsSource, Answers, no_command, no_source, no_form, no_arrays, no_object, runs, status_of, text_of}
+use Rattle.sd_work.specs.Move.{Fault}
+use Rattle.sd_work.specs.Run.{Left, Sequential}
+use Rattle.sd_work.specs.Step.{Outcome, Done, Faulted, Spent}
+use Rattle.sd_work.proofs.Outcomes.{Run-unique}
+use Rattle.sd_graph.specs.PlainTree.{GraphTree}
+use Rattle.sd_graph.specs.declared.place.Place.{Place}
+use Rattle.sd_parse.specs.declared.error.Refusal.{Refusal}
+use Rattle.sd_tool.specs.declared.ending.ArraysRefusal.{ArraysRefusal}
+use Rattle.sd_tool.specs.Command.{Call, IsRun}
+use Rattle.sd_tool.specs.Work.{Work, source_graph, prepared, run_of_work}
+use Rattle.sd_tool.specs.Answers.{ShelfUse, Answer, done, faulted, turns_spent, bad_words, source_refused, arrays_refused, read_fault, too_long, Reads, Unread, faulty, longer, ReadsSource, Comes, Answers, no_command, no_source, no_program, no_arrays, no_work, runs, answer_of_run, status_of, text_of}
 use Rattle.sd_tool.specs.Ends.{SinkUse, Ends, written, sink_failed, cut_short, no_memory, Writes, WritesPrefix}
 use Rattle.sd_tool.specs.Told.{TellsSource, TellsArrays, Asks}
-use Rattle.sd_tool.specs.Statuses.{NamesNothing, HasNoForm, HasNoArrays, IsFile, EndsAs, Statuses}
-use Rattle.sd_tool.proofs.Reading.{IsRun-unique}
-use Rattle.sd_tool.proofs.FormUnique.{IsForm-unique}
+use Rattle.sd_tool.specs.Statuses.{NamesNothing, HasNoProgram, HasNoWork, IsFile, EndsAs, Statuses}
+use Rattle.sd_tool.proofs.Reading.{IsRun-unique, same_Ok, same_Err, Ok_or_Err}
 use Rattle.sd_tool.proofs.ToldFiles.{not_unread, read_content}
-use Rattle.sd_tool.proofs.GivenUnique.{Tells-unique}
 use Rattle.sd_tool.proofs.StatusRows.{Cause, cause}
 
 -- where only one answer can come, the call ends as it
@@ -45,175 +50,232 @@ told : (words : List (List ℕ)) (shelf : ShelfUse) (sink : SinkUse) (status : �
 told words shelf sink status w = (w.is, w.answers, cause words shelf w.answers, w.whole)
 
 module _ (words : List (List ℕ)) (shelf : ShelfUse) (sink : SinkUse) where
-  zero_at : (answer : Answer) → Told words shelf sink 0 answer → (p : OneMap) × (given : Given) × Answers words shelf (outcome p given) × Writes sink (text_of (outcome p given))
-  zero_at (outcome p given) t = (p, given, t.1, t.3)
+  zero_at : (answer : Answer) → Told words shelf sink 0 answer → (call : Call) × (work : Work) × (left : Left) × Comes words shelf call work × Sequential (run_of_work work) call.turns (Done left) × Writes sink (text_of (done work.tree left.memory))
+  zero_at (done tree memory) t = (t.2.0, t.2.1, t.2.2, t.2.3.0, t.2.3.1, subst (λ a. Writes sink (text_of a)) t.2.4 t.3)
+  zero_at (faulted fault) t = absurd (let e = t.0 in omega arith)
+  zero_at (turns_spent turns) t = absurd (let e = t.0 in omega arith)
   zero_at bad_words t = absurd (let e = t.0 in omega arith)
-  zero_at source_refused t = absurd (let e = t.0 in omega arith)
-  zero_at arrays_refused t = absurd (let e = t.0 in omega arith)
+  zero_at (source_refused refusal) t = absurd (let e = t.0 in omega arith)
+  zero_at (arrays_refused refusal) t = absurd (let e = t.0 in omega arith)
   zero_at (read_fault name) t = absurd (let e = t.0 in omega arith)
   zero_at (too_long name) t = absurd (let e = t.0 in omega arith)
 
+  seven_at : (answer : Answer) → Told words shelf sink 7 answer → (call : Call) × (work : Work) × (fault : Fault Place) × Comes words shelf call work × Sequential (run_of_work work) call.turns (Faulted fault) × Writes sink (text_of (faulted fault))
+  seven_at (done tree memory) t = absurd (let e = t.0 in omega arith)
+  seven_at (faulted fault) t = (t.2.0, t.2.1, fault, t.2.2, t.2.3, t.3)
+  seven_at (turns_spent turns) t = absurd (let e = t.0 in omega arith)
+  seven_at bad_words t = absurd (let e = t.0 in omega arith)
+  seven_at (source_refused refusal) t = absurd (let e = t.0 in omega arith)
+  seven_at (arrays_refused refusal) t = absurd (let e = t.0 in omega arith)
+  seven_at (read_fault name) t = absurd (let e = t.0 in omega arith)
+  seven_at (too_long name) t = absurd (let e = t.0 in omega arith)
+
+  eight_at : (answer : Answer) → Told words shelf sink 8 answer → (call : Call) × (work : Work) × Comes words shelf call work × Sequential (run_of_work work) call.turns Spent × Writes sink (text_of (turns_spent call.turns))
+  eight_at (done tree memory) t = absurd (let e = t.0 in omega arith)
+  eight_at (faulted fault) t = absurd (let e = t.0 in omega arith)
+  eight_at (turns_spent turns) t = (t.2.0, t.2.1, t.2.2.0, t.2.2.1, subst (λ turns. Writes sink (text_of (turns_spent turns))) t.2.3 t.3)
+  eight_at bad_words t = absurd (let e = t.0 in omega arith)
+  eight_at (source_refused refusal) t = absurd (let e = t.0 in omega arith)
+  eight_at (arrays_refused refusal) t = absurd (let e = t.0 in omega arith)
+  eight_at (read_fault name) t = absurd (let e = t.0 in omega arith)
+  eight_at (too_long name) t = absurd (let e = t.0 in omega arith)
+
   two_at : (answer : Answer) → Told words shelf sink 2 answer → NamesNothing words × Writes sink (text_of bad_words)
+  two_at (done tree memory) t = absurd (let e = t.0 in omega arith)
+  two_at (faulted fault) t = absurd (let e = t.0 in omega arith)
+  two_at (turns_spent turns) t = absurd (let e = t.0 in omega arith)
   two_at bad_words t = (t.2, t.3)
-  two_at (outcome p given) t = absurd (let e = t.0 in omega arith)
-  two_at source_refused t = absurd (let e = t.0 in omega arith)
-  two_at arrays_refused t = absurd (let e = t.0 in omega arith)
+  two_at (source_refused refusal) t = absurd (let e = t.0 in omega arith)
+  two_at (arrays_refused refusal) t = absurd (let e = t.0 in omega arith)
   two_at (read_fault name) t = absurd (let e = t.0 in omega arith)
   two_at (too_long name) t = absurd (let e = t.0 in omega arith)
 
-  three_at : (answer : Answer) → Told words shelf sink 3 answer → HasNoForm words shelf × Writes sink (text_of source_refused)
-  three_at (outcome p given) t = absurd (let e = t.0 in omega arith)
+  three_at : (answer : Answer) → Told words shelf sink 3 answer → (refusal : Refusal) × HasNoProgram words shelf refusal × Writes sink (text_of (source_refused refusal))
+  three_at (done tree memory) t = absurd (let e = t.0 in omega arith)
+  three_at (faulted fault) t = absurd (let e = t.0 in omega arith)
+  three_at (turns_spent turns) t = absurd (let e = t.0 in omega arith)
   three_at bad_words t = absurd (let e = t.0 in omega arith)
-  three_at source_refused t = (t.2, t.3)
-  three_at arrays_refused t = absurd (let e = t.0 in omega arith)
+  three_at (source_refused refusal) t = (refusal, t.2, t.3)
+  three_at (arrays_refused refusal) t = absurd (let e = t.0 in omega arith)
   three_at (read_fault name) t = absurd (let e = t.0 in omega arith)
   three_at (too_long name) t = absurd (let e = t.0 in omega arith)
 
-  four_at : (answer : Answer) → Told words shelf sink 4 answer → HasNoArrays words shelf × Writes sink (text_of arrays_refused)
-  four_at (outcome p given) t = absurd (let e = t.0 in omega arith)
+  four_at : (answer : Answer) → Told words shelf sink 4 answer → (refusal : ArraysRefusal) × HasNoWork words shelf refusal × Writes sink (text_of (arrays_refused refusal))
+  four_at (done tree memory) t = absurd (let e = t.0 in omega arith)
+  four_at (faulted fault) t = absurd (let e = t.0 in omega arith)
+  four_at (turns_spent turns) t = absurd (let e = t.0 in omega arith)
   four_at bad_words t = absurd (let e = t.0 in omega arith)
-  four_at source_refused t = absurd (let e = t.0 in omega arith)
-  four_at arrays_refused t = (t.2, t.3)
+  four_at (source_refused refusal) t = absurd (let e = t.0 in omega arith)
+  four_at (arrays_refused refusal) t = (refusal, t.2, t.3)
   four_at (read_fault name) t = absurd (let e = t.0 in omega arith)
   four_at (too_long name) t = absurd (let e = t.0 in omega arith)
 
   nine_at : (answer : Answer) → Told words shelf sink 9 answer → (name : List ℕ) × (limit : ℕ) × IsFile words name limit × HasRisen (shelf.faults_before name) (shelf.faults_after name) × Writes sink (text_of (read_fault name))
-  nine_at (outcome p given) t = absurd (let e = t.0 in omega arith)
+  nine_at (done tree memory) t = absurd (let e = t.0 in omega arith)
+  nine_at (faulted fault) t = absurd (let e = t.0 in omega arith)
+  nine_at (turns_spent turns) t = absurd (let e = t.0 in omega arith)
   nine_at bad_words t = absurd (let e = t.0 in omega arith)
-  nine_at source_refused t = absurd (let e = t.0 in omega arith)
-  nine_at arrays_refused t = absurd (let e = t.0 in omega arith)
+  nine_at (source_refused refusal) t = absurd (let e = t.0 in omega arith)
+  nine_at (arrays_refused refusal) t = absurd (let e = t.0 in omega arith)
   nine_at (read_fault name) t = (name, t.2.0, t.2.1, t.2.2, t.3)
   nine_at (too_long name) t = absurd (let e = t.0 in omega arith)
 
   eleven_at : (answer : Answer) → Told words shelf sink 11 answer → (name : List ℕ) × (limit : ℕ) × IsFile words name limit × IsToldLonger (shelf.told name) limit × HasRisen (shelf.overruns_before name) (shelf.overruns_after name) × Writes sink (text_of (too_long name))
-  eleven_at (outcome p given) t = absurd (let e = t.0 in omega arith)
+  eleven_at (done tree memory) t = absurd (let e = t.0 in omega arith)
+  eleven_at (faulted fault) t = absurd (let e = t.0 in omega arith)
+  eleven_at (turns_spent turns) t = absurd (let e = t.0 in omega arith)
   eleven_at bad_words t = absurd (let e = t.0 in omega arith)
-  eleven_at source_refused t = absurd (let e = t.0 in omega arith)
-  eleven_at arrays_refused t = absurd (let e = t.0 in omega arith)
+  eleven_at (source_refused refusal) t = absurd (let e = t.0 in omega arith)
+  eleven_at (arrays_refused refusal) t = absurd (let e = t.0 in omega arith)
   eleven_at (read_fault name) t = absurd (let e = t.0 in omega arith)
   eleven_at (too_long name) t = (name, t.2.0, t.2.1, t.2.2, t.2.3, t.3)
 
 -- where the source is told and quiet
-module _ (words : List (List ℕ)) (shelf : ShelfUse) (files : Files) (source : List ℕ) (tells : TellsSource words shelf files source) where
-  same_files : (others : Files) → IsRun words others → others ≡ files
-  same_files others asked = IsRun-unique words others files asked tells.asked
+module _ (words : List (List ℕ)) (shelf : ShelfUse) (call : Call) (source : List ℕ) (tells : TellsSource words shelf call source) where
+  same_call : (other : Call) → IsRun words other → other ≡ call
+  same_call other asked = IsRun-unique words other call asked tells.asked
 
   -- what is read of the source is what is told
-  source_is : (others : Files) (bytes : List ℕ) → IsRun words others → Reads shelf others.source (2 ^ 20) bytes → bytes ≡ source
-  source_is others bytes asked reads = read_content shelf files.source source bytes (2 ^ 20) tells.told (subst (λ f. Reads shelf f.source (2 ^ 20) bytes) (same_files others asked) reads)
+  source_is : (other : Call) (bytes : List ℕ) → IsRun words other → Reads shelf other.source (2 ^ 20) bytes → bytes ≡ source
+  source_is other bytes asked reads = read_content shelf call.source source bytes (2 ^ 20) tells.told (subst (λ c. Reads shelf c.source (2 ^ 20) bytes) (same_call other asked) reads)
 
-  is_read : {answer : Answer} (others : Files) → length source ≤ 2 ^ 20 → IsRun words others → Unread shelf others.source (2 ^ 20) answer → ⊥
-  is_read {answer} others within asked why =
-      not_unread shelf files.source source (2 ^ 20) tells.told within tells.quiet (subst (λ f. Unread shelf f.source (2 ^ 20) answer) (same_files others asked) why)
+  is_read : {answer : Answer} (other : Call) → length source ≤ 2 ^ 20 → IsRun words other → Unread shelf other.source (2 ^ 20) answer → ⊥
+  is_read {answer} other within asked why =
+      not_unread shelf call.source source (2 ^ 20) tells.told within tells.quiet (subst (λ c. Unread shelf c.source (2 ^ 20) answer) (same_call other asked) why)
 
-  spells_this : (others : Files) (q : OneMap) → ReadsSource words shelf others q → Spells source q
-  spells_this others q reads = subst (λ s. Spells s q) (source_is others reads.source reads.asked reads.reads) reads.spells
+  -- the graph that is read is that of what is told
+  graph_is : (other : Call) (tree : GraphTree) → ReadsSource words shelf other tree → source_graph source ≡ Ok tree
+  graph_is other tree reads = subst (λ s. source_graph s ≡ Ok tree) (source_is other reads.source reads.asked reads.reads) reads.is
 
-  pub refused_source : length source ≤ 2 ^ 20 → ((p : OneMap) → Spells source p → ⊥) → (answer : Answer) → Answers words shelf answer → answer ≡ source_refused
-  refused_source within none answer (no_command nothing) = absurd (nothing files tells.asked)
-  refused_source within none answer (no_source others asked why) = absurd (is_read others within asked why)
-  refused_source within none answer (no_form others bytes asked reads not_spelled) = refl
-  refused_source within none answer (no_arrays others q reads why) = absurd (none q (spells_this others q reads))
-  refused_source within none answer (no_object others q arrays reads read not_told) = absurd (none q (spells_this others q reads))
-  refused_source within none answer (runs others q arrays given reads read tells_arrays) = absurd (none q (spells_this others q reads))
+  -- and so is an error
+  error_is : (other : Call) (bytes : List ℕ) (refusal : Refusal) → IsRun words other → Reads shelf other.source (2 ^ 20) bytes → source_graph bytes ≡ Err refusal → source_graph source ≡ Err refusal
+  error_is other bytes refusal asked reads is = subst (λ s. source_graph s ≡ Err refusal) (source_is other bytes asked reads) is
 
-  too_long_to_read : (others : Files) (bytes : List ℕ) → 2 ^ 20 < length source → IsRun words others → Reads shelf others.source (2 ^ 20) bytes → ⊥
-  too_long_to_read others bytes long asked reads =
-      let within : length source ≤ 2 ^ 20 = subst (λ b. length b ≤ 2 ^ 20) (source_is others bytes asked reads) reads.within in
+  pub refused_source : (refusal : Refusal) → length source ≤ 2 ^ 20 → source_graph source ≡ Err refusal → (answer : Answer) → Answers words shelf answer → answer ≡ source_refused refusal
+  refused_source refusal within is answer (no_command nothing) = absurd (nothing call tells.asked)
+  refused_source refusal within is answer (no_source other asked why) = absurd (is_read other within asked why)
+  refused_source refusal within is answer (no_program other bytes found asked reads has) =
+      ap source_refused (same_Err (source_graph source) found refusal (error_is other bytes found asked reads has) is)
+  refused_source refusal within is answer (no_arrays other tree reads why) = absurd (Ok_or_Err (source_graph source) tree refusal (graph_is other tree reads) is)
+  refused_source refusal within is answer (no_work other tree arrays found reads read has) = absurd (Ok_or_Err (source_graph source) tree refusal (graph_is other tree reads) is)
+  refused_source refusal within is answer (runs other work outcome comes ends) = absurd (Ok_or_Err (source_graph source) comes.tree refusal (graph_is other comes.tree comes.source) is)
+
+  too_long_to_read : (other : Call) (bytes : List ℕ) → 2 ^ 20 < length source → IsRun words other → Reads shelf other.source (2 ^ 20) bytes → ⊥
+  too_long_to_read other bytes long asked reads =
+      let within : length source ≤ 2 ^ 20 = subst (λ b. length b ≤ 2 ^ 20) (source_is other bytes asked reads) reads.within in
       omega arith
 
-  long_source : {answer : Answer} (others : Files) → IsRun words others → Unread shelf others.source (2 ^ 20) answer → answer ≡ too_long files.source
-  long_source others asked (faulty rose) = absurd (tells.quiet (subst (λ f. HasRisen (shelf.faults_before f.source) (shelf.faults_after f.source)) (same_files others asked) rose))
-  long_source others asked (longer told rose) = ap (λ f. too_long f.source) (same_files others asked)
+  long_source : {answer : Answer} (other : Call) → IsRun words other → Unread shelf other.source (2 ^ 20) answer → answer ≡ too_long call.source
+  long_source other asked (faulty rose) = absurd (tells.quiet (subst (λ c. HasRisen (shelf.faults_before c.source) (shelf.faults_after c.source)) (same_call other asked) rose))
+  long_source other asked (longer told rose) = ap (λ c. too_long c.source) (same_call other asked)
 
-  pub long_at_source : 2 ^ 20 < length source → (answer : Answer) → Answers words shelf answer → answer ≡ too_long files.source
-  long_at_source long answer (no_command nothing) = absurd (nothing files tells.asked)
-  long_at_source long answer (no_source others asked why) = long_source others asked why
-  long_at_source long answer (no_form others bytes asked reads not_spelled) = absurd (too_long_to_read others bytes long asked reads)
-  long_at_source long answer (no_arrays others q reads why) = absurd (too_long_to_read others reads.source long reads.asked reads.reads)
-  long_at_source long answer (no_object others q arrays reads read not_told) = absurd (too_long_to_read others reads.source long reads.asked reads.reads)
-  long_at_source long answer (runs others q arrays given reads read tells_arrays) = absurd (too_long_to_read others reads.source long reads.asked reads.reads)
+  pub long_at_source : 2 ^ 20 < length source → (answer : Answer) → Answers words shelf answer → answer ≡ too_long call.source
+  long_at_source long answer (no_command nothing) = absurd (nothing call tells.asked)
+  long_at_source long answer (no_source other asked why) = long_source other asked why
+  long_at_source long answer (no_program other bytes found asked reads has) = absurd (too_long_to_read other bytes long asked reads)
+  long_at_source long answer (no_arrays other tree reads why) = absurd (too_long_to_read other reads.source long reads.asked reads.reads)
+  long_at_source long answer (no_work other tree arrays found reads read has) = absurd (too_long_to_read other reads.source long reads.asked reads.reads)
+  long_at_source long answer (runs other work outcome comes ends) = absurd (too_long_to_read other comes.source.source long comes.source.asked comes.source.reads)
 
 -- where the arrays file is told and quiet too
-module _ (words : List (List ℕ)) (shelf : ShelfUse) (files : Files) (source : List ℕ) (p : OneMap) (arrays : List ℕ) (tells : TellsArrays words shelf files source p arrays) where
-  same_source : (others : Files) (q : OneMap) → ReadsSource words shelf others q → q ≡ p
-  same_source others q reads = IsForm-unique (without_empty_lines true source) q p (spells_this words shelf files source tells.before others q reads) tells.spells
+module _ (words : List (List ℕ)) (shelf : ShelfUse) (call : Call) (source : List ℕ) (tree : GraphTree) (arrays : List ℕ) (tells : TellsArrays words shelf call source tree arrays) where
+  same_tree : (other : Call) (found : GraphTree) → ReadsSource words shelf other found → found ≡ tree
+  same_tree other found reads = same_Ok (source_graph source) found tree (graph_is words shelf call source tells.before other found reads) tells.has_graph
 
-  arrays_are : (others : Files) (bytes : List ℕ) → IsRun words others → Reads shelf others.arrays (2 ^ 26) bytes → bytes ≡ arrays
-  arrays_are others bytes asked reads =
-      read_content shelf files.arrays arrays bytes (2 ^ 26) tells.told (subst (λ f. Reads shelf f.arrays (2 ^ 26) bytes) (same_files words shelf files source tells.before others asked) reads)
+  arrays_are : (other : Call) (bytes : List ℕ) → IsRun words other → Reads shelf other.arrays (2 ^ 26) bytes → bytes ≡ arrays
+  arrays_are other bytes asked reads =
+      read_content shelf call.arrays arrays bytes (2 ^ 26) tells.told (subst (λ c. Reads shelf c.arrays (2 ^ 26) bytes) (same_call words shelf call source tells.before other asked) reads)
 
-  -- what the arrays file tells, it tells as it was read
-  told_again : (others : Files) (q : OneMap) (bytes : List ℕ) (given : Given) → ReadsSource words shelf others q → Reads shelf others.arrays (2 ^ 26) bytes → Tells arrays p given → Tells bytes q given
-  told_again others q bytes given reads read gives =
-      subst (λ r. Tells bytes r given) (sym (same_source others q reads)) (subst (λ b. Tells b p given) (sym (arrays_are others bytes reads.asked read)) gives)
+  -- what comes of what is read comes of what is told
+  comes_again : (other : Call) (found : GraphTree) (bytes : List ℕ) → ReadsSource words shelf other found → Reads shelf other.arrays (2 ^ 26) bytes → prepared found bytes ≡ prepared tree arrays
+  comes_again other found bytes reads read = λ i. prepared (same_tree other found reads i) (arrays_are other bytes reads.asked read i)
 
-  pub refused_arrays : length arrays ≤ 2 ^ 26 → ((given : Given) → Tells arrays p given → ⊥) → (answer : Answer) → Answers words shelf answer → answer ≡ arrays_refused
-  refused_arrays within none answer (no_command nothing) = absurd (nothing files tells.before.asked)
-  refused_arrays within none answer (no_source others asked why) = absurd (is_read words shelf files source tells.before others tells.within asked why)
-  refused_arrays within none answer (no_form others bytes asked reads not_spelled) =
-      absurd (not_spelled p (subst (λ s. Spells s p) (sym (source_is words shelf files source tells.before others bytes asked reads)) tells.spells))
-  refused_arrays within none answer (no_arrays others q reads why) =
-      absurd (not_unread shelf files.arrays arrays (2 ^ 26) tells.told within tells.quiet (subst (λ f. Unread shelf f.arrays (2 ^ 26) answer) (same_files words shelf files source tells.before others reads.asked) why))
-  refused_arrays within none answer (no_object others q bytes reads read not_told) = refl
-  refused_arrays within none answer (runs others q bytes given reads read told_arrays) =
-      absurd (none given (subst (λ r. Tells arrays r given) (same_source others q reads) (subst (λ b. Tells b q given) (arrays_are others bytes reads.asked read) told_arrays)))
+  not_source : {answer : Answer} (other : Call) → IsRun words other → Unread shelf other.source (2 ^ 20) answer → ⊥
+  not_source other asked why = is_read words shelf call source tells.before other tells.within asked why
 
-  pub runs_only : length arrays ≤ 2 ^ 26 → (given : Given) → Tells arrays p given → (answer : Answer) → Answers words shelf answer → answer ≡ outcome p given
-  runs_only within given gives answer (no_command nothing) = absurd (nothing files tells.before.asked)
-  runs_only within given gives answer (no_source others asked why) = absurd (is_read words shelf files source tells.before others tells.within asked why)
-  runs_only within given gives answer (no_form others bytes asked reads not_spelled) =
-      absurd (not_spelled p (subst (λ s. Spells s p) (sym (source_is words shelf files source tells.before others bytes asked reads)) tells.spells))
-  runs_only within given gives answer (no_arrays others q reads why) =
-      absurd (not_unread shelf files.arrays arrays (2 ^ 26) tells.told within tells.quiet (subst (λ f. Unread shelf f.arrays (2 ^ 26) answer) (same_files words shelf files source tells.before others reads.asked) why))
-  runs_only within given gives answer (no_object others q bytes reads read not_told) = absurd (not_told given (told_again others q bytes given reads read gives))
-  runs_only within given gives answer (runs others q bytes found reads read told_arrays) =
-      ap (λ g. outcome q g) (Tells-unique bytes q found given told_arrays (told_again others q bytes given reads read gives))
-      ∙ ap (λ r. outcome r given) (same_source others q reads)
+  not_program : (other : Call) (bytes : List ℕ) (refusal : Refusal) → IsRun words other → Reads shelf other.source (2 ^ 20) bytes → source_graph bytes ≡ Err refusal → ⊥
+  not_program other bytes refusal asked reads has = Ok_or_Err (source_graph source) tree refusal tells.has_graph (error_is words shelf call source tells.before other bytes refusal asked reads has)
 
-  arrays_too_long : (others : Files) (bytes : List ℕ) → 2 ^ 26 < length arrays → IsRun words others → Reads shelf others.arrays (2 ^ 26) bytes → ⊥
-  arrays_too_long others bytes long asked reads =
-      let within : length arrays ≤ 2 ^ 26 = subst (λ b. length b ≤ 2 ^ 26) (arrays_are others bytes asked reads) reads.within in
+  not_arrays : {answer : Answer} (other : Call) (found : GraphTree) → length arrays ≤ 2 ^ 26 → ReadsSource words shelf other found → Unread shelf other.arrays (2 ^ 26) answer → ⊥
+  not_arrays {answer} other found within reads why =
+      not_unread shelf call.arrays arrays (2 ^ 26) tells.told within tells.quiet (subst (λ c. Unread shelf c.arrays (2 ^ 26) answer) (same_call words shelf call source tells.before other reads.asked) why)
+
+  pub refused_arrays : (refusal : ArraysRefusal) → length arrays ≤ 2 ^ 26 → prepared tree arrays ≡ Err refusal → (answer : Answer) → Answers words shelf answer → answer ≡ arrays_refused refusal
+  refused_arrays refusal within is answer (no_command nothing) = absurd (nothing call tells.before.asked)
+  refused_arrays refusal within is answer (no_source other asked why) = absurd (not_source other asked why)
+  refused_arrays refusal within is answer (no_program other bytes found asked reads has) = absurd (not_program other bytes found asked reads has)
+  refused_arrays refusal within is answer (no_arrays other found reads why) = absurd (not_arrays other found within reads why)
+  refused_arrays refusal within is answer (no_work other found bytes error reads read has) =
+      ap arrays_refused (same_Err (prepared tree arrays) error refusal (sym (comes_again other found bytes reads read) ∙ has) is)
+  refused_arrays refusal within is answer (runs other work outcome comes ends) =
+      absurd (Ok_or_Err (prepared tree arrays) work refusal (sym (comes_again other comes.tree comes.arrays comes.source comes.reads) ∙ comes.is) is)
+
+  -- the run of one call and one work has one outcome
+  same_run : (other : Call) (work found : Work) (outcome ended : Outcome Place Left) → other ≡ call → found ≡ work → Sequential (run_of_work work) call.turns outcome → Sequential (run_of_work found) other.turns ended →
+      answer_of_run found.tree other.turns ended ≡ answer_of_run work.tree call.turns outcome
+  same_run other work found outcome ended same is ends ran =
+      let here : Sequential (run_of_work work) call.turns ended = subst (λ c. Sequential (run_of_work work) c.turns ended) same (subst (λ w. Sequential (run_of_work w) other.turns ended) is ran) in
+      let one : ended ≡ outcome = Run-unique (run_of_work work) call.turns [] ended outcome here ends in
+      λ i. answer_of_run (is i).tree (same i).turns (one i)
+
+  pub runs_only : (work : Work) (outcome : Outcome Place Left) → length arrays ≤ 2 ^ 26 → prepared tree arrays ≡ Ok work → Sequential (run_of_work work) call.turns outcome →
+      (answer : Answer) → Answers words shelf answer → answer ≡ answer_of_run work.tree call.turns outcome
+  runs_only work outcome within is ends answer (no_command nothing) = absurd (nothing call tells.before.asked)
+  runs_only work outcome within is ends answer (no_source other asked why) = absurd (not_source other asked why)
+  runs_only work outcome within is ends answer (no_program other bytes found asked reads has) = absurd (not_program other bytes found asked reads has)
+  runs_only work outcome within is ends answer (no_arrays other found reads why) = absurd (not_arrays other found within reads why)
+  runs_only work outcome within is ends answer (no_work other found bytes error reads read has) =
+      absurd (Ok_or_Err (prepared tree arrays) work error is (sym (comes_again other found bytes reads read) ∙ has))
+  runs_only work outcome within is ends answer (runs other found ended comes ran) =
+      same_run other work found outcome ended (same_call words shelf call source tells.before other comes.source.asked)
+      (same_Ok (prepared tree arrays) found work (sym (comes_again other comes.tree comes.arrays comes.source comes.reads) ∙ comes.is) is) ends ran
+
+  arrays_too_long : (other : Call) (bytes : List ℕ) → 2 ^ 26 < length arrays → IsRun words other → Reads shelf other.arrays (2 ^ 26) bytes → ⊥
+  arrays_too_long other bytes long asked reads =
+      let within : length arrays ≤ 2 ^ 26 = subst (λ b. length b ≤ 2 ^ 26) (arrays_are other bytes asked reads) reads.within in
       omega arith
 
-  long_arrays : {answer : Answer} (others : Files) → IsRun words others → Unread shelf others.arrays (2 ^ 26) answer → answer ≡ too_long files.arrays
-  long_arrays others asked (faulty rose) =
-      absurd (tells.quiet (subst (λ f. HasRisen (shelf.faults_before f.arrays) (shelf.faults_after f.arrays)) (same_files words shelf files source tells.before others asked) rose))
-  long_arrays others asked (longer told rose) = ap (λ f. too_long f.arrays) (same_files words shelf files source tells.before others asked)
+  long_arrays : {answer : Answer} (other : Call) → IsRun words other → Unread shelf other.arrays (2 ^ 26) answer → answer ≡ too_long call.arrays
+  long_arrays other asked (faulty rose) =
+      absurd (tells.quiet (subst (λ c. HasRisen (shelf.faults_before c.arrays) (shelf.faults_after c.arrays)) (same_call words shelf call source tells.before other asked) rose))
+  long_arrays other asked (longer told rose) = ap (λ c. too_long c.arrays) (same_call words shelf call source tells.before other asked)
 
-  pub long_at_arrays : 2 ^ 26 < length arrays → (answer : Answer) → Answers words shelf answer → answer ≡ too_long files.arrays
-  long_at_arrays long answer (no_command nothing) = absurd (nothing files tells.before.asked)
-  long_at_arrays long answer (no_source others asked why) = absurd (is_read words shelf files source tells.before others tells.within asked why)
-  long_at_arrays long answer (no_form others bytes asked reads not_spelled) =
-      absurd (not_spelled p (subst (λ s. Spells s p) (sym (source_is words shelf files source tells.before others bytes asked reads)) tells.spells))
-  long_at_arrays long answer (no_arrays others q reads why) = long_arrays others reads.asked why
-  long_at_arrays long answer (no_object others q bytes reads read not_told) = absurd (arrays_too_long others bytes long reads.asked read)
-  long_at_arrays long answer (runs others q bytes given reads read told_arrays) = absurd (arrays_too_long others bytes long reads.asked read)
+  pub long_at_arrays : 2 ^ 26 < length arrays → (answer : Answer) → Answers words shelf answer → answer ≡ too_long call.arrays
+  long_at_arrays long answer (no_command nothing) = absurd (nothing call tells.before.asked)
+  long_at_arrays long answer (no_source other asked why) = absurd (not_source other asked why)
+  long_at_arrays long answer (no_program other bytes found asked reads has) = absurd (not_program other bytes found asked reads has)
+  long_at_arrays long answer (no_arrays other found reads why) = long_arrays other reads.asked why
+  long_at_arrays long answer (no_work other found bytes error reads read has) = absurd (arrays_too_long other bytes long reads.asked read)
+  long_at_arrays long answer (runs other work outcome comes ends) = absurd (arrays_too_long other comes.arrays long comes.source.asked comes.reads)
 
 -- where the words name nothing
 bad_words_only : (words : List (List ℕ)) (shelf : ShelfUse) → NamesNothing words → (answer : Answer) → Answers words shelf answer → answer ≡ bad_words
 bad_words_only words shelf nothing answer (no_command none) = refl
-bad_words_only words shelf nothing answer (no_source files asked why) = absurd (nothing files asked)
-bad_words_only words shelf nothing answer (no_form files bytes asked reads none) = absurd (nothing files asked)
-bad_words_only words shelf nothing answer (no_arrays files p reads why) = absurd (nothing files reads.asked)
-bad_words_only words shelf nothing answer (no_object files p arrays reads read none) = absurd (nothing files reads.asked)
-bad_words_only words shelf nothing answer (runs files p arrays given reads read told_arrays) = absurd (nothing files reads.asked)
+bad_words_only words shelf nothing answer (no_source call asked why) = absurd (nothing call asked)
+bad_words_only words shelf nothing answer (no_program call bytes refusal asked reads is) = absurd (nothing call asked)
+bad_words_only words shelf nothing answer (no_arrays call tree reads why) = absurd (nothing call reads.asked)
+bad_words_only words shelf nothing answer (no_work call tree arrays refusal reads read is) = absurd (nothing call reads.asked)
+bad_words_only words shelf nothing answer (runs call work outcome comes ends) = absurd (nothing call comes.source.asked)
 
 -- no answer has the status 10
 ten_at : (answer : Answer) → status_of answer ≡ 10 → ⊥
-ten_at (outcome p given) e = omega arith
+ten_at (done tree memory) e = omega arith
+ten_at (faulted fault) e = omega arith
+ten_at (turns_spent turns) e = omega arith
 ten_at bad_words e = omega arith
-ten_at source_refused e = omega arith
-ten_at arrays_refused e = omega arith
+ten_at (source_refused refusal) e = omega arith
+ten_at (arrays_refused refusal) e = omega arith
 ten_at (read_fault name) e = omega arith
 ten_at (too_long name) e = omega arith
 
 -- no answer has the status 1
 one_at : (answer : Answer) → status_of answer ≡ 1 → ⊥
-one_at (outcome p given) e = omega arith
+one_at (done tree memory) e = omega arith
+one_at (faulted fault) e = omega arith
+one_at (turns_spent turns) e = omega arith
 one_at bad_words e = omega arith
-one_at source_refused e = omega arith
-one_at arrays_refused e = omega arith
+one_at (source_refused refusal) e = omega arith
+one_at (arrays_refused refusal) e = omega arith
 one_at (read_fault name) e = omega arith
 one_at (too_long name) e = omega arith
 
@@ -236,24 +298,28 @@ at_status words shelf sink status number rows ten one ends is =
     let w = wrote words shelf sink number ten one (subst (Ends words shelf sink) is ends) in
     rows w.answer (told words shelf sink number w)
 
+-- what a call asks for has one answer: that of its run
+pub one_answer : (words : List (List ℕ)) (shelf : ShelfUse) (call : Call) (work : Work) (outcome : Outcome Place Left) → Asks words shelf call work → Sequential (run_of_work work) call.turns outcome →
+    (answer : Answer) → Answers words shelf answer → answer ≡ answer_of_run work.tree call.turns outcome
+one_answer words shelf call work outcome asks ends = runs_only words shelf call asks.source asks.tree asks.arrays asks.tells work outcome asks.within asks.comes ends
+
 -- all of it
 pub statuses : (words : List (List ℕ)) (shelf : ShelfUse) (sink : SinkUse) (status : ℕ) → Ends words shelf sink status → Statuses words shelf sink status
 statuses words shelf sink status ends = record {
   zero = at_status words shelf sink status 0 (zero_at words shelf sink) (λ e. omega arith) (λ e. omega arith) ends;
+  seven = at_status words shelf sink status 7 (seven_at words shelf sink) (λ e. omega arith) (λ e. omega arith) ends;
+  eight = at_status words shelf sink status 8 (eight_at words shelf sink) (λ e. omega arith) (λ e. omega arith) ends;
+  run_where = λ call work outcome asks ran. ends_as words shelf sink status (answer_of_run work.tree call.turns outcome) (one_answer words shelf call work outcome asks ran) ends;
   two = at_status words shelf sink status 2 (two_at words shelf sink) (λ e. omega arith) (λ e. omega arith) ends;
   two_where = λ nothing. ends_as words shelf sink status bad_words (bad_words_only words shelf nothing) ends;
   three = at_status words shelf sink status 3 (three_at words shelf sink) (λ e. omega arith) (λ e. omega arith) ends;
-  three_where = λ files source tells within none. ends_as words shelf sink status source_refused (refused_source words shelf files source tells within none) ends;
+  three_where = λ call source refusal tells within is. ends_as words shelf sink status (source_refused refusal) (refused_source words shelf call source tells refusal within is) ends;
   four = at_status words shelf sink status 4 (four_at words shelf sink) (λ e. omega arith) (λ e. omega arith) ends;
-  four_where = λ files source p arrays tells within none. ends_as words shelf sink status arrays_refused (refused_arrays words shelf files source p arrays tells within none) ends;
+  four_where = λ call source tree arrays refusal tells within is. ends_as words shelf sink status (arrays_refused refusal) (refused_arrays words shelf call source tree arrays tells refusal within is) ends;
   nine = at_status words shelf sink status 9 (nine_at words shelf sink) (λ e. omega arith) (λ e. omega arith) ends;
   ten = λ is. ten_end words shelf sink status is ends;
   eleven = at_status words shelf sink status 11 (eleven_at words shelf sink) (λ e. omega arith) (λ e. omega arith) ends;
-  eleven_where = λ files source tells long. ends_as words shelf sink status (too_long files.source) (long_at_source words shelf files source tells long) ends;
-  eleven_later = λ files source p arrays tells long. ends_as words shelf sink status (too_long files.arrays) (long_at_arrays words shelf files source p arrays tells long) ends;
+  eleven_where = λ call source tells long. ends_as words shelf sink status (too_long call.source) (long_at_source words shelf call source tells long) ends;
+  eleven_later = λ call source tree arrays tells long. ends_as words shelf sink status (too_long call.arrays) (long_at_arrays words shelf call source tree arrays tells long) ends;
   one = λ is. one_end words shelf sink status is ends;
 }
-
--- what was asked for in its forms has one answer
-pub one_answer : (words : List (List ℕ)) (shelf : ShelfUse) (files : Files) (p : OneMap) (given : Given) → Asks words shelf files p given → (answer : Answer) → Answers words shelf answer → answer ≡ outcome p given
-one_answer words shelf files p given asks = runs_only words shelf files asks.source p asks.arrays asks.tells asks.within given asks.gives

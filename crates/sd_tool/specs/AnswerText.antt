@@ -1,20 +1,28 @@
--- The text of an outcome.
-use Rattle.std.specs.Prelude.{ℕ, ℤ, List, [], ◌∷◌, ◌++◌, codes}
-use Rattle.std.specs.List.{flat_map}
-use Rattle.std.specs.Fmt.{decimal, signed_decimal}
-use Rattle.sd_tool.specs.OneMap.{OneMap}
-use Rattle.sd_tool.specs.Given.{Given}
+-- The texts of answers, each line ended by a newline.
+use Rattle.std.specs.Prelude.{ℕ, List, [], ◌∷◌, ◌++◌, Option, Some, None, codes}
+use Rattle.std.specs.Fmt.{decimal}
+use Rattle.sd_work.specs.Memory.{Memory}
+use Rattle.sd_graph.specs.PlainTree.{GraphTree}
+use Rattle.sd_graph.specs.TreeParts.{containers_of}
+use Rattle.sd_mem.specs.GraphContents.{shapes_of}
+use Rattle.sd_json.specs.AnswerText.{text_of_arrays}
+use Rattle.sd_parse.specs.declared.error.Refusal.{Refusal}
+use Rattle.sd_tool.specs.declared.ending.ArraysRefusal.{ArraysRefusal}
 
--- the extents, joined by commas
-abbrev pub extents_text : List ℕ → List ℕ
-extents_text [] = []
-extents_text (extent ∷ extents) = decimal extent ++ flat_map (λ other. 44 ∷ decimal other) extents
+abbrev pub line : List ℕ → List ℕ
+line text = text ++ 10 ∷ []
 
--- the line of an array: its name, its extents in brackets, and each of its elements after a space
-abbrev pub array_line : List ℕ → List ℕ → List ℤ → List ℕ
-array_line name extents elements =
-    name ++ codes "[" ++ extents_text extents ++ codes "] =" ++ flat_map (λ element. 32 ∷ signed_decimal element) elements ++ 10 ∷ []
+-- a line for each argument of a graph, in the order of the signature, with what its memory holds
+abbrev pub done_text : GraphTree → Memory → List ℕ
+done_text tree memory = text_of_arrays tree (record { shapes = shapes_of (containers_of tree); contents = memory })
 
--- a line for each array, in the order of the signature
-abbrev pub outcome_text : OneMap → Given → List ℕ
-outcome_text p now = array_line p.first (now.size ∷ []) now.first ++ array_line p.second (now.size ∷ []) now.second
+abbrev pub source_text : Refusal → List ℕ
+source_text refusal = line (codes "source error " ++ decimal refusal.number ++ codes " at line " ++ decimal refusal.line)
+
+-- a name, after a space
+abbrev pub named : Option (List ℕ) → List ℕ
+named None = []
+named (Some name) = 32 ∷ name
+
+abbrev pub arrays_text : ArraysRefusal → List ℕ
+arrays_text refusal = line (codes "arrays error " ++ decimal refusal.number ++ named refusal.name)

@@ -1,39 +1,57 @@
 -- What a call answers: which answer comes where, and what is written of it.
-use Rattle.std.specs.Prelude.{ℕ, ◌^◌, ◌≤◌, List, [], ◌∷◌, ◌++◌, length, Option, codes}
+use Rattle.std.specs.Prelude.{◌≡◌, ℕ, ◌^◌, ◌≤◌, List, ◌++◌, length, Option, Ok, Err, codes}
+use Rattle.std.specs.Fmt.{decimal}
 use Rattle.sd_io.specs.Count.{HasRisen}
 use Rattle.sd_io.specs.Shelf.{IsTold, IsToldLonger}
-use Rattle.sd_tool.specs.Command.{Files, IsRun}
-use Rattle.sd_tool.specs.OneMap.{OneMap, Spells}
-use Rattle.sd_tool.specs.Given.{Given, Tells}
-use Rattle.sd_tool.specs.StatementMeaning.{says}
-use Rattle.sd_tool.specs.AnswerText.{outcome_text}
+use Rattle.sd_work.specs.Memory.{Memory}
+use Rattle.sd_work.specs.Move.{Fault}
+use Rattle.sd_work.specs.Run.{Left, Sequential}
+use Rattle.sd_work.specs.Step.{Outcome, Done, Faulted, Spent}
+use Rattle.sd_graph.specs.PlainTree.{GraphTree}
+use Rattle.sd_graph.specs.declared.place.Place.{Place}
+use Rattle.sd_parse.specs.declared.error.Refusal.{Refusal}
+use Rattle.sd_print.specs.FaultText.{fault_text}
+use Rattle.sd_tool.specs.declared.ending.ArraysRefusal.{ArraysRefusal}
+use Rattle.sd_tool.specs.Command.{Call, IsRun}
+use Rattle.sd_tool.specs.Work.{Work, source_graph, prepared, run_of_work}
+use Rattle.sd_tool.specs.AnswerText.{line, done_text, source_text, arrays_text}
 
+-- the arrays after a run that is done, its fault, or that its turns are spent; or why there is no run
 pub data Answer : Type 0 where
-  outcome : OneMap → Given → Answer
+  done : (tree : GraphTree) → (memory : Memory) → Answer
+  faulted : Fault Place → Answer
+  turns_spent : (turns : ℕ) → Answer
   bad_words : Answer
-  source_refused : Answer
-  arrays_refused : Answer
+  source_refused : Refusal → Answer
+  arrays_refused : ArraysRefusal → Answer
   read_fault : (name : List ℕ) → Answer
   too_long : (name : List ℕ) → Answer
 
 abbrev pub status_of : Answer → ℕ
-status_of (outcome p given) = 0
+status_of (done tree memory) = 0
+status_of (faulted fault) = 7
+status_of (turns_spent turns) = 8
 status_of bad_words = 2
-status_of source_refused = 3
-status_of arrays_refused = 4
+status_of (source_refused refusal) = 3
+status_of (arrays_refused refusal) = 4
 status_of (read_fault name) = 9
 status_of (too_long name) = 11
 
-abbrev line : List ℕ → List ℕ
-line text = text ++ 10 ∷ []
-
 abbrev pub text_of : Answer → List ℕ
-text_of (outcome p given) = outcome_text p (says p given)
+text_of (done tree memory) = done_text tree memory
+text_of (faulted fault) = line (fault_text fault.place fault.kind)
+text_of (turns_spent turns) = line (codes "turns spent " ++ decimal turns)
 text_of bad_words = line (codes "bad words")
-text_of source_refused = line (codes "source error 4 at line 1")
-text_of arrays_refused = line (codes "arrays error 14")
+text_of (source_refused refusal) = source_text refusal
+text_of (arrays_refused refusal) = arrays_text refusal
 text_of (read_fault name) = line (codes "read fault " ++ name)
 text_of (too_long name) = line (codes "too long " ++ name)
+
+-- the answer that tells the outcome of a run of a graph that may spend so many turns
+abbrev pub answer_of_run : GraphTree → (turns : ℕ) → Outcome Place Left → Answer
+answer_of_run tree turns (Done left) = done tree left.memory
+answer_of_run tree turns (Faulted fault) = faulted fault
+answer_of_run tree turns Spent = turns_spent turns
 
 -- what a shelf tells, and the counts of each name before and after it was used
 pub record ShelfUse : Type 0 where
@@ -62,18 +80,26 @@ pub data Unread (shelf : ShelfUse) (name : List ℕ) (limit : ℕ) : Answer → 
   faulty : HasRisen (shelf.faults_before name) (shelf.faults_after name) → Unread shelf name limit (read_fault name)
   longer : IsToldLonger (shelf.told name) limit → HasRisen (shelf.overruns_before name) (shelf.overruns_after name) → Unread shelf name limit (too_long name)
 
--- the words name these files, and the source is read and says this
-pub record ReadsSource (words : List (List ℕ)) (shelf : ShelfUse) (files : Files) (p : OneMap) : Type 0 where
-  pub asked : IsRun words files
+-- the words are this call, and the source is read and has this graph
+pub record ReadsSource (words : List (List ℕ)) (shelf : ShelfUse) (call : Call) (tree : GraphTree) : Type 0 where
+  pub asked : IsRun words call
   pub source : List ℕ
-  pub reads : Reads shelf files.source (2 ^ 20) source
-  pub spells : Spells source p
+  pub reads : Reads shelf call.source (2 ^ 20) source
+  pub is : source_graph source ≡ Ok tree
 
--- the places in their order: words, source read, form, arrays read, arrays, outcome; the first that refuses decides
+-- the arrays file is read too, and with it the graph comes to this work
+pub record Comes (words : List (List ℕ)) (shelf : ShelfUse) (call : Call) (work : Work) : Type 0 where
+  pub tree : GraphTree
+  pub source : ReadsSource words shelf call tree
+  pub arrays : List ℕ
+  pub reads : Reads shelf call.arrays (2 ^ 26) arrays
+  pub is : prepared tree arrays ≡ Ok work
+
+-- the places in their order: words, source read, its form, arrays read, their form, sizes and shapes, outcome; the first that refuses decides
 pub data Answers (words : List (List ℕ)) (shelf : ShelfUse) : Answer → Type 0 where
-  no_command : ((files : Files) → IsRun words files → ⊥) → Answers words shelf bad_words
-  no_source : {answer : Answer} (files : Files) → IsRun words files → Unread shelf files.source (2 ^ 20) answer → Answers words shelf answer
-  no_form : (files : Files) (source : List ℕ) → IsRun words files → Reads shelf files.source (2 ^ 20) source → ((p : OneMap) → Spells source p → ⊥) → Answers words shelf source_refused
-  no_arrays : {answer : Answer} (files : Files) (p : OneMap) → ReadsSource words shelf files p → Unread shelf files.arrays (2 ^ 26) answer → Answers words shelf answer
-  no_object : (files : Files) (p : OneMap) (arrays : List ℕ) → ReadsSource words shelf files p → Reads shelf files.arrays (2 ^ 26) arrays → ((given : Given) → Tells arrays p given → ⊥) → Answers words shelf arrays_refused
-  runs : (files : Files) (p : OneMap) (arrays : List ℕ) (given : Given) → ReadsSource words shelf files p → Reads shelf files.arrays (2 ^ 26) arrays → Tells arrays p given → Answers words shelf (outcome p given)
+  no_command : ((call : Call) → IsRun words call → ⊥) → Answers words shelf bad_words
+  no_source : {answer : Answer} (call : Call) → IsRun words call → Unread shelf call.source (2 ^ 20) answer → Answers words shelf answer
+  no_program : (call : Call) (source : List ℕ) (refusal : Refusal) → IsRun words call → Reads shelf call.source (2 ^ 20) source → source_graph source ≡ Err refusal → Answers words shelf (source_refused refusal)
+  no_arrays : {answer : Answer} (call : Call) (tree : GraphTree) → ReadsSource words shelf call tree → Unread shelf call.arrays (2 ^ 26) answer → Answers words shelf answer
+  no_work : (call : Call) (tree : GraphTree) (arrays : List ℕ) (refusal : ArraysRefusal) → ReadsSource words shelf call tree → Reads shelf call.arrays (2 ^ 26) arrays → prepared tree arrays ≡ Err refusal → Answers words shelf (arrays_refused refusal)
+  runs : (call : Call) (work : Work) (outcome : Outcome Place Left) → Comes words shelf call work → Sequential (run_of_work work) call.turns outcome → Answers words shelf (answer_of_run work.tree call.turns outcome)

@@ -1,23 +1,25 @@
-ghost use Rattle.std.specs.Prelude.{◌≡◌, ◌≤◌, ◌⊎◌, ℕ, List, map, IfOk, IfErr, IfSome, OnOk, OnErr, IsErrOf, MatchResult, vec_len, string_bytes};
-ghost use Rattle.std.specs.List.{flat_map};
+ghost use Rattle.std.specs.Prelude.{◌≡◌, ◌≤◌, ℕ, List, map, IfOk, IfErr, IfSome, OnOk, OnErr, IsErrOf, string_bytes};
 ghost use Rattle.sd_io.specs.Count.{HasRisen};
 ghost use Rattle.sd_io.specs.Sink.{Appends, AppendsPrefix};
-ghost use Rattle.sd_tool.specs.Refusal.{answer_of};
-ghost use Rattle.sd_tool.specs.Answers.{ShelfUse, Reads, Unread, Answers, shelf_use, text_of};
-ghost use Rattle.sd_tool.specs.Answers as answer;
+ghost use Rattle.sd_graph.specs.TreeFold.{graph_tree};
+ghost use Rattle.sd_tool.specs.AnswerText.{done_text};
+ghost use Rattle.sd_tool.specs.Answers.{ShelfUse, Reads, Unread, Comes, Answers, done, shelf_use};
+ghost use Rattle.sd_tool.specs.Command.{Call, IsRun, call_of};
+ghost use Rattle.sd_tool.specs.Ending.{answer_of};
 ghost use Rattle.sd_tool.specs.Ends.{Ends, sink_use};
-ghost use Rattle.sd_tool.specs.Told.{Asks};
+ghost use Rattle.sd_tool.specs.Headline.{Prints};
 ghost use Rattle.sd_tool.specs.Statuses.{Statuses};
-ghost use Rattle.sd_tool.specs.Command.{Files};
-ghost use Rattle.sd_tool.specs.OneMap.{OneMap};
-ghost use Rattle.sd_tool.specs.Given.{Given};
-ghost use Rattle.sd_tool.specs.StatementMeaning.{says};
-ghost use Rattle.sd_tool.specs.AnswerText.{outcome_text};
+ghost use Rattle.sd_tool.specs.Told.{Asks};
+ghost use Rattle.sd_tool.specs.Work.{Work};
+ghost use Rattle.sd_tool.specs.Workspace.{work_of};
 ghost use Rattle.sd_tool.specs.Written.{written_status};
 
-use crate::refusal::Refusal;
-use crate::{arrays, command, execution, lines, output, source};
+use crate::command::{self, Run};
+use crate::ending::Ending;
+use crate::output;
+use crate::workspace::{Workspace, prepared, run, source_graph};
 use sd_io::{Gate, Shelf, ShelfError, Sink, SinkError};
+use sd_json::array_line;
 use std::alloc::Global;
 
 /// The most bytes of a source and of an arrays file.
@@ -25,7 +27,7 @@ const SOURCE_LIMIT: usize = 1 << 20;
 
 const ARRAYS_LIMIT: usize = 1 << 26;
 
-/// The status of an outcome, and those of what may go wrong while text is written.
+/// The status of arrays that are printed, and those of what may go wrong while text is written.
 const DONE: u8 = 0;
 
 const NO_MEMORY: u8 = 1;
@@ -38,62 +40,76 @@ fn content<'a, S: Shelf>(
     shelf: &mut S,
     name: &'a str,
     most: usize,
-) -> Result<Vec<u8>, Refusal<'a>>
+) -> Result<Vec<u8>, Ending<'a>>
     ensures read { IfOk result (λ bytes. Reads (shelf_use S.told S.faults S.overruns shelf.old shelf.new) name.now most bytes.items) }
-    ensures unread { IfErr result (λ refusal.
-        IfSome (answer_of refusal) (Unread (shelf_use S.told S.faults S.overruns shelf.old shelf.new) name.now most)) }
+    ensures unread { IfErr result (λ ending.
+        IfSome (answer_of ending) (Unread (shelf_use S.told S.faults S.overruns shelf.old shelf.new) name.now most)) }
     ensures told_stays { (other : List ℕ) → S.told shelf.new other ≡ S.told shelf.old other }
     ensures faults_never_fall { (other : List ℕ) → S.faults shelf.old other ≤ S.faults shelf.new other }
     ensures overruns_never_fall { (other : List ℕ) → S.overruns shelf.old other ≤ S.overruns shelf.new other }
 {
     match shelf.read(alloc, name, most) {
         Ok(bytes) => Ok(bytes),
-        Err(ShelfError::Failed) => Err(Refusal::ReadFault(name)),
-        Err(ShelfError::TooLong) => Err(Refusal::TooLong(name)),
-        Err(ShelfError::Memory) => Err(Refusal::Memory),
+        Err(ShelfError::Failed) => Err(Ending::ReadFault(name)),
+        Err(ShelfError::TooLong) => Err(Ending::TooLong(name)),
+        Err(ShelfError::Memory) => Err(Ending::Memory),
     }
 }
 
-/// The lines of the outcome, or why there is none.
-fn outcome<'a, S: Shelf>(
+/// What the two files of a call come to, or why they come to nothing. The source is refused before the arrays
+/// file is read.
+fn prepare<'a, S: Shelf>(
     alloc: Global,
-    words: &'a [String],
+    call: Run<'a>,
     shelf: &mut S,
-) -> Result<[String; 2], Refusal<'a>>
-    ensures runs { IfOk result (λ lines. (p : OneMap) × (given : Given)
-        × Answers (map string_bytes words.now) (shelf_use S.told S.faults S.overruns shelf.old shelf.new) (answer.outcome p given)
-        × (flat_map string_bytes lines ≡ text_of (answer.outcome p given))) }
-    ensures refuses { IfErr result (λ refusal.
-        IfSome (answer_of refusal) (Answers (map string_bytes words.now) (shelf_use S.told S.faults S.overruns shelf.old shelf.new))) }
+) -> Result<Workspace, Ending<'a>>
+    ensures comes { (words : List (List ℕ)) → IsRun words (call_of call.entry)
+        → IfOk result (λ opened. Comes words (shelf_use S.told S.faults S.overruns shelf.old shelf.new) (call_of call.entry) (work_of opened)) }
+    ensures refuses { (words : List (List ℕ)) → IsRun words (call_of call.entry)
+        → IfErr result (λ ending. IfSome (answer_of ending) (Answers words (shelf_use S.told S.faults S.overruns shelf.old shelf.new))) }
     ensures told_stays { (other : List ℕ) → S.told shelf.new other ≡ S.told shelf.old other }
     ensures faults_never_fall { (other : List ℕ) → S.faults shelf.old other ≤ S.faults shelf.new other }
     ensures overruns_never_fall { (other : List ℕ) → S.overruns shelf.old other ≤ S.overruns shelf.new other }
 {
-    let Some(run) = command::read(words) else {
-        return Err(Refusal::BadWords);
-    };
-    let text = content(alloc, shelf, run.source, SOURCE_LIMIT)?;
-    let text = source::compacted(alloc, text.as_slice())?;
-    let Some(source) = source::read(alloc, text.as_slice())? else {
-        return Err(Refusal::Source);
-    };
-    let bytes = content(alloc, shelf, run.arrays, ARRAYS_LIMIT)?;
-    let Some(mut arrays) = arrays::read(alloc, bytes.as_slice(), &source)? else {
-        return Err(Refusal::Arrays);
-    };
-    execution::run(alloc, &source, &mut arrays)?;
-    Ok(lines::outcome(alloc, &source, &arrays)?)
+    let text = content(alloc, shelf, call.source, SOURCE_LIMIT)?;
+    let graph = source_graph(alloc, text)?;
+    let file = content(alloc, shelf, call.arrays, ARRAYS_LIMIT)?;
+    prepared(alloc, graph, file)
 }
 
-/// Writes the lines, one after another.
-fn write_all<K: Sink>(out: &mut K, lines: &[String]) -> Result<(), SinkError>
-    ensures ok { OnOk result (Appends (K.taken out.old) (K.taken out.new) (flat_map string_bytes lines.now)) }
-    ensures err { OnErr result (AppendsPrefix (K.taken out.old) (K.taken out.new) (flat_map string_bytes lines.now)) }
+/// The graph and the memory after the run that the words ask for, or why there are no arrays to print.
+fn outcome<'a, S: Shelf>(
+    alloc: Global,
+    words: &'a [String],
+    shelf: &mut S,
+) -> Result<Workspace, Ending<'a>>
+    ensures runs { IfOk result (λ after. Answers (map string_bytes words.now) (shelf_use S.told S.faults S.overruns shelf.old shelf.new)
+        (done (graph_tree after.bound.graph) after.memory.contents)) }
+    ensures refuses { IfErr result (λ ending.
+        IfSome (answer_of ending) (Answers (map string_bytes words.now) (shelf_use S.told S.faults S.overruns shelf.old shelf.new))) }
+    ensures told_stays { (other : List ℕ) → S.told shelf.new other ≡ S.told shelf.old other }
+    ensures faults_never_fall { (other : List ℕ) → S.faults shelf.old other ≤ S.faults shelf.new other }
+    ensures overruns_never_fall { (other : List ℕ) → S.overruns shelf.old other ≤ S.overruns shelf.new other }
+{
+    let Some(call) = command::read(words) else {
+        return Err(Ending::BadWords);
+    };
+    let opened = prepare(alloc, call, shelf)?;
+    run(alloc, opened, call.turns)
+}
+
+/// Writes the line of each argument, one after another; only one line is made at a time.
+fn write_arrays<K: Sink>(alloc: Global, out: &mut K, after: &Workspace) -> Result<(), SinkError>
+    ensures ok { OnOk result (Appends (K.taken out.old) (K.taken out.new) (done_text (graph_tree after.now.bound.graph) after.now.memory.contents)) }
+    ensures err { OnErr result (AppendsPrefix (K.taken out.old) (K.taken out.new) (done_text (graph_tree after.now.bound.graph) after.now.memory.contents)) }
     ensures failed { IsErrOf result SinkError.Failed → HasRisen (K.faults out.old) (K.faults out.new) }
     ensures faults_never_fall { K.faults out.old ≤ K.faults out.new }
 {
-    for line in lines {
-        output::write_line(out, line.as_bytes())?;
+    for argument in 0..after.bound.graph.arguments {
+        match array_line(alloc, &after.bound, &after.memory, argument) {
+            Ok(line) => output::write_line(out, line.as_bytes())?,
+            Err(_) => return Err(SinkError::Memory),
+        }
     }
     Ok(())
 }
@@ -109,16 +125,16 @@ fn status_of(written: Result<(), SinkError>, status: u8) -> u8
     }
 }
 
-/// Writes why a call does not run. Nothing is written for want of memory.
-fn refuse<K: Sink>(alloc: Global, out: &mut K, refusal: &Refusal) -> u8
-    ensures ends { (words : List (List ℕ)) (shelf : ShelfUse) → IfSome (answer_of refusal.now) (Answers words shelf)
+/// Writes how a call ends without arrays. Nothing is written for want of memory.
+fn tell<K: Sink>(alloc: Global, out: &mut K, ending: &Ending) -> u8
+    ensures ends { (words : List (List ℕ)) (shelf : ShelfUse) → IfSome (answer_of ending.now) (Answers words shelf)
         → Ends words shelf (sink_use K.taken K.faults out.old out.new) result }
     ensures faults_never_fall { K.faults out.old ≤ K.faults out.new }
 {
-    match refusal {
-        Refusal::Memory => NO_MEMORY,
-        _ => match refusal.line(alloc) {
-            Ok(line) => status_of(output::write_line(out, line.as_bytes()), refusal.status()),
+    match ending {
+        Ending::Memory => NO_MEMORY,
+        _ => match ending.line(alloc) {
+            Ok(line) => status_of(output::write_line(out, line.as_bytes()), ending.status()),
             Err(_) => NO_MEMORY,
         },
     }
@@ -134,16 +150,16 @@ fn perform<S: Shelf, K: Sink>(alloc: Global, words: &[String], shelf: &mut S, ou
     ensures sink_faults_never_fall { K.faults out.old ≤ K.faults out.new }
 {
     match outcome(alloc, words, shelf) {
-        Ok(lines) => status_of(write_all(out, &lines), DONE),
-        Err(refusal) => refuse(alloc, out, &refusal),
+        Ok(after) => status_of(write_arrays(alloc, out, &after), DONE),
+        Err(ending) => tell(alloc, out, &ending),
     }
 }
 
-/// Does what the words ask: runs a source from the shelf on its arrays and writes the
-/// outcome, or why there is none, into the sink. Answers the exit status.
+/// Does what the words ask: runs a source from the shelf on its arrays and writes the outcome, or why there
+/// is none, into the sink. Answers the exit status.
 ///
-/// The words are those after the program's name. Nothing is started or waited for yet, so
-/// the runtime and the gate are not used.
+/// The words are those after the program's name. Nothing is started or waited for yet, so the runtime and
+/// the gate are not used.
 pub fn sdfg<R, S: Shelf, K: Sink, G: Gate>(
     _rt: &R,
     alloc: Global,
@@ -152,13 +168,13 @@ pub fn sdfg<R, S: Shelf, K: Sink, G: Gate>(
     out: &mut K,
     _gate: &G,
 ) -> u8
-    // The words name two files that are told, within their limits and in their forms; no
-    // count of theirs or of the sink rises. Then the text of running the source statement
-    // by statement is appended and the status is 0, or memory is wanting.
-    ensures headline { (files : Files) (p : OneMap) (given : Given)
-        → Asks (map string_bytes words.now) (shelf_use S.told S.faults S.overruns shelf.old shelf.new) files p given
+    // The words name two files that are told, within their limits and in their forms; no count of theirs or
+    // of the sink rises. Then the sequential run of the source's graph, with its sizes and over its arrays,
+    // has an outcome; its text is appended and the status is its own, or memory is wanting.
+    ensures headline { (call : Call) (work : Work)
+        → Asks (map string_bytes words.now) (shelf_use S.told S.faults S.overruns shelf.old shelf.new) call work
         → ¬ HasRisen (K.faults out.old) (K.faults out.new)
-        → ((result ≡ 0) × Appends (K.taken out.old) (K.taken out.new) (outcome_text p (says p given))) ⊎ (result ≡ 1) }
+        → Prints work call.turns (sink_use K.taken K.faults out.old out.new) result }
 
     // Which answer comes where, and what is written of it; want of memory alone is free.
     ensures answers { Ends (map string_bytes words.now) (shelf_use S.told S.faults S.overruns shelf.old shelf.new)
@@ -176,6 +192,3 @@ pub fn sdfg<R, S: Shelf, K: Sink, G: Gate>(
 {
     perform(alloc, words, shelf, out)
 }
-
-#[cfg(test)]
-mod tests;

@@ -1,0 +1,52 @@
+-- How a call ends without arrays to print, apart from where a name lies in memory.
+use Rattle.std.specs.Prelude.{◌≡◌, ⊤, ℕ, Option, Some, None, Result, Ok, Err}
+use Rattle.std.specs.Option.{option_map_or}
+use Rattle.sd_work.specs.Move.{fault_at}
+use Rattle.sd_work.specs.Run.{Left, Sequential}
+use Rattle.sd_work.specs.Step.{Outcome}
+use Rattle.sd_graph.specs.declared.place.Place.{Place}
+use Rattle.sd_tool.specs.Work.{Work, run_of_work, input_refusal, binding_refusal}
+use Rattle.sd_tool.specs.Answers.{Answer, answer_of_run, faulted, turns_spent, bad_words, source_refused, arrays_refused, read_fault, too_long}
+use Rattle.sd_parse.specs.ErrorNumber.{refusal_of}
+use Rattle.sd_parse.specs.declared.error.SourceError.{SourceError}
+use Rattle.sd_valid.specs.declared.error.BindError.{BindError}
+use Rattle.sd_valid.specs.declared.error.BindError.TheVariants as binds
+use Rattle.sd_json.specs.declared.error.InputError.{InputError}
+use Rattle.sd_json.specs.declared.error.InputError.TheVariants as inputs
+use Rattle.sd_tool.specs.declared.ending.Ending.{Ending}
+use Rattle.sd_tool.specs.declared.ending.Ending.TheVariants.{Memory, BadWords, Source, Arrays, Fault, Spent, ReadFault, TooLong}
+
+-- the answer; want of memory is none
+abbrev pub answer_of : Ending → Option Answer
+answer_of Memory = None
+answer_of BadWords = Some bad_words
+answer_of (Source refusal) = Some (source_refused refusal)
+answer_of (Arrays refusal) = Some (arrays_refused refusal)
+answer_of (Fault place kind) = Some (faulted (fault_at place kind))
+answer_of (Spent turns) = Some (turns_spent turns)
+answer_of (ReadFault name) = Some (read_fault name.now)
+answer_of (TooLong name) = Some (too_long name.now)
+
+-- the endings that errors of the lower crates are
+abbrev pub source_ending : SourceError → Ending
+source_ending error = option_map_or Source (refusal_of error) Memory
+
+abbrev pub input_ending : InputError → Ending
+input_ending inputs.Memory = Memory
+input_ending error = Arrays (input_refusal error)
+
+abbrev pub binding_ending : BindError → Ending
+binding_ending binds.Memory = Memory
+binding_ending error = Arrays (binding_refusal error)
+
+-- the answer is that of the error which a reading is; want of memory has none
+abbrev pub Refuses : {X E : Type 0} → (E → Answer) → Result X E → Option Answer → Type 0
+Refuses told reading None = ⊤
+Refuses told (Ok read) (Some answer) = ⊥
+Refuses told (Err error) (Some answer) = answer ≡ told error
+
+-- the sequential run of the work has an outcome, and the answer tells it
+pub record TellsRun (work : Work) (turns : ℕ) (answer : Answer) : Type 0 where
+  pub outcome : Outcome Place Left
+  pub ends : Sequential (run_of_work work) turns outcome
+  pub is : answer ≡ answer_of_run work.tree turns outcome

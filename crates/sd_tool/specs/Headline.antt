@@ -1,0 +1,14 @@
+-- What is printed of work that a call asks for.
+use Rattle.std.specs.Prelude.{◌≡◌, ◌⊎◌, ℕ}
+use Rattle.sd_work.specs.Run.{Left, Sequential}
+use Rattle.sd_work.specs.Step.{Outcome}
+use Rattle.sd_graph.specs.declared.place.Place.{Place}
+use Rattle.sd_tool.specs.Work.{Work, run_of_work}
+use Rattle.sd_tool.specs.Answers.{answer_of_run, status_of, text_of}
+use Rattle.sd_tool.specs.Ends.{SinkUse, Writes}
+
+-- the sequential run of the work has an outcome; its text is written whole and the status is its own, or memory was wanting
+pub record Prints (work : Work) (turns : ℕ) (sink : SinkUse) (status : ℕ) : Type 0 where
+  pub outcome : Outcome Place Left
+  pub ends : Sequential (run_of_work work) turns outcome
+  pub printed : ((status ≡ status_of (answer_of_run work.tree turns outcome)) × Writes sink (text_of (answer_of_run work.tree turns outcome))) ⊎ (status ≡ 1)

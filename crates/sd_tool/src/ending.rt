@@ -1,0 +1,154 @@
+ghost use Rattle.std.specs.Prelude.{◌≡◌, [], IfOk, string_bytes};
+ghost use Rattle.std.specs.Option.{option_map_or};
+ghost use Rattle.sd_parse.specs.ErrorNumber as errors;
+ghost use Rattle.sd_tool.specs.declared.ending.Ending.TheVariants.{Memory};
+ghost use Rattle.sd_tool.specs.Answers.{status_of, text_of};
+ghost use Rattle.sd_tool.specs.Ending.{answer_of, source_ending, input_ending, binding_ending};
+
+use sd_graph::{FaultKind, Place};
+use sd_json::InputError;
+use sd_list::{NoMemory, Text};
+use sd_parse::{Refusal, SourceError};
+use sd_print::fault_text;
+use sd_valid::BindError;
+use std::alloc::Global;
+
+/// The number of an error of the arrays, with the name that is told.
+#[derive(Drop)]
+pub(crate) struct ArraysRefusal {
+    pub(crate) number: u8,
+    pub(crate) name: Option<Text>,
+}
+
+/// How a call ends without arrays to print.
+#[derive(Drop)]
+pub(crate) enum Ending<'a> {
+    /// There is no memory.
+    Memory,
+    /// The words are not those of a command.
+    BadWords,
+    /// The source has an error.
+    Source(Refusal),
+    /// The arrays file is refused, or its sizes or its shapes.
+    Arrays(ArraysRefusal),
+    /// The run has a fault.
+    Fault(Place, FaultKind),
+    /// The run wants more turns than these.
+    Spent(u64),
+    /// A file cannot be read.
+    ReadFault(&'a str),
+    /// A file is longer than its limit.
+    TooLong(&'a str),
+}
+
+impl From<NoMemory> for Ending<'_> {
+    ghost from_gives = { λ _ ending. ending ≡ Memory };
+
+    fn from(_error: NoMemory) -> Self {
+        Ending::Memory
+    }
+}
+
+impl From<SourceError> for Ending<'_> {
+    ghost use Rattle.std.specs.Prelude.{◌≡◌};
+    ghost use Rattle.sd_tool.specs.Ending.{source_ending};
+
+    ghost from_gives = { λ error ending. ending ≡ source_ending error };
+
+    fn from(error: SourceError) -> Self {
+        match error {
+            SourceError::At { number, line } => Ending::Source(Refusal { number, line }),
+            SourceError::Memory => Ending::Memory,
+        }
+    }
+}
+
+impl From<InputError> for Ending<'_> {
+    ghost use Rattle.std.specs.Prelude.{◌≡◌};
+    ghost use Rattle.sd_tool.specs.Ending.{input_ending};
+
+    ghost from_gives = { λ error ending. ending ≡ input_ending error };
+
+    fn from(error: InputError) -> Self {
+        match error {
+            InputError::NotJson => refused(14, None),
+            InputError::NotANumber(name) => refused(15, Some(name)),
+            InputError::Ragged(name) => refused(16, Some(name)),
+            InputError::Missing(name) => refused(17, Some(name)),
+            InputError::Extra(name) => refused(18, Some(name)),
+            InputError::WrongShape(name) => refused(19, Some(name)),
+            InputError::Memory => Ending::Memory,
+        }
+    }
+}
+
+impl From<BindError> for Ending<'_> {
+    ghost use Rattle.std.specs.Prelude.{◌≡◌};
+    ghost use Rattle.sd_tool.specs.Ending.{binding_ending};
+
+    ghost from_gives = { λ error ending. ending ≡ binding_ending error };
+
+    fn from(error: BindError) -> Self {
+        match error {
+            BindError::MissingSize(name) => refused(11, Some(name)),
+            BindError::BadSize(name) => refused(12, Some(name)),
+            BindError::OverLimit(name) => refused(13, Some(name)),
+            BindError::Memory => Ending::Memory,
+        }
+    }
+}
+
+/// Arrays that are refused with this number and this name.
+fn refused<'a>(number: u8, name: Option<Text>) -> Ending<'a>
+    ensures { result ≡ Ending.Arrays (record { number = number; name = name }) }
+{
+    Ending::Arrays(ArraysRefusal { number, name })
+}
+
+impl Ending<'_> {
+    pub(crate) fn status(&self) -> u8
+        ensures { result ≡ option_map_or status_of (answer_of self.now) 1 }
+    {
+        match self {
+            Ending::Memory => 1,
+            Ending::BadWords => 2,
+            Ending::Source(_) => 3,
+            Ending::Arrays(_) => 4,
+            Ending::Fault(..) => 7,
+            Ending::Spent(_) => 8,
+            Ending::ReadFault(_) => 9,
+            Ending::TooLong(_) => 11,
+        }
+    }
+
+    /// The line that is written; it is empty for want of memory.
+    pub(crate) fn line(&self, alloc: Global) -> Result<String, NoMemory>
+        ensures { IfOk result (λ line. string_bytes line ≡ option_map_or text_of (answer_of self.now) []) }
+    {
+        let mut line = String::new(alloc);
+        match self {
+            Ending::Memory => {}
+            Ending::BadWords => writeln!(line, "bad words")?,
+            Ending::Source(Refusal { number, line: at }) => {
+                writeln!(line, "source error {number} at line {at}")?;
+            }
+            Ending::Arrays(ArraysRefusal { number, name: None }) => {
+                writeln!(line, "arrays error {number}")?;
+            }
+            Ending::Arrays(
+                ArraysRefusal {
+                    number,
+                    name: Some(name),
+                },
+            ) => writeln!(line, "arrays error {number} {}", name.as_str())?,
+            Ending::Fault(place, kind) => {
+                line.push_str(fault_text(alloc, place, *kind)?.as_str())?;
+                line.push_str("\n")?;
+            }
+            Ending::Spent(turns) => writeln!(line, "turns spent {turns}")?,
+            Ending::ReadFault(name) => writeln!(line, "read fault {name}")?,
+            Ending::TooLong(name) => writeln!(line, "too long {name}")?,
+        }
+        Ok(line)
+    }
+}

@@ -1,0 +1,71 @@
+ghost use Rattle.std.specs.Prelude.{◌≡◌, ◌≤◌, ◌^◌, Ok, length, IfOk, IfErr, IfSome};
+ghost use Rattle.sd_graph.specs.TreeFold.{graph_tree};
+ghost use Rattle.sd_graph.specs.Upwards.{LeadsUpwards};
+ghost use Rattle.sd_tool.specs.Answers.{source_refused, arrays_refused, done};
+ghost use Rattle.sd_tool.specs.Ending.{answer_of, Refuses, TellsRun};
+ghost use Rattle.sd_tool.specs.Work as definition;
+ghost use Rattle.sd_tool.specs.Workspace.{work_of};
+
+use crate::ending::Ending;
+use sd_elab::elaborate;
+use sd_graph::{Bound, Sdfg};
+use sd_json::read_arrays;
+use sd_mem::Memory;
+use sd_parse::parse;
+use sd_seq::{RunEnd, run_seq};
+use sd_valid::bind;
+use std::alloc::Global;
+
+/// A bound graph and a memory of it.
+#[derive(Drop)]
+pub(crate) struct Workspace {
+    pub(crate) bound: Bound,
+    pub(crate) memory: Memory,
+}
+
+/// The graph of a source of at most 2^20 bytes, or its first error. The text and the program are let go as
+/// soon as they are done with.
+pub(crate) fn source_graph<'a>(alloc: Global, text: Vec<u8>) -> Result<Sdfg, Ending<'a>>
+    requires { length text.items ≤ 2 ^ 20 }
+    ensures graph { IfOk result (λ graph. definition.source_graph text.items ≡ Ok (graph_tree graph)) }
+    ensures refused { IfErr result (λ ending. Refuses source_refused (definition.source_graph text.items) (answer_of ending)) }
+{
+    let program = parse(alloc, text.as_slice())?;
+    drop(text);
+    Ok(elaborate(alloc, &program)?)
+}
+
+/// The graph with the sizes of an arrays file, and the memory with its arrays; or the first that refuses: the
+/// file, its sizes or its shapes. The file and the graph are let go as soon as they are done with.
+pub(crate) fn prepared<'a>(
+    alloc: Global,
+    graph: Sdfg,
+    file: Vec<u8>,
+) -> Result<Workspace, Ending<'a>>
+    ensures work { IfOk result (λ opened. definition.prepared (graph_tree graph) file.items ≡ Ok (work_of opened)) }
+    ensures refused { IfErr result (λ ending. Refuses arrays_refused (definition.prepared (graph_tree graph) file.items) (answer_of ending)) }
+{
+    let given = read_arrays(alloc, file.as_slice(), &graph)?;
+    drop(file);
+    let sizes = given.sizes(alloc)?;
+    let bound = bind(alloc, &graph, &sizes)?;
+    drop(graph);
+    let memory = given.into_memory(alloc, &bound)?;
+    Ok(Workspace { bound, memory })
+}
+
+/// Runs the graph over its memory, with so many turns at most: the memory after it, or its fault, or that
+/// the turns are spent.
+pub(crate) fn run<'a>(alloc: Global, opened: Workspace, turns: u64) -> Result<Workspace, Ending<'a>>
+    requires { LeadsUpwards (graph_tree opened.bound.graph) }
+    ensures done { IfOk result (λ after. TellsRun (work_of opened) turns (done (graph_tree after.bound.graph) after.memory.contents)) }
+    ensures stopped { IfErr result (λ ending. IfSome (answer_of ending) (TellsRun (work_of opened) turns)) }
+{
+    let Workspace { bound, memory } = opened;
+    let end = run_seq(alloc, &bound, memory, turns)?;
+    match end {
+        RunEnd::Done { memory, .. } => Ok(Workspace { bound, memory }),
+        RunEnd::Fault(place, kind) => Err(Ending::Fault(place, kind)),
+        RunEnd::Spent => Err(Ending::Spent(turns)),
+    }
+}
