@@ -1,8 +1,8 @@
 -- What a call runs leads upwards: the graph of a program does, and sizes change neither where its transitions lead nor their marks.
 use Rattle.std.proofs.Common.{◌≡◌, ℕ, ℤ, List, [], ◌∷◌, map, Option, Some, None, Result, Ok, Err, refl, sym, subst}
 use Rattle.sd_lex.specs.PlainTree.{ProgramTree}
-use Rattle.sd_parse.specs.SourceReading.{reads}
-use Rattle.sd_parse.specs.declared.error.Refusal.{Refusal}
+use Rattle.sd_source.specs.SourceReading.{reads}
+use Rattle.sd_blocks.specs.declared.refusal.Refusal.{Refusal}
 use Rattle.sd_graph.specs.PlainTree.{ExitTree, KindTree, task, map_scope, consume_scope, nested_graph, reduction, copy, ItemTrees, no_item, and_item, StateTrees, no_state, and_state, GraphTree, graph}
 use Rattle.sd_graph.specs.TreeParts.{count_states, exits_at}
 use Rattle.sd_graph.specs.Upwards.{ExitsLeadUpwards, KindLeadsUpwards, ItemsLeadUpwards, StatesLeadUpwards, LeadsUpwards}

@@ -8,7 +8,7 @@ use Rattle.sd_work.specs.Step.{Outcome, Done, Faulted, Spent}
 use Rattle.sd_work.proofs.Outcomes.{Run-unique}
 use Rattle.sd_graph.specs.PlainTree.{GraphTree}
 use Rattle.sd_graph.specs.declared.place.Place.{Place}
-use Rattle.sd_parse.specs.declared.error.Refusal.{Refusal}
+use Rattle.sd_blocks.specs.declared.refusal.Refusal.{Refusal}
 use Rattle.sd_tool.specs.declared.ending.ArraysRefusal.{ArraysRefusal}
 use Rattle.sd_tool.specs.Command.{Call, IsRun}
 use Rattle.sd_tool.specs.Work.{Work, source_graph, prepared, run_of_work}

@@ -6,7 +6,7 @@ use Rattle.sd_graph.specs.PlainTree.{GraphTree}
 use Rattle.sd_graph.specs.TreeParts.{containers_of}
 use Rattle.sd_mem.specs.GraphContents.{shapes_of}
 use Rattle.sd_json.specs.AnswerText.{text_of_arrays}
-use Rattle.sd_parse.specs.declared.error.Refusal.{Refusal}
+use Rattle.sd_blocks.specs.declared.refusal.Refusal.{Refusal}
 use Rattle.sd_tool.specs.declared.ending.ArraysRefusal.{ArraysRefusal}
 
 abbrev pub line : List ℕ → List ℕ

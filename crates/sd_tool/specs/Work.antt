@@ -18,8 +18,8 @@ use Rattle.sd_json.specs.declared.array.Array.{Array}
 use Rattle.sd_json.specs.declared.error.InputError.{InputError}
 use Rattle.sd_json.specs.declared.error.InputError.TheVariants.{NotJson, Missing, Extra, NotANumber, Ragged, WrongShape}
 use Rattle.sd_json.specs.declared.error.InputError.TheVariants as inputs
-use Rattle.sd_parse.specs.SourceReading.{reads}
-use Rattle.sd_parse.specs.declared.error.Refusal.{Refusal}
+use Rattle.sd_source.specs.SourceReading.{reads}
+use Rattle.sd_blocks.specs.declared.refusal.Refusal.{Refusal}
 use Rattle.sd_lex.specs.PlainTree.{ProgramTree}
 use Rattle.sd_elab.specs.Elaboration.{graph_of}
 use Rattle.sd_tool.specs.declared.ending.ArraysRefusal.{ArraysRefusal}
