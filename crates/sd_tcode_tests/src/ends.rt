@@ -75,8 +75,16 @@ fn operators_at_the_ends_of_their_range(rt: HostRuntime) -> Result<(), Fail> {
                 } else {
                     format!(in alloc; "2={value} ")?
                 };
-                assert_eq!(rt; evaluated(alloc, &case, &code)?.as_str(), wanted.as_str(), "{left} {name} {right}");
-                assert_eq!(rt; ran(alloc, &case, &code)?.as_str(), wanted.as_str(), "{left} {name} {right}");
+                assert_eq!(rt;
+                    evaluated(alloc, &case, &code)?.as_str(),
+                    wanted.as_str(),
+                    "{left} {name} {right}"
+                );
+                assert_eq!(rt;
+                    ran(alloc, &case, &code)?.as_str(),
+                    wanted.as_str(),
+                    "{left} {name} {right}"
+                );
             }
         }
     }

@@ -34,8 +34,16 @@ fn the_first_fault_is_told(rt: HostRuntime) -> Result<(), Fail> {
         let mut body = Vec::new(alloc);
         body.push(out(alloc, 2, &[at], text)?)?;
         let code = tasklet(alloc, &case, body)?;
-        assert_eq!(rt; evaluated(alloc, &case, &code)?.as_str(), *wanted, "[{at}] = {text}");
-        assert_eq!(rt; ran(alloc, &case, &code)?.as_str(), *wanted, "[{at}] = {text}");
+        assert_eq!(rt;
+            evaluated(alloc, &case, &code)?.as_str(),
+            *wanted,
+            "[{at}] = {text}"
+        );
+        assert_eq!(rt;
+            ran(alloc, &case, &code)?.as_str(),
+            *wanted,
+            "[{at}] = {text}"
+        );
     }
     Ok(())
 }

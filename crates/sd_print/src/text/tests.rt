@@ -40,7 +40,10 @@ fn variables_stand_in_their_order(rt: HostRuntime) -> Result<(), Fail> {
     let mut frames = Vec::new(alloc);
     frames.push(frame(alloc, 7, &[("t", 99), ("i", -1), ("j", 1 << 70)])?)?;
     let text = fault_text(alloc, &place(frames), FaultKind::Subscript)?;
-    assert_eq!(rt; text.as_str(), "fault subscript at line 7: t=99, i=-1, j=1180591620717411303424");
+    assert_eq!(rt;
+        text.as_str(),
+        "fault subscript at line 7: t=99, i=-1, j=1180591620717411303424"
+    );
     Ok(())
 }
 
@@ -51,6 +54,9 @@ fn graphs_stand_from_the_outermost(rt: HostRuntime) -> Result<(), Fail> {
     frames.push(frame(alloc, 12, &[("r", 0)])?)?;
     frames.push(frame(alloc, 9, &[])?)?;
     frames.push(frame(alloc, 5, &[("i", 2), ("j", 3)])?)?;
-    assert_eq!(rt; place_text(alloc, &place(frames))?.as_str(), "line 12: r=0 > line 9 > line 5: i=2, j=3");
+    assert_eq!(rt;
+        place_text(alloc, &place(frames))?.as_str(),
+        "line 12: r=0 > line 9 > line 5: i=2, j=3"
+    );
     Ok(())
 }

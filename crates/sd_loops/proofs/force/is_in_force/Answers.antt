@@ -14,7 +14,7 @@ pub loop-end-preserved-then-not-close_loop : goal.loop-end-preserved-then-not-cl
 loop-end-preserved-then-not-close_loop c =
     let trees = state_trees c.args.states.now in
     let exits = exits_opened c.args.states.now c.loop-end.end c.index-states-end.result c.loop-end-test.true c.index-states-end.is
-        ∙ ap (λ (exits : List Exit). map exit_tree exits) (sym c.as_slice.ensures.value) in
+    ∙ ap (λ (exits : List Exit). map exit_tree exits) (sym c.as_slice.ensures.value) in
     let closes = ap (λ (exits : List ExitTree). list_any (closes_loop c.args.begin c.args.variable) exits) exits ∙ sym c.close_loop.ensures ∙ c.if-not-close_loop.true in
     any_more _ c.loop-end.end (c.loop-end.end + 1) (omega arith) c.loop-end.invariant
     (ap (λ (b : Bool). b && is_on_loop trees c.args.begin c.loop-end.end c.args.state) closes)
@@ -23,7 +23,7 @@ pub returns-then-branch : goal.returns-then-branch
 returns-then-branch c =
     let trees = state_trees c.args.states.now in
     let exits = exits_opened c.args.states.now c.loop-end.end c.index-states-end.result c.loop-end-test.true c.index-states-end.is
-        ∙ ap (λ (exits : List Exit). map exit_tree exits) (sym c.as_slice.ensures.value) in
+    ∙ ap (λ (exits : List Exit). map exit_tree exits) (sym c.as_slice.ensures.value) in
     let closes = ap (λ (exits : List ExitTree). list_any (closes_loop c.args.begin c.args.variable) exits) exits ∙ sym c.close_loop.ensures ∙ c.if-not-close_loop.false in
     let stands = sym c.in_ok-is_on_loop.ensures ∙ c.if-branch.true in
     sym (any_below (λ end. list_any (closes_loop c.args.begin c.args.variable) (exits_at trees end) && is_on_loop trees c.args.begin end c.args.state) (count_states trees) c.loop-end.end
