@@ -3,7 +3,7 @@ use indexmap::IndexMap;
 use sd_graph::{Container, ContainerKind, Exit, Link, Memlet, Place, Sdfg, State};
 use sd_list::{NoMemory, Sequence, Text};
 use sd_machine::Cell;
-use sd_range::{Affine, Dim, Env, Range, Subset};
+use sd_range::{Affine, Dim, Env, Points, Range, Subset};
 use std::alloc::Global;
 use std::test::Fail;
 
@@ -23,11 +23,6 @@ fn range(alloc: Global, first: i128, last: i128, step: i128) -> Result<Range, No
         ends: Sequence::from(ends),
         step,
     })
-}
-
-/// One index.
-fn index(alloc: Global, number: i128) -> Dim {
-    Dim::Index(Affine::constant(alloc, number))
 }
 
 /// A link on a subset of a container.
@@ -119,15 +114,43 @@ fn inner_graph(alloc: Global, extent: i128) -> Result<Sdfg, NoMemory> {
     })
 }
 
-/// Whether it is this element.
-fn is_cell(found: Option<Cell>, level: usize, container: u32, element: u64) -> bool {
-    match found {
-        None => false,
-        Some(cell) => {
+/// Whether it is this element, or none where none is wanted.
+fn is_cell(found: Option<Cell>, level: usize, container: u32, element: Option<u64>) -> bool {
+    match (found, element) {
+        (None, None) => true,
+        (Some(cell), Some(element)) => {
             cell.station.level == level
                 && cell.station.container == container
                 && cell.element == element
         }
+        _ => false,
+    }
+}
+
+/// How many points there are, up to nine; `None` where they can't be told.
+fn count(points: Result<Points, NoMemory>) -> Option<u32> {
+    let mut points = points.ok()?;
+    for count in 0..9 {
+        if !points.next() {
+            return Some(count);
+        }
+    }
+    Some(9)
+}
+
+/// The line of a frame; 0 where there is no such frame.
+fn line_of(place: &Place, frame: usize) -> u32 {
+    match place.frames.as_slice().get(frame) {
+        Some(frame) => frame.line,
+        None => 0,
+    }
+}
+
+/// The element of this number.
+fn at(cells: &[Option<Cell>], number: usize) -> Option<Cell> {
+    match cells.get(number) {
+        Some(cell) => *cell,
+        None => None,
     }
 }
 
@@ -165,17 +188,24 @@ fn points_come_of_ranges_that_can_be_told(rt: HostRuntime) -> Result<(), Fail> {
     let env = Env {
         values: Sequence::from(vec![in alloc; 7]?),
     };
-    for (first, last, step, count) in [(0, 4, 2, 3), (3, 2, 1, 0), (0, 4, 0, -1), (0, 4, -1, -1)] {
+    for (first, last, step, wanted) in [
+        (0, 4, 2, Some(3)),
+        (3, 2, 1, Some(0)),
+        (0, 4, 0, None),
+        (0, 4, -1, None),
+    ] {
         let params = vec![in alloc; (0, range(alloc, first, last, step)?)]?;
-        let mut seen = -1;
-        if let Ok(mut points) = checked_points(alloc, params.as_slice(), &env) {
-            seen = 0;
-            while seen < 9 && points.next() {
-                seen += 1;
-            }
-        }
-        assert_eq!(rt; seen, count, "step {step}");
+        let found = count(checked_points(alloc, params.as_slice(), &env));
+        assert!(rt; found == wanted, "step {step}");
     }
+    let unknown = Range {
+        begin: Affine::variable(alloc, 1)?,
+        ends: Sequence::from(vec![in alloc; Affine::constant(alloc, 4)]?),
+        step: 1,
+    };
+    let params = vec![in alloc; (0, unknown)]?;
+    let found = count(checked_points(alloc, params.as_slice(), &env));
+    assert!(rt; found.is_none());
     Ok(())
 }
 
@@ -211,11 +241,13 @@ fn levels_rise_inside_but_for_private_containers(rt: HostRuntime) -> Result<(), 
         (2, [0, 1, 0]),
         (7, [0, 1, 0]),
     ] {
-        for (i, scope) in [&run, &point, &deeper].into_iter().enumerate() {
-            let found = station(&base, scope, container)?;
-            assert!(rt; found.container == container);
-            assert_eq!(rt; found.level, levels[i], "container {container}");
-        }
+        let found = [
+            station(&base, &run, container)?.level,
+            station(&base, &point, container)?.level,
+            station(&base, &deeper, container)?.level,
+        ];
+        assert!(rt; found == levels, "container {container}");
+        assert_eq!(rt; station(&base, &deeper, container)?.container, container);
     }
     Ok(())
 }
@@ -238,13 +270,10 @@ fn an_index_is_inside_up_to_the_extent(rt: HostRuntime) -> Result<(), Fail> {
         (9, [0].as_slice(), None),
     ] {
         let found = cell_at(alloc, &graph, &base, &scope, container, index)?;
-        match element {
-            None => assert!(rt; found.is_none(), "container {container}"),
-            Some(element) => assert!(rt;
-                is_cell(found, 0, container, element),
-                "element {element}"
-            ),
-        }
+        assert!(rt;
+            is_cell(found, 0, container, element),
+            "container {container}"
+        );
     }
     Ok(())
 }
@@ -263,11 +292,11 @@ fn the_elements_of_a_link_come_in_row_order(rt: HostRuntime) -> Result<(), Fail>
     )?;
     let cells = link_cells(alloc, &graph, &base, &scope, &column)?;
     assert_eq!(rt; cells.len(), 2);
-    for (i, cell) in cells.iter().enumerate() {
-        assert!(rt; is_cell(*cell, 0, 0, 3 * i as u64 + 2));
+    for (number, element) in [(0, 2), (1, 5)] {
+        assert!(rt; is_cell(at(cells.as_slice(), number), 0, 0, Some(element)));
     }
     let last = link_cell(alloc, &graph, &base, &scope, &column, [1].as_slice())?;
-    assert!(rt; is_cell(last, 0, 0, 5));
+    assert!(rt; is_cell(last, 0, 0, Some(5)));
     let extents = connector_extents(alloc, &scope, &column)?;
     assert!(rt; extents.as_slice() == [2].as_slice());
     Ok(())
@@ -280,13 +309,8 @@ fn an_argument_is_reached_through_each_view(rt: HostRuntime) -> Result<(), Fail>
     let base = Base::outermost(alloc);
     let scope = Scope::at_state(alloc, 0, [1, 0].as_slice())?.inside(alloc, [].as_slice())?;
     let row = Dim::Span(range(alloc, 0, 2, 1)?);
-    let links = vec![in alloc;
-        link(
-            alloc,
-            0,
-            vec![in alloc; Dim::Index(sum(alloc, 0, 0)?), row]?
-        )?,
-    ]?;
+    let dims = vec![in alloc; Dim::Index(sum(alloc, 0, 0)?), row]?;
+    let links = vec![in alloc; link(alloc, 0, dims)?]?;
     let middle = inner_graph(alloc, 3)?;
     let within = Base::inside(alloc, &outer, &base, &scope, 9, &middle, links.as_slice())?;
     let there = Scope::at_state(alloc, 0, [].as_slice())?;
@@ -294,17 +318,19 @@ fn an_argument_is_reached_through_each_view(rt: HostRuntime) -> Result<(), Fail>
     let links = vec![in alloc; link(alloc, 0, vec![in alloc; tail]?)?]?;
     let inner = inner_graph(alloc, 2)?;
     let innermost = Base::inside(alloc, &middle, &within, &there, 4, &inner, links.as_slice())?;
-    for (number, element) in [(0, 3), (1, 4), (2, 5)] {
-        let found = cell_at(alloc, &middle, &within, &there, 0, [number].as_slice())?;
-        assert!(rt; is_cell(found, 2, 0, element), "element {element}");
+    for (number, first, second) in [
+        (0, Some(3), Some(4)),
+        (1, Some(4), Some(5)),
+        (2, Some(5), None),
+    ] {
+        let index = [number];
+        let found = cell_at(alloc, &middle, &within, &there, 0, index.as_slice())?;
+        assert!(rt; is_cell(found, 2, 0, first), "number {number}");
+        let found = cell_at(alloc, &inner, &innermost, &there, 0, index.as_slice())?;
+        assert!(rt; is_cell(found, 3, 0, second), "number {number}");
     }
-    for (number, element) in [(0, 4), (1, 5)] {
-        let found = cell_at(alloc, &inner, &innermost, &there, 0, [number].as_slice())?;
-        assert!(rt; is_cell(found, 3, 0, element), "element {element}");
-    }
-    assert!(rt; cell_at(alloc, &inner, &innermost, &there, 0, [2].as_slice())?.is_none());
     let own = cell_at(alloc, &inner, &innermost, &there, 1, [1].as_slice())?;
-    assert!(rt; is_cell(own, 0, 1, 1));
+    assert!(rt; is_cell(own, 0, 1, Some(1)));
     Ok(())
 }
 
@@ -322,7 +348,8 @@ fn a_place_shows_loops_and_then_scopes(rt: HostRuntime) -> Result<(), Fail> {
     let mut element = point.inside(alloc, [2].as_slice())?;
     element.at_element(alloc, &point, 2, -8)?;
     let inner = inner_graph(alloc, 1)?;
-    let within = Base::inside(alloc, &outer, &base, &element, 7, &inner, [].as_slice())?;
+    let links = Vec::new(alloc);
+    let within = Base::inside(alloc, &outer, &base, &element, 7, &inner, links.as_slice())?;
     let there = Scope::at_state(alloc, 0, [].as_slice())?;
     let place = place_of(alloc, &inner, &within, &there, 3)?;
     assert_eq!(rt; place.frames.len(), 2);
@@ -330,7 +357,7 @@ fn a_place_shows_loops_and_then_scopes(rt: HostRuntime) -> Result<(), Fail> {
         assert!(rt; shows(&place, 0, number, name, value), "value {number}");
     }
     assert!(rt; !shows(&place, 0, 3, "", 0));
-    let lines = place.frames.as_slice();
-    assert!(rt; lines.len() == 2 && lines[0].line == 7 && lines[1].line == 3);
+    assert_eq!(rt; line_of(&place, 0), 7);
+    assert_eq!(rt; line_of(&place, 1), 3);
     Ok(())
 }
