@@ -54,7 +54,8 @@ impl Code {
 
     /// How many input connectors the code has.
     pub fn input_count(&self) -> usize
-        ensures { result ≡ self.now.layout.inputs }
+        ensures count { result ≡ self.now.layout.inputs }
+        ensures safe { IsSafe self.now }
     {
         self.layout.inputs as usize
     }

@@ -16,6 +16,6 @@ mod running;
 
 pub use code::Code;
 pub use frame::Frame;
-pub use laws::what_is_given_stays_whole;
+pub use laws::{what_a_frame_has, what_is_given_stays_whole};
 pub use layout::Layout;
 pub use running::{run, run_plain};
