@@ -5,7 +5,7 @@ use Rattle.std.proofs.lemmas.Simd.{map-map}
 use Rattle.sd_range.specs.Subset.{whole}
 use Rattle.sd_num.specs.declared.resolution.Resolution.{Resolution}
 use Rattle.sd_work.specs.Memory.{Reference}
-use Rattle.sd_work.specs.Leaf.{Pending, write_value, transfer, identities}
+use Rattle.sd_work.specs.Leaf.{write_value, transfer, identities}
 use Rattle.sd_graph.specs.Context.{Context, link_elements, link_element, link_extents}
 use Rattle.sd_graph.specs.Unfold.{reduction_pairs, target_place}
 use Rattle.sd_graph.specs.declared.link.Link.{Link}

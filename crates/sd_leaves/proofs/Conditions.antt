@@ -1,7 +1,6 @@
 -- Conditions, and the first exit that may be taken.
 use Rattle.std.proofs.Common.{◌≡◌, ℕ, ◌<◌, ℤ, ◌+◌, List, [], ◌∷◌, map, length, drop, get_or, Option, Some, None, option_map, Result, Ok, Err, Bool, true, false, refl, sym, ap, ◌∙◌, subst}
 use Rattle.std.proofs.lemmas.List.{length-map}
-use Rattle.std.specs.List.{flat_map}
 use Rattle.sd_work.specs.declared.fault.FaultKind.{FaultKind}
 use Rattle.sd_work.specs.declared.fault.FaultKind.TheVariants.{Subscript}
 use Rattle.sd_work.specs.Memory.{Memories}

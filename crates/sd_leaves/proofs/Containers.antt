@@ -1,5 +1,5 @@
 -- Containers of graphs by their numbers.
-use Rattle.std.proofs.Common.{◌≡◌, ℕ, zero, suc, List, [], ◌∷◌, map, get_or, slice_get, Option, Some, None, refl, ap, sym, ◌∙◌, String, string_bytes, Bool, false}
+use Rattle.std.proofs.Common.{◌≡◌, ℕ, zero, suc, List, [], ◌∷◌, map, get_or, slice_get, Some, None, refl, ap, sym, ◌∙◌, String, string_bytes, false}
 use Rattle.std.specs.declared.alloc.Global.{Global}
 use Rattle.std.proofs.lemmas.Option.{same_Some}
 use Rattle.sd_graph.specs.TreeFold.{graph_tree, named_container}

@@ -1,10 +1,9 @@
 -- What one effect does.
-use Rattle.std.proofs.Common.{◌≡◌, ◌≤◌, ◌-◌, ℕ, zero, suc, ℤ, pos, List, [], ◌∷◌, map, take, min, length, Option, Some, None, Bool, true, false, nat_lt, if◌then◌else◌, slice_get, refl, sym, ap, ◌∙◌, subst, arith}
+use Rattle.std.proofs.Common.{◌≡◌, ◌≤◌, ◌-◌, ℕ, zero, suc, ℤ, pos, List, [], ◌∷◌, map, take, min, length, Some, None, Bool, true, false, nat_lt, if◌then◌else◌, slice_get, refl, sym, ap, ◌∙◌, subst, arith}
 use Rattle.std.proofs.Math.Seq.{take-nil}
 use Rattle.std.proofs.lemmas.Bool.Decides.{nat_tests}
-use Rattle.sd_work.specs.Memory.{Memories}
 use Rattle.sd_work.specs.Change.{push, apply}
-use Rattle.sd_work.specs.Leaf.{Pending, write_value, push_to}
+use Rattle.sd_work.specs.Leaf.{write_value, push_to}
 use Rattle.sd_work.specs.BigStep.{Reached}
 use Rattle.sd_graph.specs.ContainerParts.{container_at, is_stream}
 use Rattle.sd_graph.specs.TaskletMeaning.{Inputs, Effect, extents_of_connector}

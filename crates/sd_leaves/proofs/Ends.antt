@@ -1,11 +1,10 @@
 -- What the end of a leaf says of what it comes to.
-use Rattle.std.proofs.Common.{◌≡◌, ℕ, suc, ◌≤◌, List, [], Option, Some, None, Result, Ok, Err, IfOk, true, false, refl, sym, ap, ◌∙◌, subst, arith, length}
+use Rattle.std.proofs.Common.{◌≡◌, ℕ, suc, List, [], Option, Result, Ok, Err, IfOk, true, false, refl, sym, ap, ◌∙◌, subst, arith, length}
 use Rattle.sd_list.specs.declared.memory.NoMemory.{NoMemory}
 use Rattle.std.specs.List.{flat_map}
 use Rattle.sd_work.specs.declared.fault.FaultKind.{FaultKind}
 use Rattle.sd_work.specs.Memory.{Memories}
-use Rattle.sd_work.specs.Leaf.{Pending}
-use Rattle.sd_work.specs.Step.{Outcome, Spent}
+use Rattle.sd_work.specs.Step.{Spent}
 use Rattle.sd_work.specs.BigStep.{Reached, Coming, spending, big_reading}
 use Rattle.sd_graph.specs.PlainTree.{TaskletTree, task}
 use Rattle.sd_graph.specs.Context.{Context, link_elements, place_at}

@@ -1,12 +1,11 @@
 -- What an instance of a tasklet comes to, and a condition.
-use Rattle.std.proofs.Common.{◌≡◌, ℕ, ℤ, List, [], ◌∷◌, map, Option, Some, None, option_map, Result, Ok, Err, true, false, refl, sym, ap, ◌∙◌, arith}
+use Rattle.std.proofs.Common.{◌≡◌, ℕ, ℤ, List, [], ◌∷◌, map, Option, Some, None, option_map, Result, Ok, Err, true, false, refl, ap, ◌∙◌, arith}
 use Rattle.std.specs.List.{flat_map}
 use Rattle.sd_work.specs.declared.fault.FaultKind.{FaultKind}
 use Rattle.sd_work.specs.declared.fault.FaultKind.TheVariants.{Subscript}
 use Rattle.sd_work.specs.Memory.{Memories, Reference, seen}
-use Rattle.sd_work.specs.Exit.{all_seen}
 use Rattle.sd_work.specs.Leaf.{Pending, Evaluation}
-use Rattle.sd_work.specs.BigStep.{Reached, Coming, spending, after_read, big_evaluated, big_reading}
+use Rattle.sd_work.specs.BigStep.{Reached, spending, big_evaluated, big_reading}
 use Rattle.sd_graph.specs.PlainTree.{TaskletTree}
 use Rattle.sd_graph.specs.TaskletMeaning.{Effect, Meaning, and_then, meaning_of}
 use Rattle.sd_graph.specs.Context.{Context, link_elements}

@@ -1,5 +1,5 @@
 -- Lists from a member on.
-use Rattle.std.proofs.Common.{◌≡◌, ℕ, zero, suc, ◌+◌, ◌<◌, List, [], ◌∷◌, length, map, drop, get_or, Result, Ok, Err, IfOk, slice_get, Bool, true, false, is_some, Option, Some, refl, sym, ap, ◌∙◌, add-one, arith}
+use Rattle.std.proofs.Common.{◌≡◌, ℕ, zero, suc, ◌+◌, ◌<◌, List, [], ◌∷◌, length, map, drop, get_or, Result, Ok, Err, IfOk, slice_get, false, is_some, Some, refl, sym, ap, ◌∙◌, add-one, arith}
 use Rattle.std.specs.List.{zip}
 use Rattle.std.proofs.Math.Seq.{drop-cons}
 

@@ -1,10 +1,10 @@
 -- What the work of leaves comes to, whatever its place.
-use Rattle.std.specs.Prelude.{◌≡◌, ◌≤◌, ℕ, ℤ, List, [], ◌++◌, map, length, Option, Some, None, Result, Ok, false}
+use Rattle.std.specs.Prelude.{◌≡◌, ◌≤◌, ℕ, ℤ, List, [], ◌++◌, map, length, Option, Some, None, Ok, false}
 use Rattle.std.specs.List.{flat_map}
 use Rattle.sd_num.specs.declared.resolution.Resolution.{Resolution}
 use Rattle.sd_range.specs.Subset.{whole}
 use Rattle.sd_work.specs.declared.fault.FaultKind.{FaultKind}
-use Rattle.sd_work.specs.Memory.{Memories, Reference}
+use Rattle.sd_work.specs.Memory.{Memories}
 use Rattle.sd_work.specs.Leaf.{Pending, transfer, identities, Evaluation}
 use Rattle.sd_work.specs.Move.{fault_at}
 use Rattle.sd_work.specs.Step.{Outcome, Done, Faulted}

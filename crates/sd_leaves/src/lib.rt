@@ -21,6 +21,3 @@ pub use copy::run_copy;
 pub use exit::{Next, next_exit};
 pub use reduction::run_reduction;
 pub use task::run_task;
-
-#[cfg(test)]
-mod tests;

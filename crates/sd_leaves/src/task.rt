@@ -1,4 +1,4 @@
-ghost use Rattle.std.specs.Prelude.{◌≡◌, IfOk};
+ghost use Rattle.std.specs.Prelude.{IfOk};
 ghost use Rattle.sd_graph.specs.PlainTree.{task};
 ghost use Rattle.sd_graph.specs.TreeFold.{graph_tree, tasklet_tree};
 ghost use Rattle.sd_machine.specs.ComesTo.{IsEnd};

@@ -1,5 +1,5 @@
 -- A table that is raised so often is that of so many transitions.
-use Rattle.std.proofs.Common.{◌≡◌, ℕ, zero, suc, ◌+◌, ◌-◌, ◌≤◌, List, [], ◌∷◌, Bool, true, false, not, ◌&&◌, ◌||◌, nat_eq, slice_index_or, refl, ap, sym, subst, ◌∙◌, arith}
+use Rattle.std.proofs.Common.{◌≡◌, ℕ, zero, suc, ◌+◌, ◌-◌, ◌≤◌, List, [], Bool, true, false, not, ◌&&◌, ◌||◌, nat_eq, slice_index_or, refl, ap, sym, subst, ◌∙◌, arith}
 use Rattle.std.specs.Bool.{beq, Decides}
 use Rattle.std.specs.List.{list_any}
 use Rattle.sd_graph.specs.PlainTree.{StateTrees, no_state, and_state, ExitTree}

@@ -1,4 +1,4 @@
-use Rattle.std.proofs.Common.{◌≡◌, ℤ, [], ◌∷◌, Option, option_map, sym, ◌∙◌, subst, rules, FitsSigned, w64}
+use Rattle.std.proofs.Common.{ℤ, [], ◌∷◌, Option, option_map, sym, ◌∙◌, subst, rules, FitsSigned, w64}
 use Rattle.std.proofs.lemmas.Int.{to_z-of_z}
 use Rattle.sd_work.specs.Leaf.{write_value}
 use Rattle.sd_machine.specs.Stack.{reference_of}

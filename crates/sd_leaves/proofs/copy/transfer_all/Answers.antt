@@ -1,4 +1,4 @@
-use Rattle.std.proofs.Common.{◌≡◌, ◌<◌, ◌≤◌, Option, None, length, get_or, arith}
+use Rattle.std.proofs.Common.{◌<◌, ◌≤◌, Option, None, length, get_or, arith}
 use Rattle.std.specs.List.{zip}
 use Rattle.std.proofs.lemmas.Slice.Zip.{length-zip}
 use Rattle.sd_machine.specs.declared.cell.Cell.{Cell}

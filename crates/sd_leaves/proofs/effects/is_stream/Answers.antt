@@ -1,4 +1,4 @@
-use Rattle.std.proofs.Common.{◌≡◌, true, false, Bool, sym, ap, ◌∙◌, refl, ◌⊎◌, inl, inr}
+use Rattle.std.proofs.Common.{◌≡◌, true, false, sym, ap, ◌∙◌, refl, ◌⊎◌, inl, inr}
 use Rattle.sd_graph.specs.ContainerParts.{is_stream}
 use Rattle.sd_graph.specs.declared.container.ContainerKind.{ContainerKind}
 use Rattle.sd_graph.specs.declared.container.ContainerKind.TheVariants.{Argument, Transient, Private, Stream, PrivateStream}

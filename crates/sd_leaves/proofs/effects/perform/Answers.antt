@@ -1,4 +1,4 @@
-use Rattle.std.proofs.Common.{◌≡◌, ◌-◌, ℤ, pos, ℕ, [], ◌∷◌, map, take, min, length, get_or, slice_get, Option, Some, sym, ap, ◌∙◌, subst, arith, rules, FitsSigned, w64}
+use Rattle.std.proofs.Common.{◌≡◌, ◌-◌, ℤ, ℕ, [], ◌∷◌, take, min, length, slice_get, Option, Some, ap, ◌∙◌, subst, rules, FitsSigned, w64}
 use Rattle.std.proofs.lemmas.Int.{to_z-of_z}
 use Rattle.sd_work.specs.declared.fault.FaultKind.{FaultKind}
 use Rattle.sd_work.specs.Leaf.{Pending}

@@ -1,9 +1,7 @@
-use Rattle.std.proofs.Common.{◌≡◌, List, ℤ, [], map, Option, Some, None, Result, Ok, Err, Bool, sym, ap, ◌∙◌}
-use Rattle.sd_work.specs.declared.fault.FaultKind.{FaultKind}
+use Rattle.std.proofs.Common.{[], map, Ok, Err, sym, ap, ◌∙◌}
 use Rattle.sd_graph.specs.TaskletMeaning.{meaning_of}
 use Rattle.sd_graph.specs.TreeFold.{graph_tree, guard_tree, tasklet_tree}
 use Rattle.sd_graph.specs.Unfold.{does_hold}
-use Rattle.sd_graph.specs.declared.link.Link.{Link}
 use Rattle.sd_tasklet.specs.Given.{given}
 use Rattle.sd_tasklet.specs.Kept.{told, told_effects}
 use Rattle.sd_scope.specs.Standing.{context_of}

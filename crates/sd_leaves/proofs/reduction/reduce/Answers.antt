@@ -1,4 +1,4 @@
-use Rattle.std.proofs.Common.{Option, Some, None, map, subst}
+use Rattle.std.proofs.Common.{Option, map, subst}
 use Rattle.sd_range.specs.Subset.{whole}
 use Rattle.sd_work.specs.declared.fault.FaultKind.{FaultKind}
 use Rattle.sd_work.specs.Leaf.{identities}

@@ -1,8 +1,8 @@
-use Rattle.std.proofs.Common.{◌≡◌, List, ℤ, [], ◌∷◌, Some, map, sym, ap, ◌∙◌, subst}
+use Rattle.std.proofs.Common.{List, ℤ, [], ◌∷◌, map, sym, ap, ◌∙◌, subst}
 use Rattle.sd_range.specs.Subset.{whole}
 use Rattle.sd_work.specs.Leaf.{Pending}
 use Rattle.sd_graph.specs.TreeFold.{graph_tree}
-use Rattle.sd_graph.specs.Context.{link_element, link_extents}
+use Rattle.sd_graph.specs.Context.{link_extents}
 use Rattle.sd_scope.specs.Standing.{context_of}
 use Rattle.sd_leaves.specs.Done.{IsDone, performing, resolving}
 use Rattle.sd_leaves.proofs.CellLists.{resolved_at}

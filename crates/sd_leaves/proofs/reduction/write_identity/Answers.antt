@@ -1,4 +1,4 @@
-use Rattle.std.proofs.Common.{◌≡◌, ℤ, List, Option, Some, None, map, option_map, sym, ap, ◌∙◌, subst, rules, FitsSigned, w64}
+use Rattle.std.proofs.Common.{ℤ, List, Option, None, map, option_map, sym, ap, ◌∙◌, subst, rules, FitsSigned, w64}
 use Rattle.std.proofs.lemmas.Int.{to_z-of_z}
 use Rattle.sd_work.specs.Leaf.{Pending, identities}
 use Rattle.sd_graph.specs.TreeFold.{graph_tree}

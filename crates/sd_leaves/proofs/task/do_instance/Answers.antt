@@ -1,6 +1,5 @@
-use Rattle.std.proofs.Common.{◌≡◌, List, Option, map, Ok, Err, sym, ap, ◌∙◌, subst}
+use Rattle.std.proofs.Common.{List, map, sym, ap, ◌∙◌, subst}
 use Rattle.std.proofs.lemmas.Simd.{map-map}
-use Rattle.sd_work.specs.declared.fault.FaultKind.{FaultKind}
 use Rattle.sd_work.specs.Leaf.{Pending}
 use Rattle.sd_graph.specs.TaskletMeaning.{meaning_of}
 use Rattle.sd_graph.specs.TreeFold.{graph_tree, tasklet_tree}

@@ -1,9 +1,9 @@
-use super::*;
 use indexmap::IndexMap;
 use sd_graph::{
     Act, Container, ContainerKind, Exit, FaultKind, Guard, Link, Memlet, Sdfg, Tasklet, TwoSign,
     Value,
 };
+use sd_leaves::{Next, next_exit, run_copy, run_reduction, run_task};
 use sd_list::{NoMemory, Sequence, Text};
 use sd_machine::{Cell, End, Machine, Station};
 use sd_mem::Memory;
