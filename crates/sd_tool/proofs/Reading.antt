@@ -1,5 +1,5 @@
 -- What the words and the files say, they say of one thing.
-use Rattle.std.proofs.Common.{◌≡◌, ℕ, List, [], ◌∷◌, Option, Some, None, Result, Ok, Err, refl, sym, ap, ◌∙◌, subst, codes}
+use Rattle.std.proofs.Common.{◌≡◌, ℕ, List, [], ◌∷◌, Option, Some, None, Result, Ok, Err, refl, sym, ◌∙◌, subst, codes}
 use Rattle.sd_io.specs.Shelf.{IsTold}
 use Rattle.sd_tool.specs.Finding.{Finds}
 use Rattle.sd_tool.specs.Command.{Call, IsRun, GiveTurns}

@@ -2,11 +2,8 @@
 use Rattle.std.proofs.Common.{◌≡◌, ℕ, ◌^◌, List, refl, inl, inr}
 use Rattle.sd_io.specs.Count.{HasRisen}
 use Rattle.sd_io.specs.Shelf.{IsToldLonger}
-use Rattle.sd_work.specs.Memory.{Memory}
-use Rattle.sd_work.specs.Move.{Fault}
 use Rattle.sd_work.specs.Run.{Left, Sequential}
 use Rattle.sd_work.specs.Step.{Outcome, Done, Faulted, Spent}
-use Rattle.sd_graph.specs.PlainTree.{GraphTree}
 use Rattle.sd_graph.specs.declared.place.Place.{Place}
 use Rattle.sd_tool.specs.Command.{Call}
 use Rattle.sd_tool.specs.Work.{Work, run_of_work}

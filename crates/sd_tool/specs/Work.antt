@@ -1,5 +1,5 @@
 -- What a source and an arrays file come to: a graph that is bound, and the memory that its run begins with.
-use Rattle.std.specs.Prelude.{ℕ, List, Option, Some, None, Result, Ok, Err}
+use Rattle.std.specs.Prelude.{ℕ, List, Some, None, Result, Ok, Err}
 use Rattle.sd_work.specs.Memory.{Memory}
 use Rattle.sd_work.specs.Residual.{Term}
 use Rattle.sd_graph.specs.PlainTree.{GraphTree}

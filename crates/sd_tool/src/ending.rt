@@ -1,6 +1,5 @@
 ghost use Rattle.std.specs.Prelude.{◌≡◌, [], IfOk, string_bytes};
 ghost use Rattle.std.specs.Option.{option_map_or};
-ghost use Rattle.sd_parse.specs.ErrorNumber as errors;
 ghost use Rattle.sd_tool.specs.declared.ending.Ending.TheVariants.{Memory};
 ghost use Rattle.sd_tool.specs.Answers.{status_of, text_of};
 ghost use Rattle.sd_tool.specs.Ending.{answer_of, source_ending, input_ending, binding_ending};
@@ -50,9 +49,6 @@ impl From<NoMemory> for Ending<'_> {
 }
 
 impl From<SourceError> for Ending<'_> {
-    ghost use Rattle.std.specs.Prelude.{◌≡◌};
-    ghost use Rattle.sd_tool.specs.Ending.{source_ending};
-
     ghost from_gives = { λ error ending. ending ≡ source_ending error };
 
     fn from(error: SourceError) -> Self {
@@ -64,9 +60,6 @@ impl From<SourceError> for Ending<'_> {
 }
 
 impl From<InputError> for Ending<'_> {
-    ghost use Rattle.std.specs.Prelude.{◌≡◌};
-    ghost use Rattle.sd_tool.specs.Ending.{input_ending};
-
     ghost from_gives = { λ error ending. ending ≡ input_ending error };
 
     fn from(error: InputError) -> Self {
@@ -83,9 +76,6 @@ impl From<InputError> for Ending<'_> {
 }
 
 impl From<BindError> for Ending<'_> {
-    ghost use Rattle.std.specs.Prelude.{◌≡◌};
-    ghost use Rattle.sd_tool.specs.Ending.{binding_ending};
-
     ghost from_gives = { λ error ending. ending ≡ binding_ending error };
 
     fn from(error: BindError) -> Self {

@@ -1,7 +1,7 @@
 use Rattle.std.proofs.Common.{map, string_bytes}
 use Rattle.std.proofs.lemmas.Option.{IfSome_then}
-use Rattle.std.proofs.lemmas.Result.{err_from_is_err_and, IfOk-weaker, IfErr-weaker, IfOk-at_ok, IfErr-at_err}
-use Rattle.sd_tool.specs.Answers.{Comes, no_command, shelf_use}
+use Rattle.std.proofs.lemmas.Result.{err_from_is_err_and, IfOk-weaker, IfErr-weaker}
+use Rattle.sd_tool.specs.Answers.{no_command}
 use Rattle.sd_tool.specs.Command.{IsRun, call_of}
 use Rattle.sd_tool.specs.Workspace.{work_of}
 use Rattle.sd_tool.proofs.AnswerRules.{answers_run}

@@ -1,4 +1,4 @@
-use Rattle.std.proofs.Common.{◌≡◌, ◌∷◌, [], map, string_bytes, codes, drop, ap, sym, ◌∙◌, subst}
+use Rattle.std.proofs.Common.{◌≡◌, ◌∷◌, map, string_bytes, codes, drop, ap, sym, ◌∙◌, subst}
 use Rattle.sd_tool.specs.Command.{is_file_word, GiveTurns}
 use Rattle.sd_tool.proofs.Items.{three_and, others_are, equal_texts}
 use Rattle.sd_tool.proofs.command.read.Goals as goal
