@@ -3,7 +3,7 @@ use sd_compile::{compile, is_named};
 use sd_graph::{Act, FaultKind, Port, Tasklet};
 use sd_list::{NoMemory, Sequence, Text};
 use sd_tasklet::{Effect, Inputs, TaskFault, eval};
-use sd_tcode::{Code, Frame, run, run_plain};
+use sd_tcode::{Frame, run, run_plain};
 use std::alloc::Global;
 use std::test::Fail;
 
@@ -143,39 +143,21 @@ fn fault(alloc: Global, kind: FaultKind) -> Result<String, Fail> {
     }
 }
 
-/// The flat code of a tasklet that names only what it has.
-fn flat_code(alloc: Global, code: &Tasklet) -> Result<Option<Code>, NoMemory> {
+/// The same by flat code, run twice in one frame.
+pub(crate) fn ran(alloc: Global, case: &Case<'_>, code: &Tasklet) -> Result<String, Fail> {
     if !is_named(code) {
-        return Ok(None);
+        return Ok("not named".to_string(alloc)?);
     }
-    Ok(Some(compile(alloc, code)?))
-}
-
-/// A frame of the code that holds what the case has.
-fn filled_frame(alloc: Global, case: &Case<'_>, flat: &Code) -> Result<Option<Frame>, NoMemory> {
+    let flat = compile(alloc, code)?;
     let mut widest = Vec::new(alloc);
     for (_, elements) in case.ins {
         widest.push(elements.len() as u64)?;
     }
     if widest.len() != flat.input_count() {
-        return Ok(None);
+        return Ok("other inputs".to_string(alloc)?);
     }
-    let mut frame = Frame::reserve(alloc, flat, &widest)?;
-    if !fill(&mut frame, case) {
-        return Ok(None);
-    }
-    Ok(Some(frame))
-}
-
-/// The same by flat code, run twice in one frame.
-pub(crate) fn ran(alloc: Global, case: &Case<'_>, code: &Tasklet) -> Result<String, Fail> {
-    let Some(flat) = flat_code(alloc, code)? else {
-        return Ok("not named".to_string(alloc)?);
-    };
-    let Some(mut frame) = filled_frame(alloc, case, &flat)? else {
-        return Ok("not filled".to_string(alloc)?);
-    };
-    if !frame.is_ready(&flat) {
+    let mut frame = Frame::reserve(alloc, &flat, &widest)?;
+    if !fill(&mut frame, case) || !frame.is_ready(&flat) {
         return Ok("not ready".to_string(alloc)?);
     }
     let first = run(&flat, &mut frame).is_ok();
@@ -188,18 +170,24 @@ pub(crate) fn ran(alloc: Global, case: &Case<'_>, code: &Tasklet) -> Result<Stri
 
 /// The outputs that plain code leaves in its registers, in the order in which it sets them.
 pub(crate) fn ran_plain(alloc: Global, case: &Case<'_>, code: &Tasklet) -> Result<String, Fail> {
-    let Some(flat) = flat_code(alloc, code)? else {
+    if !is_named(code) {
         return Ok("not named".to_string(alloc)?);
-    };
-    let Some(mut frame) = filled_frame(alloc, case, &flat)? else {
-        return Ok("not filled".to_string(alloc)?);
-    };
+    }
+    let flat = compile(alloc, code)?;
+    let mut widest = Vec::new(alloc);
+    for (_, elements) in case.ins {
+        widest.push(elements.len() as u64)?;
+    }
+    if widest.len() != flat.input_count() {
+        return Ok("other inputs".to_string(alloc)?);
+    }
+    let mut frame = Frame::reserve(alloc, &flat, &widest)?;
+    if !fill(&mut frame, case) || !frame.is_ready(&flat) {
+        return Ok("not ready".to_string(alloc)?);
+    }
     let Some(order) = flat.plain() else {
         return Ok("not plain".to_string(alloc)?);
     };
-    if !frame.is_ready(&flat) {
-        return Ok("not ready".to_string(alloc)?);
-    }
     if let Err(kind) = run_plain(&flat, &mut frame) {
         return fault(alloc, kind);
     }
