@@ -3,11 +3,6 @@
 //! `tools/time_arrays.py` runs it.
 #![tactic(auto)]
 
-ghost use Rattle.std.specs.Prelude.{◌≡◌, [], ◌∷◌, codes, IfOk};
-ghost use Rattle.sd_graph.specs.PlainTree.{graph, no_state};
-ghost use Rattle.sd_graph.specs.TreeFold.{graph_tree};
-ghost use Rattle.sd_json_bench.specs.OneArray.{one_array};
-
 use indexmap::IndexMap;
 use sd_graph::{Bound, Container, ContainerKind, Sdfg};
 use sd_json::{InputError, array_line, read_arrays};
@@ -18,9 +13,7 @@ use std::io::Write;
 use std::{env, fs, io};
 
 /// An array with so many elements.
-fn array_of(alloc: Global, count: u64) -> Result<Container, NoMemory>
-    ensures { IfOk result (λ array. array ≡ one_array count) }
-{
+fn array_of(alloc: Global, count: u64) -> Result<Container, NoMemory> {
     let extent = Affine {
         constant: i128::from(count),
         terms: Terms::new(alloc),
@@ -32,9 +25,7 @@ fn array_of(alloc: Global, count: u64) -> Result<Container, NoMemory>
 }
 
 /// A graph with one argument, an array with so many elements.
-fn graph_of(alloc: Global, count: u64) -> Result<Bound, NoMemory>
-    ensures { IfOk result (λ bound. graph_tree bound.graph ≡ graph [] ((codes "A", one_array count) ∷ []) 1 [] 0 no_state) }
-{
+fn graph_of(alloc: Global, count: u64) -> Result<Bound, NoMemory> {
     let mut containers = IndexMap::new(alloc);
     containers.insert("A".to_string(alloc)?, array_of(alloc, count)?)?;
     Ok(Bound {

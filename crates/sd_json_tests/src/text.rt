@@ -1,8 +1,3 @@
-ghost use Rattle.std.specs.Prelude.{◌≡◌, [], ◌∷◌, codes, IfOk};
-ghost use Rattle.sd_graph.specs.PlainTree.{graph, no_state};
-ghost use Rattle.sd_graph.specs.TreeFold.{graph_tree};
-ghost use Rattle.sd_json_tests.specs.TwoArguments.{argument_of};
-
 use indexmap::IndexMap;
 use sd_graph::{Bound, Container, ContainerKind, Sdfg};
 use sd_json::{InputError, arrays_text, read_arrays};
@@ -12,9 +7,7 @@ use std::alloc::Global;
 use std::test::Fail;
 
 /// An argument with these extents.
-fn argument(extents: Vec<Affine>) -> Container
-    ensures { result ≡ argument_of extents.items }
-{
+fn argument(extents: Vec<Affine>) -> Container {
     Container {
         extents: Sequence::from(extents),
         kind: ContainerKind::Argument,
@@ -22,9 +15,7 @@ fn argument(extents: Vec<Affine>) -> Container
 }
 
 /// A bound graph with the arguments A and B, of these extents.
-fn bound(alloc: Global, first: Vec<Affine>, second: Vec<Affine>) -> Result<Bound, NoMemory>
-    ensures { IfOk result (λ bound. graph_tree bound.graph ≡ graph [] ((codes "A", argument_of first.items) ∷ (codes "B", argument_of second.items) ∷ []) 2 [] 0 no_state) }
-{
+fn bound(alloc: Global, first: Vec<Affine>, second: Vec<Affine>) -> Result<Bound, NoMemory> {
     let mut containers = IndexMap::new(alloc);
     containers.insert("A".to_string(alloc)?, argument(first))?;
     containers.insert("B".to_string(alloc)?, argument(second))?;

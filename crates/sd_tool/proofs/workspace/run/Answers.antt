@@ -1,7 +1,7 @@
 use Rattle.std.proofs.Common.{refl, subst}
 use Rattle.sd_work.specs.Run.{Sequential}
 use Rattle.sd_seq.specs.RunEnd.{outcome_of}
-use Rattle.sd_seq.specs.declared.run.RunEnd.TheVariants.{Done, Fault}
+use Rattle.sd_seq.specs.declared.run_end.RunEnd.TheVariants.{Done, Fault}
 use Rattle.sd_tool.specs.Work.{run_of_work}
 use Rattle.sd_tool.specs.Workspace.{work_of}
 use Rattle.sd_tool.proofs.workspace.run.Goals as goal
