@@ -23,6 +23,3 @@ pub use evaluation::{checked_points, value_of, values_behind};
 pub use extents::connector_extents;
 pub use place::place_of;
 pub use scope::{Scope, Shown, ShownName};
-
-#[cfg(test)]
-mod tests;
