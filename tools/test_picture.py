@@ -1,0 +1,232 @@
+#!/usr/bin/env python3
+"""Tests of the drawing of printed graphs: of its text everywhere, of its pictures where Graphviz is there."""
+from __future__ import annotations
+
+import os
+import re
+import shutil
+import subprocess
+import sys
+import tempfile
+import unittest
+import xml.etree.ElementTree
+from pathlib import Path
+
+TOOLS = Path(__file__).resolve().parent
+GRAPHS = sorted((TOOLS / "graphs").glob("*.txt"))
+sys.path.insert(0, str(TOOLS.parent / "python"))
+
+from luthkemb.graph_text import NotAGraph, graphs_in, read_graph  # noqa: E402
+from luthkemb.picture import Picture  # noqa: E402
+
+HAS_GRAPHVIZ = shutil.which("dot") is not None
+INC = (TOOLS / "graphs/inc.txt").read_text()
+
+
+def text_of(name: str) -> str:
+    return (TOOLS / f"graphs/{name}.txt").read_text()
+
+
+def run(*words: str, text: str = "", path: str | None = None) -> subprocess.CompletedProcess[bytes]:
+    environment = os.environ if path is None else {**os.environ, "PATH": path}
+    command = [sys.executable, str(TOOLS / "picture.py"), *words]
+    return subprocess.run(command, input=text.encode(), capture_output=True, env=environment)
+
+
+class TheTextOfAGraph(unittest.TestCase):
+    def test_every_line_is_read(self) -> None:
+        for file in GRAPHS:
+            with self.subTest(file.name):
+                lines = file.read_text().splitlines()
+                graphs = list(graphs_in(read_graph(file.read_text())))
+                states = [state for it in graphs for state in it.states]
+                read = {
+                    "sdfg": len(graphs),
+                    "state": len(states),
+                    "node": sum(len(it.nodes) for it in states),
+                    "edge": sum(len(it.edges) for it in states),
+                    "next": sum(not it.back for state in states for it in state.transitions),
+                    "back": sum(it.back for state in states for it in state.transitions),
+                }
+                self.assertEqual(read, {it: sum(line.startswith(f"{it} ") for line in lines) for it in read})
+
+    def test_nested_graphs_stand_at_their_nodes(self) -> None:
+        for file in GRAPHS:
+            with self.subTest(file.name):
+                graphs = list(graphs_in(read_graph(file.read_text())))
+                paths = [".".join(str(number) for number in it.path) for it in graphs[1:]]
+                self.assertEqual(paths, re.findall("^in (.*)$", file.read_text(), re.MULTILINE))
+
+    def test_a_state_that_nothing_before_leads_to_ends_a_nested_graph(self) -> None:
+        graph = read_graph(text_of("loops_and_call"))
+        self.assertEqual([len(it.states) for it in graphs_in(graph)], [13, 3])
+
+    def test_the_parts_of_a_graph(self) -> None:
+        graph = read_graph(INC)
+        self.assertEqual([(it.kind, it.extents) for it in graph.containers.values()], [("array", "[3]")] * 2)
+        nodes = graph.states[1].nodes
+        self.assertEqual([it.what for it in nodes], ["access", "map", "tasklet", "exit", "access"])
+        self.assertEqual([it.scope for it in nodes], [None, None, 1, None, None])
+        self.assertEqual([it.text for it in graph.states[1].edges], ["A", "A[i] _in0", "B[i] _out", "B"])
+
+    def test_a_text_that_is_no_graph_is_told_with_its_line(self) -> None:
+        lines = INC.splitlines()
+        for line, old, new in (
+            (1, "sdfg inc", "source error 4 at line 3"),
+            (2, "array A[3]", "array A"),
+            (3, "array B[3]", "array A[3]"),
+            (4, "state 0", "state 1"),
+            (5, "next 1", "array C[3]"),
+            (7, "node 0 access A", "node 1 access A"),
+            (7, "node 0 access A", "node 0 access C"),
+            (8, "node 1 map i=0:3", "node 1 loop i=0:3"),
+            (9, "node 2 in 1 tasklet line 7", "node 2 in 0 tasklet line 7"),
+            (10, "node 3 exit 1", "node 3 exit 0"),
+            (12, "edge 0 1 A", "edge 0 5 A"),
+            (13, "edge 1 2 A[i] _in0", "node 5 copy"),
+            (15, "edge 3 4 B", "in 1.2"),
+            (16, "next 1", "next 2"),
+            (16, "node 3 exit 1", "node 3 copy"),
+        ):
+            with self.subTest(new):
+                place = lines.index(old)
+                with self.assertRaises(NotAGraph) as refused:
+                    read_graph("\n".join([*lines[:place], new, *lines[place + 1 :]]))
+                self.assertEqual(refused.exception.line, line)
+
+    def test_a_text_that_ends_too_early_is_told_at_its_end(self) -> None:
+        nested = "sdfg f\nstate 0\nnode 0 nested g\n"
+        for text, line in (("", 1), (nested, 4), (f"{nested}in 0.0", 5)):
+            with self.subTest(text), self.assertRaises(NotAGraph) as refused:
+                read_graph(text)
+            self.assertEqual(refused.exception.line, line)
+
+
+class TheTextThatIsDrawn(unittest.TestCase):
+    def settings(self, name: str, label: str) -> str:
+        """Gives what the nodes with this label, which look alike, are drawn with."""
+        found = set(re.findall(rf'\[(.*) label="{re.escape(label)}"', Picture(text_of(name)).dot()))
+        self.assertEqual(len(found), 1, label)
+        return found.pop()
+
+    def test_a_map_over_two_arrays(self) -> None:
+        self.assertEqual(Picture(INC).dot(), (TOOLS / "graphs/inc.dot").read_text())
+
+    def test_kinds_of_nodes_look_different(self) -> None:
+        for name, label, settings in (
+            ("loops_and_call", "A20", 'shape=ellipse style="filled,bold"'),
+            ("loops_and_call", "T3", 'shape=ellipse style="filled"'),
+            ("streams", "S15", 'shape=ellipse style="filled,dashed"'),
+            ("loops_and_call", "S6", 'shape=ellipse style="filled,dashed"'),
+            ("loops_and_call", r"tasklet\nline 12", 'shape=octagon style="filled"'),
+            ("loops_and_call", r"map\nj4=1:2, j5=0:0", 'shape=trapezium style="filled"'),
+            ("loops_and_call", "exit map", 'shape=invtrapezium style="filled"'),
+            ("loops_and_call", r"consume\nS6 as e7", 'shape=trapezium style="filled,dashed"'),
+            ("loops_and_call", "exit consume", 'shape=invtrapezium style="filled,dashed"'),
+            ("loops_and_call", "copy", 'shape=box style="filled,rounded"'),
+            ("reduction", r"reduce\nsum\naxis 0", 'shape=invtriangle style="filled"'),
+        ):
+            with self.subTest(label):
+                self.assertEqual(self.settings(name, label), settings)
+
+    def test_order_edges_are_dashed(self) -> None:
+        lines = Picture(text_of("reduction")).dot().splitlines()
+        self.assertIn("      g_s0_1 -> g_s0_3 [style=dashed]", lines)
+        self.assertIn(r'      g_s0_3 -> g_s0_4 [label="A3(1, min)[0]\no7"]', lines)
+
+    def test_transitions_tell_what_they_ask_and_set(self) -> None:
+        text = Picture(text_of("loops_and_call")).dot()
+        ends = "color=blue fontcolor=blue ltail=cluster_g_s3 lhead=cluster_g_s1"
+        self.assertIn(f'g_s3_out -> g_s1_in [{ends} constraint=false penwidth=2 label="set k22=k22+1"]', text)
+        self.assertIn('lhead=cluster_g_s2 label="if line 25"]', text)
+
+    def test_a_nested_graph_is_a_box_that_edges_lead_to(self) -> None:
+        lines = [it.strip() for it in Picture(text_of("loops_and_call")).dot().splitlines()]
+        self.assertIn("subgraph cluster_g_11_1 {", lines)
+        self.assertIn(r'g_s11_0 -> g_11_1_in [lhead=cluster_g_11_1 label="A20[2, 1:4]\nA2"]', lines)
+
+    def test_names_are_drawn_once_and_used_after(self) -> None:
+        for file in GRAPHS:
+            with self.subTest(file.name):
+                text = Picture(file.read_text()).dot()
+                made = re.findall(r"^ *(\w+) \[shape=", text, re.MULTILINE)
+                named = re.findall(r"^ *(\w+) -> (\w+) ", text, re.MULTILINE)
+                self.assertEqual(len(made), len(set(made)))
+                self.assertLessEqual({it for ends in named for it in ends}, set(made))
+                clusters = re.findall(r"subgraph (\w+) ", text)
+                self.assertEqual(len(clusters), len(set(clusters)))
+                self.assertLessEqual(set(re.findall(r"l(?:head|tail)=(\w+)", text)), set(clusters))
+
+
+class TheCommand(unittest.TestCase):
+    def setUp(self) -> None:
+        folder = tempfile.TemporaryDirectory()
+        self.addCleanup(folder.cleanup)
+        self.folder = Path(folder.name)
+
+    def test_the_text_to_draw_needs_no_graphviz(self) -> None:
+        ran = run("--dot", text=INC, path=str(self.folder))
+        wanted = (TOOLS / "graphs/inc.dot").read_bytes()
+        self.assertEqual((ran.returncode, ran.stdout, ran.stderr), (0, wanted, b""))
+        output = self.folder / "graph.dot"
+        self.assertEqual(run("-o", str(output), str(TOOLS / "graphs/inc.txt"), path="").returncode, 0)
+        self.assertEqual(output.read_bytes(), wanted)
+
+    def test_without_graphviz_the_status_is_4(self) -> None:
+        output = self.folder / "graph.svg"
+        ran = run("-o", str(output), text=INC, path=str(self.folder))
+        self.assertEqual((ran.returncode, ran.stdout), (4, b""))
+        self.assertIn(b"Graphviz is not there", ran.stderr)
+        self.assertIn(b"--dot", ran.stderr)
+        self.assertFalse(output.exists())
+
+    def test_where_graphviz_fails_the_status_is_1(self) -> None:
+        program = self.folder / "dot"
+        program.write_text("#!/bin/sh\necho no layout >&2\nexit 3\n")
+        program.chmod(0o755)
+        ran = run(text=INC, path=f"{self.folder}:{os.environ['PATH']}")
+        self.assertEqual((ran.returncode, ran.stdout, ran.stderr), (1, b"", b"picture.py: no layout\n"))
+
+    def test_other_refusals(self) -> None:
+        for status, words, text in (
+            (1, ["--dot", str(self.folder / "none")], ""),
+            (1, ["--dot", "-o", str(self.folder / "none/graph.dot")], INC),
+            (2, ["--pdf"], INC),
+            (2, ["--svg", "--dot"], INC),
+            (3, ["--dot"], "arrays error 14\n"),
+        ):
+            with self.subTest(words):
+                ran = run(*words, text=text)
+                self.assertEqual((ran.returncode, ran.stdout), (status, b""))
+                self.assertTrue(ran.stderr)
+
+    @unittest.skipUnless(HAS_GRAPHVIZ, "Graphviz is not there")
+    def test_a_picture_shows_all_that_is_printed(self) -> None:
+        for file in GRAPHS:
+            with self.subTest(file.name):
+                ran = run(str(file))
+                self.assertEqual((ran.returncode, ran.stderr), (0, b""))
+                shown = set(xml.etree.ElementTree.fromstring(ran.stdout).itertext())
+                for graph in graphs_in(read_graph(file.read_text())):
+                    self.assertIn(graph.name, shown)
+                    self.assertLessEqual({f"{it.kind} {it.name}{it.extents}" for it in graph.containers.values()}, shown)
+                    for number, state in enumerate(graph.states):
+                        edges = {it for edge in state.edges for it in edge.text.rsplit(" ", 1) if it}
+                        self.assertLessEqual({f"state {number}", *edges}, shown)
+
+    @unittest.skipUnless(HAS_GRAPHVIZ, "Graphviz is not there")
+    def test_the_form_is_asked_for_or_that_of_the_ending(self) -> None:
+        output = self.folder / "graph.png"
+        self.assertEqual(run("-o", str(output), text=INC).returncode, 0)
+        self.assertTrue(output.read_bytes().startswith(b"\x89PNG"))
+        self.assertTrue(run("--png", text=INC).stdout.startswith(b"\x89PNG"))
+        self.assertEqual(run("--svg", "-o", str(output), text=INC).returncode, 0)
+        self.assertTrue(output.read_bytes().startswith(b"<?xml"))
+
+    @unittest.skipUnless(HAS_GRAPHVIZ, "Graphviz is not there")
+    def test_a_notebook_shows_the_picture(self) -> None:
+        self.assertIn("<svg", Picture(INC)._repr_svg_() or "")
+
+
+if __name__ == "__main__":
+    unittest.main()
