@@ -209,7 +209,8 @@ class TheCommand(unittest.TestCase):
                 shown = set(xml.etree.ElementTree.fromstring(ran.stdout).itertext())
                 for graph in graphs_in(read_graph(file.read_text())):
                     self.assertIn(graph.name, shown)
-                    self.assertLessEqual({f"{it.kind} {it.name}{it.extents}" for it in graph.containers.values()}, shown)
+                    containers = {f"{it.kind} {it.name}{it.extents}" for it in graph.containers.values()}
+                    self.assertLessEqual(containers, shown)
                     for number, state in enumerate(graph.states):
                         edges = {it for edge in state.edges for it in edge.text.rsplit(" ", 1) if it}
                         self.assertLessEqual({f"state {number}", *edges}, shown)

@@ -1,0 +1,51 @@
+"""Programs of `sdfg`, called on the arrays of a Python program.
+
+`run(program, turns=None, **sizes_and_arrays)` gives the arrays after the run: NumPy arrays where such were given, else
+lists. The program is a path, a text, or a function under `@dace.program` of the stand-in `luthkemb.dace`. Sizes that
+follow from the shapes of arrays need not be given. What the program refuses is raised, by a class for each status.
+"""
+from . import dace
+from .commands import CALLS
+from .refusals import (
+    ArraysRefused,
+    BadWords,
+    DoesNotFit,
+    Fault,
+    Frame,
+    LuthkembError,
+    NotBuilt,
+    OutOfMemory,
+    ProgramFailed,
+    ProgramNotFound,
+    ReadFault,
+    Refused,
+    SourceRefused,
+    TooLong,
+    TurnsSpent,
+    WriteFault,
+)
+
+__version__ = "0.1.0"
+__all__ = [
+    "ArraysRefused",
+    "BadWords",
+    "DoesNotFit",
+    "Fault",
+    "Frame",
+    "LuthkembError",
+    "NotBuilt",
+    "OutOfMemory",
+    "ProgramFailed",
+    "ProgramNotFound",
+    "ReadFault",
+    "Refused",
+    "SourceRefused",
+    "TooLong",
+    "TurnsSpent",
+    "WriteFault",
+    "dace",
+    *CALLS,
+]
+
+
+globals().update(CALLS)

@@ -1,9 +1,9 @@
 """Pictures of graphs, drawn by Graphviz from the text that the program prints.
 
 States are boxes with their transitions between them, scopes dotted boxes in them, nested graphs boxes with states of
-their own. Access nodes are ellipses, those of arguments bold, of streams dashed; tasklets are octagons, the entries and
-exits of maps trapezia, those of consume scopes dashed, reductions triangles, copies rounded boxes. Edges that only order
-are dashed.
+their own. Access nodes are ellipses, those of arguments bold, of streams dashed; tasklets are octagons, the entries
+and exits of maps trapezia, those of consume scopes dashed, reductions triangles, copies rounded boxes. Edges that only
+order are dashed.
 """
 from __future__ import annotations
 

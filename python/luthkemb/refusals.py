@@ -1,0 +1,272 @@
+"""What a call raises: a class for each status with which the program refuses, and one for what goes wrong around it.
+
+Each has its fields, and its text tells all of them. `README.md` beside the package has the table.
+"""
+from __future__ import annotations
+
+import re
+from dataclasses import dataclass, field
+from typing import ClassVar, Optional
+
+from .sources import Source
+
+SOURCE_ERRORS = {
+    1: "a byte begins no token, a string is not closed, or a letter, digit or '_' follows a number",
+    2: "a tab stands in an indentation, or a line closes to a width that no open block has",
+    3: "a number is 2^63 or more",
+    4: "the line is none of the forms, or stands where its form may not",
+    5: "a name is not in force for its use",
+    6: "an extent, subscript, range or bound is not affine, or an extent names a variable",
+    7: "a name is declared twice, or is reserved",
+    8: "a limit is passed",
+    9: "a lambda is none of the resolutions",
+    10: "the sides of a copy, a reduction or the arguments of a call do not fit",
+}
+ARRAYS_ERRORS = {
+    11: "the size has no value",
+    12: "the size is not from 0 to 2^24",
+    13: "the container has a negative extent, or there are too many elements",
+    14: "the arrays are no JSON object",
+    15: "it has something else than whole numbers from -2^63 to 2^63-1",
+    16: "its lists have no common shape",
+    17: "the argument is missing",
+    18: "it is neither a size nor an argument of the program",
+    19: "its shape is not that of the argument",
+}
+
+
+class LuthkembError(Exception):
+    """Whatever a call raises by itself."""
+
+
+class ProgramNotFound(LuthkembError):
+    """There is no program `sdfg` to run."""
+
+
+class NotBuilt(LuthkembError):
+    """The repository's `./sdfg` could not prove and build the program; it told why on standard error."""
+
+    status: ClassVar[int] = 70
+
+    def __str__(self) -> str:
+        return "the program was not proved and built; standard error says why"
+
+
+@dataclass(eq=False)
+class ProgramFailed(LuthkembError):
+    """The program ended in a way that none of its commands do; a negative status is a signal's."""
+
+    status: int
+    output: str
+
+    def __str__(self) -> str:
+        return f"the program ended with status {self.status} and {self.output[:200]!r}"
+
+
+@dataclass(eq=False)
+class DoesNotFit(LuthkembError, ValueError):
+    """The array `name` has elements that are no whole numbers of 64 bits; nothing was run."""
+
+    name: str
+    why: str
+
+    def __str__(self) -> str:
+        return f"{self.name}: {self.why}"
+
+
+class Refused(LuthkembError):
+    """The program refused, with the status of the class."""
+
+    status: ClassVar[int]
+    form: ClassVar[str] = ""
+
+    @classmethod
+    def of(cls, found: re.Match[str], source: Source) -> Refused:
+        """Gives the refusal whose text matched `form`."""
+        return cls(*found.groups())
+
+
+@dataclass(eq=False)
+class OutOfMemory(Refused, MemoryError):
+    """The program found no memory."""
+
+    status = 1
+
+    def __str__(self) -> str:
+        return "the program found no memory"
+
+
+@dataclass(eq=False)
+class BadWords(Refused, ValueError):
+    """The words of the call are outside the limits of the command."""
+
+    status = 2
+    form = "bad words"
+
+    def __str__(self) -> str:
+        return "the words of the call are not those of the command"
+
+
+@dataclass(eq=False)
+class SourceRefused(Refused):
+    """The source is refused at a line.
+
+    `number` is that of the error and `meaning` what it says. `line` is counted in `file`, or in the text where there
+    is none, and `text` is what stands there.
+    """
+
+    number: int
+    line: int
+    text: str
+    meaning: str
+    file: Optional[str] = None
+
+    status = 3
+    form = r"source error (\d+) at line (\d+)"
+
+    @classmethod
+    def of(cls, found: re.Match[str], source: Source) -> Refused:
+        number, line = int(found[1]), int(found[2])
+        place = source.origin(line)
+        return cls(number, place.line, source.text_of(line), SOURCE_ERRORS.get(number, ""), place.file)
+
+    def __str__(self) -> str:
+        file = f" of {self.file}" if self.file else ""
+        return f"source error {self.number} at line {self.line}{file}: {self.meaning}\n{self.text}"
+
+
+@dataclass(eq=False)
+class ArraysRefused(Refused, ValueError):
+    """The sizes and arrays do not fit the program; `name` is whose, where it is one's."""
+
+    number: int
+    name: Optional[str]
+    meaning: str
+
+    status = 4
+    form = r"arrays error (\d+)(?: (\w+))?"
+
+    @classmethod
+    def of(cls, found: re.Match[str], source: Source) -> Refused:
+        return cls(int(found[1]), found[2], ARRAYS_ERRORS.get(int(found[1]), ""))
+
+    def __str__(self) -> str:
+        name = f" {self.name}" if self.name else ""
+        return f"arrays error {self.number}{name}: {self.meaning}"
+
+
+@dataclass
+class Frame:
+    """Where a fault stood in one program: the line, counted in `file` if there is one, and the variables in force."""
+
+    line: int
+    variables: dict[str, int] = field(default_factory=dict)
+    file: Optional[str] = None
+
+    def __str__(self) -> str:
+        values = ", ".join(f"{name}={value}" for name, value in self.variables.items())
+        return f"line {self.line}: {values}" if values else f"line {self.line}"
+
+
+@dataclass(eq=False)
+class Fault(Refused):
+    """The run has a fault.
+
+    `kind` is `division` or `subscript`; `place` has a frame for each program, the outermost first.
+    """
+
+    kind: str
+    place: list[Frame]
+
+    status = 7
+    form = r"fault (division|subscript) at (.+)"
+
+    @classmethod
+    def of(cls, found: re.Match[str], source: Source) -> Refused:
+        return cls(found[1], [_frame(it, source) for it in found[2].split(" > ")])
+
+    def __str__(self) -> str:
+        return f"fault {self.kind} at {' > '.join(str(it) for it in self.place)}"
+
+
+@dataclass(eq=False)
+class TurnsSpent(Refused):
+    """The run wants more turns than the `turns` that it may spend."""
+
+    turns: int
+
+    status = 8
+    form = r"turns spent (\d+)"
+
+    @classmethod
+    def of(cls, found: re.Match[str], source: Source) -> Refused:
+        return cls(int(found[1]))
+
+    def __str__(self) -> str:
+        return f"turns spent {self.turns}"
+
+
+@dataclass(eq=False)
+class ReadFault(Refused):
+    """The file `name` is missing or cannot be read."""
+
+    name: str
+
+    status = 9
+    form = r"read fault (.*)"
+
+    def __str__(self) -> str:
+        return f"read fault {self.name}"
+
+
+@dataclass(eq=False)
+class WriteFault(Refused):
+    """The program could not write its answer."""
+
+    status = 10
+
+    def __str__(self) -> str:
+        return "the program could not write its answer"
+
+
+@dataclass(eq=False)
+class TooLong(Refused):
+    """The file `name` is longer than its limit: 2^20 bytes for a source, 2^26 for arrays."""
+
+    name: str
+
+    status = 11
+    form = r"too long (.*)"
+
+    def __str__(self) -> str:
+        return f"too long {self.name}"
+
+
+REFUSALS: dict[int, type[Refused]] = {
+    it.status: it
+    for it in (
+        OutOfMemory, BadWords, SourceRefused, ArraysRefused, Fault, TurnsSpent, ReadFault, WriteFault, TooLong
+    )
+}
+
+
+def _frame(text: str, source: Source) -> Frame:
+    line, _, values = text.removeprefix("line ").partition(": ")
+    pairs = (it.split("=") for it in values.split(", ") if it)
+    place = source.origin(int(line))
+    return Frame(place.line, {name: int(value) for name, value in pairs}, place.file)
+
+
+def refusal(status: int, output: bytes, source: Source) -> LuthkembError:
+    """Gives what is raised for an end with this status, which is not 0."""
+    said = output.decode(errors="replace")
+    kind = REFUSALS.get(status)
+    if status == NotBuilt.status:
+        return NotBuilt()
+    # What was written before memory or the output was wanting is left.
+    last = "" if kind in (OutOfMemory, WriteFault) else said.removesuffix("\n")
+    found = re.fullmatch(kind.form, last, re.DOTALL) if kind else None
+    try:
+        return ProgramFailed(status, said) if kind is None or found is None else kind.of(found, source)
+    except ValueError:
+        return ProgramFailed(status, said)

@@ -1,0 +1,129 @@
+"""Sizes that follow from the shapes of arrays: the extents of a program's arguments, as equations for its symbols."""
+from __future__ import annotations
+
+import ast
+from dataclasses import dataclass, field
+from fractions import Fraction
+from typing import Iterator, Mapping, Optional, Sequence
+
+from .arrays import Shape
+
+Terms = dict[str, Fraction]
+ONE = ""
+"""Stands for the constant among the terms of an affine expression."""
+
+
+def inferred(source: bytes, shapes: Mapping[str, Shape], sizes: Mapping[str, int]) -> dict[str, int]:
+    """Gives each symbol of the last program that is not among the sizes, where the shapes leave one whole number.
+
+    An equation that those before it contradict is passed over: the program refuses that shape. A source that Python
+    cannot read has no sizes.
+    """
+    try:
+        return dict(_inferred(ast.parse(source), shapes, sizes))
+    except (SyntaxError, ValueError, RecursionError, MemoryError):
+        return {}
+
+
+def _inferred(module: ast.Module, shapes: Mapping[str, Shape], sizes: Mapping[str, int]) -> Iterator[tuple[str, int]]:
+    equations = _Equations()
+    for extent, length in _extents(module, shapes):
+        equations.add(extent, length, sizes)
+    symbols = _symbols(module)
+    return ((name, value) for name, value in equations.solved() if name in symbols)
+
+
+def _symbols(module: ast.Module) -> set[str]:
+    """Gives the names of the size symbols that a source declares."""
+    return {
+        it.targets[0].id
+        for it in module.body
+        if isinstance(it, ast.Assign) and isinstance(it.targets[0], ast.Name) and isinstance(it.value, ast.Call)
+    }
+
+
+def _extents(module: ast.Module, shapes: Mapping[str, Shape]) -> Iterator[tuple[Terms, int]]:
+    """Gives the affine extents of the last program's arguments, each with the length that it should have."""
+    programs = [it for it in module.body if isinstance(it, ast.FunctionDef)]
+    for argument in programs[-1].args.args if programs else ():
+        for extent, length in zip(_extents_of_type(argument.annotation), shapes.get(argument.arg, ())):
+            terms = _affine(extent)
+            if terms is not None:
+                yield terms, length
+
+
+def _extents_of_type(annotation: Optional[ast.expr]) -> Sequence[ast.expr]:
+    if not isinstance(annotation, ast.Subscript):
+        return ()
+    extents = annotation.slice
+    return extents.elts if isinstance(extents, ast.Tuple) else (extents,)
+
+
+def _affine(expression: ast.expr) -> Optional[Terms]:
+    """Gives the coefficients of an affine expression, or nothing where it is none."""
+    if isinstance(expression, ast.Constant) and type(expression.value) is int:
+        return {ONE: Fraction(expression.value)}
+    if isinstance(expression, ast.Name):
+        return {expression.id: Fraction(1)}
+    if isinstance(expression, ast.UnaryOp) and isinstance(expression.op, ast.USub):
+        return _sum({}, _affine(expression.operand), Fraction(-1))
+    if isinstance(expression, ast.BinOp):
+        return _combined(expression.op, _affine(expression.left), _affine(expression.right))
+    return None
+
+
+def _combined(sign: ast.operator, left: Optional[Terms], right: Optional[Terms]) -> Optional[Terms]:
+    if isinstance(sign, ast.Add):
+        return _sum(left, right, Fraction(1))
+    if isinstance(sign, ast.Sub):
+        return _sum(left, right, Fraction(-1))
+    if isinstance(sign, ast.Mult) and left is not None and right is not None:
+        if set(left) <= {ONE}:
+            return _sum({}, right, left.get(ONE, Fraction(0)))
+        if set(right) <= {ONE}:
+            return _sum({}, left, right.get(ONE, Fraction(0)))
+    return None
+
+
+def _sum(left: Optional[Terms], right: Optional[Terms], times: Fraction) -> Optional[Terms]:
+    """Gives an expression and so many times another, without terms that are 0."""
+    if left is None or right is None:
+        return None
+    found = dict(left)
+    for name, coefficient in right.items():
+        found[name] = found.get(name, Fraction(0)) + coefficient * times
+    return {name: coefficient for name, coefficient in found.items() if coefficient}
+
+
+@dataclass
+class _Equations:
+    """Solved equations: each is one symbol and what it is, a constant and terms of symbols that none of them solves."""
+
+    rows: dict[str, Terms] = field(default_factory=dict)
+
+    def add(self, extent: Terms, length: int, sizes: Mapping[str, int]) -> None:
+        """Adds that an extent has this length, at sizes that are known."""
+        rest = _put_in(_sum(extent, {ONE: Fraction(length)}, Fraction(-1)) or {}, self.rows)
+        rest = _put_in(rest, {name: {ONE: Fraction(value)} for name, value in sizes.items()})
+        name = next((it for it in rest if it != ONE), None)
+        if name is None:
+            return
+        others = {it: coefficient for it, coefficient in rest.items() if it != name}
+        row = _sum({}, others, -1 / rest[name]) or {}
+        self.rows = {it: _put_in(terms, {name: row}) for it, terms in self.rows.items()}
+        self.rows[name] = row
+
+    def solved(self) -> Iterator[tuple[str, int]]:
+        """Gives each symbol that has one value, and a whole one."""
+        for name, terms in self.rows.items():
+            value = terms.get(ONE, Fraction(0))
+            if set(terms) <= {ONE} and value.denominator == 1:
+                yield name, int(value)
+
+
+def _put_in(terms: Terms, values: Mapping[str, Terms]) -> Terms:
+    """Puts what some symbols are in their place."""
+    found: Terms = {}
+    for name, coefficient in terms.items():
+        found = _sum(found, values.get(name, {name: Fraction(1)}), coefficient) or {}
+    return found

@@ -1,0 +1,188 @@
+"""Where the program is found, how it is ended, and how a command becomes a call."""
+from __future__ import annotations
+
+import os
+import shutil
+import signal
+import subprocess
+import sys
+import time
+import unittest
+from pathlib import Path
+from typing import Callable
+from unittest import mock
+
+from support import FAKE, INC, TOP, Calls, source
+
+import luthkemb
+from luthkemb import programs
+from luthkemb.commands import COMMANDS, Command, Option, call_of, number
+
+SECONDS = 20.0
+
+
+class Places(Calls):
+    def copied(self, *folders: str) -> Path:
+        """Gives a copy of the program at a place in the folder."""
+        place = self.folder.joinpath(*folders, "sdfg")
+        place.parent.mkdir(parents=True, exist_ok=True)
+        return Path(shutil.copy(FAKE, place))
+
+    def go_to(self, place: Path) -> None:
+        self.addCleanup(os.chdir, Path.cwd())
+        os.chdir(place)
+
+    def elsewhere(self, **variables: str) -> None:
+        """Goes on outside of all repositories, with the package seen as standing there, and these variables."""
+        place = self.folder / "elsewhere"
+        place.mkdir()
+        self.go_to(place)
+        environment = {"LUTHKEMB_SDFG": "", "PATH": "", **variables}
+        for patch in (
+            mock.patch.dict(os.environ, environment),
+            mock.patch.object(programs, "__file__", str(place / "programs.py")),
+        ):
+            patch.start()
+            self.addCleanup(patch.stop)
+
+    def repository(self, name: str) -> Path:
+        program = self.copied(name)
+        (program.parent / "crates").mkdir()
+        (program.parent / "crates.txt").touch()
+        return program
+
+    def test_the_variable_goes_first(self) -> None:
+        program = self.copied("first")
+        self.repository("elsewhere/repository")
+        self.go_to(self.folder)
+        with mock.patch.dict(os.environ, LUTHKEMB_SDFG="first/sdfg"):
+            self.assertEqual(programs.program(), str(program))
+
+    def test_a_variable_that_names_no_program(self) -> None:
+        (self.folder / "text").touch()
+        for named in ("none/sdfg", str(self.folder), str(self.folder / "text")):
+            with self.subTest(named), mock.patch.dict(os.environ, LUTHKEMB_SDFG=named):
+                with self.assertRaisesRegex(luthkemb.ProgramNotFound, "LUTHKEMB_SDFG"):
+                    luthkemb.run(INC, A=[1], B=[1])
+
+    def test_the_repository_of_the_package(self) -> None:
+        with mock.patch.dict(os.environ, LUTHKEMB_SDFG="", PATH=""):
+            self.assertEqual(programs.program(), str(TOP / "sdfg"))
+
+    def test_the_repository_of_the_working_folder(self) -> None:
+        program = self.repository("repository")
+        below = self.folder / "repository/below/it"
+        below.mkdir(parents=True)
+        self.elsewhere(PATH=str(self.copied("path").parent))
+        self.go_to(below)
+        self.assertEqual(programs.program(), str(program))
+
+    def test_the_path_comes_last(self) -> None:
+        program = self.copied("path")
+        self.copied("elsewhere_without_crates")
+        self.elsewhere(PATH=str(program.parent))
+        self.assertEqual(programs.program(), str(program))
+
+    def test_no_program(self) -> None:
+        self.elsewhere()
+        with self.assertRaises(luthkemb.ProgramNotFound):
+            luthkemb.run(INC, A=[1], B=[1])
+
+
+class Interruptions(Calls):
+    """A run that is interrupted ends its child, one that does not listen too."""
+
+    CALLER = "import sys, luthkemb.programs as it; it.SECONDS_TO_END = 0.5; it.ended(['run', *sys.argv[1:]])"
+
+    def interrupted(self, statements: str) -> tuple[int, int]:
+        """Interrupts a call whose child does these statements; gives the child's number and the caller's status."""
+        mark = self.folder / "mark"
+        text = source(
+            "A: dace.int64[1]",
+            f"# fake: {statements}",
+            f"# fake: Path({str(mark)!r}).write_text(str(__import__('os').getpid()))",
+            "# fake: time.sleep(600)",
+        )
+        files = [self.folder / "source.py", self.folder / "arrays.json"]
+        files[0].write_text(text)
+        files[1].write_text('{"A":[1]}')
+        words = [sys.executable, "-c", self.CALLER, *(str(it) for it in files)]
+        caller = subprocess.Popen(words, cwd=TOP / "python", stderr=subprocess.DEVNULL)
+        try:
+            self.wait_for(lambda: mark.is_file() and mark.read_text())
+            caller.send_signal(signal.SIGINT)
+            return int(mark.read_text()), caller.wait(SECONDS)
+        finally:
+            caller.kill()
+            caller.wait()
+
+    def wait_for(self, holds: Callable[[], object]) -> None:
+        end = time.monotonic() + SECONDS
+        while not holds():
+            self.assertLess(time.monotonic(), end)
+            time.sleep(0.02)
+
+    def test_a_child_is_ended(self) -> None:
+        for statements in ("pass", "signal.signal(signal.SIGTERM, signal.SIG_IGN)"):
+            with self.subTest(statements):
+                child, status = self.interrupted(statements)
+                self.assertEqual(status, -signal.SIGINT)
+                with self.assertRaises(ProcessLookupError):
+                    os.kill(child, 0)
+
+    def test_what_a_child_started_is_ended(self) -> None:
+        mark = self.folder / "grandchild"
+        child = f"Path({str(mark)!r}).write_text(str(__import__('subprocess').Popen(['sleep', '600']).pid))"
+        self.interrupted(child)
+        self.wait_for(lambda: not self.is_running(int(mark.read_text())))
+
+    @staticmethod
+    def is_running(process: int) -> bool:
+        """Tells whether a process is there and has not ended; nobody may wait for it."""
+        try:
+            return Path(f"/proc/{process}/stat").read_text().rpartition(") ")[2][0] not in "ZX"
+        except OSError:
+            return False
+
+    def test_the_folder_of_an_interrupted_call_is_removed(self) -> None:
+        with mock.patch("luthkemb.commands.ended", side_effect=KeyboardInterrupt) as ended:
+            with self.assertRaises(KeyboardInterrupt):
+                luthkemb.run(INC, A=[1], B=[1])
+        self.assertFalse(Path(ended.call_args.args[0][2]).parent.exists())
+
+
+class Table(Calls):
+    def test_a_further_command_is_a_line(self) -> None:
+        echo = self.folder / "echo"
+        echo.write_text('#!/bin/sh\necho "$1 $4 $5 $6 $7"\ncat "$7"\n')
+        echo.chmod(0o755)
+
+        def lines(value: list[str], folder: Path) -> str:
+            file = folder / "lines"
+            file.write_text("".join(f"{it}\n" for it in value))
+            return str(file)
+
+        options = {"workers": Option("--workers", number), "chain": Option("--chain", lines)}
+        check = call_of("check", Command("check", lambda output, _: output.decode(), "Checks.", options))
+        with mock.patch.dict(os.environ, LUTHKEMB_SDFG=str(echo)):
+            first, *others = check(INC, chain=["StateFusion 0 1"], workers=2, A=[1], B=[2]).splitlines()
+        self.assertRegex(first, r"^check --workers 2 --chain /.*/lines$")
+        self.assertEqual((others, check.__name__, check.__doc__), (["StateFusion 0 1"], "check", "Checks."))
+
+    def test_each_command_is_one_of_the_program(self) -> None:
+        documented = (TOP / "docs/COMMANDS.md").read_text()
+        for name, command in COMMANDS.items():
+            self.assertIn(f"sdfg {command.word} SOURCE ARRAYS\n", documented)
+            self.assertIn(name, luthkemb.__all__)
+            for option in command.options.values():
+                self.assertIn(f"sdfg {command.word} SOURCE ARRAYS {option.word} ", documented)
+
+    def test_a_call_has_a_program_and_what_has_names(self) -> None:
+        with self.assertRaises(TypeError):
+            luthkemb.run()
+        with self.assertRaises(TypeError):
+            luthkemb.run(INC, [1])
+
+
+if __name__ == "__main__":
+    unittest.main()
