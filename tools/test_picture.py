@@ -61,6 +61,12 @@ class TheTextOfAGraph(unittest.TestCase):
         graph = read_graph(text_of("loops_and_call"))
         self.assertEqual([len(it.states) for it in graphs_in(graph)], [13, 3])
 
+    def test_a_state_with_the_next_number_may_be_of_the_outer_graph(self) -> None:
+        nested = "in 1.0\nsdfg g\nstate 0\nnext 1\nstate 1\n"
+        graph = read_graph(f"sdfg f\nstate 0\nnext 1\nstate 1\nnode 0 nested g\nnext 2\n{nested}state 2\nnode 0 copy\n")
+        self.assertEqual([len(it.states) for it in graphs_in(graph)], [3, 2])
+        self.assertEqual(graph.states[2].nodes[0].what, "copy")
+
     def test_the_parts_of_a_graph(self) -> None:
         graph = read_graph(INC)
         self.assertEqual([(it.kind, it.extents) for it in graph.containers.values()], [("array", "[3]")] * 2)

@@ -78,8 +78,7 @@ def with_sizes(source: Source, entries: Entries) -> dict[str, Any]:
     """Gives the entries, and with them each size that is not given and follows from the shapes of arrays."""
     shapes = {name: shape_of(value) for name, value in entries.items()}
     sizes = {name: operator.index(value) for name, value in entries.items() if is_size(value)}
-    found = inferred(source.text(), shapes, sizes)
-    return {**{name: value for name, value in found.items() if name not in entries}, **entries}
+    return {**inferred(source.text(), shapes, sizes), **entries}
 
 
 def number(value: Any, _: Path) -> str:

@@ -13,9 +13,10 @@ Python reads such a function and never runs it: `luthkemb.run` gives its source 
 """
 from __future__ import annotations
 
+import inspect
 import itertools
-from dataclasses import dataclass
-from typing import Any, Callable, Iterator
+from dataclasses import dataclass, field
+from typing import Any, Callable, Mapping
 
 __all__ = ["int64", "program", "symbol"]
 
@@ -23,13 +24,10 @@ _orders = itertools.count()
 
 
 class Extent:
-    """An expression of size symbols. Python keeps the symbols alone; the program reads the expression."""
-
-    def __init__(self, symbols: tuple[Symbol, ...]) -> None:
-        self.symbols = symbols
+    """An expression of size symbols. Python makes nothing of it; the program reads it in the source."""
 
     def _joined(self, other: object = 0) -> Extent:
-        return Extent((*self.symbols, *symbols_of(other)))
+        return Extent()
 
     __add__ = __radd__ = __sub__ = __rsub__ = __mul__ = __rmul__ = __neg__ = _joined
 
@@ -38,7 +36,6 @@ class Symbol(Extent):
     """A size symbol. `order` counts the symbols that were made before it."""
 
     def __init__(self, name: str) -> None:
-        super().__init__((self,))
         self.name = name
         self.order = next(_orders)
 
@@ -53,33 +50,25 @@ def symbol(name: str) -> Symbol:
     return Symbol(name)
 
 
-@dataclass(frozen=True)
 class ArrayType:
-    """The type of an argument, with the symbols of its extents."""
-
-    symbols: tuple[Symbol, ...] = ()
+    """The type of an argument, with extents where it is not one element."""
 
     def __getitem__(self, extents: object) -> ArrayType:
-        return ArrayType(tuple(symbols_of(extents)))
+        return self
 
 
 int64 = ArrayType()
 
 
-def symbols_of(value: object) -> Iterator[Symbol]:
-    """Gives the symbols of an extent, of several, or of an argument's type."""
-    if isinstance(value, tuple):
-        for it in value:
-            yield from symbols_of(it)
-    elif isinstance(value, (Extent, ArrayType)):
-        yield from value.symbols
-
-
 @dataclass(frozen=True, eq=False)
 class Program:
-    """A function under `@dace.program`, which `luthkemb.run` takes."""
+    """A function under `@dace.program`, which `luthkemb.run` takes.
+
+    `around` has the symbols and programs of the function in which it stands, by their variables.
+    """
 
     function: Callable[..., Any]
+    around: Mapping[str, object] = field(default_factory=dict)
 
     def __repr__(self) -> str:
         return f"<program {self.function.__qualname__}>"
@@ -87,4 +76,9 @@ class Program:
 
 def program(function: Callable[..., Any]) -> Program:
     """Makes a program of a function; its source is read when it is run."""
-    return Program(function)
+    frame = inspect.currentframe()
+    names = frame.f_back.f_locals if frame and frame.f_back else {}
+    if names is function.__globals__:
+        # Those of a module are looked up when they are wanted.
+        return Program(function)
+    return Program(function, {name: it for name, it in names.items() if isinstance(it, (Symbol, Program))})

@@ -8,7 +8,7 @@ from dataclasses import dataclass
 from pathlib import Path
 from typing import Any, Iterator, Optional, Union
 
-from .dace import Program, Symbol, symbols_of
+from .dace import Program, Symbol
 
 NEWLINE = "\n"
 MOST_BYTES = 2**20
@@ -95,7 +95,7 @@ class _Function:
         lines = tuple(_without_margin(it.rstrip("\n"), width) for it in found)
         file = inspect.getsourcefile(function)
         origins = tuple(Origin(file, first + at) for at in range(len(lines)))
-        return cls(program, lines, origins, tuple(_named(function, NEWLINE.join(lines))))
+        return cls(program, lines, origins, tuple(_named(program, NEWLINE.join(lines))))
 
 
 def _without_margin(line: str, width: int) -> str:
@@ -104,15 +104,17 @@ def _without_margin(line: str, width: int) -> str:
     return line[margin:]
 
 
-def _named(function: Any, text: str) -> Iterator[object]:
-    """Gives what stands for the names of a function's text where it was defined, and the symbols of its extents."""
+def _named(program: Program, text: str) -> Iterator[object]:
+    """Gives what stands for the names of a function's text where it was defined, as far as that is there."""
+    function = program.function
     cells = zip(function.__code__.co_freevars, function.__closure__ or ())
-    around = {**function.__globals__, **{name: cell.cell_contents for name, cell in cells if _is_filled(cell)}}
-    for annotation in function.__annotations__.values():
-        yield from symbols_of(annotation)
+    closure = {name: cell.cell_contents for name, cell in cells if _is_filled(cell)}
     for node in ast.walk(ast.parse(text)):
-        if isinstance(node, ast.Name) and node.id in around:
-            yield around[node.id]
+        if isinstance(node, ast.Name):
+            for names in (closure, program.around, function.__globals__):
+                if node.id in names:
+                    yield names[node.id]
+                    break
 
 
 def _is_filled(cell: Any) -> bool:

@@ -126,9 +126,35 @@ class Sources(unittest.TestCase):
         self.assertEqual([found.origin(it).line for it in (1, 2, 3, 4)], [first, first, first, first + 1])
         self.assertEqual(found.origin(1000).line, first + 4)
 
+    def test_a_function_in_another_one_loses_its_margin(self) -> None:
+        K = dace.symbol('K')
+
+        @dace.program
+        def g(A: dace.int64[K]):
+# A comment at the margin.
+            A[
+    0] = 1
+
+        wanted = ["@dace.program", "def g(A: dace.int64[K]):", "# A comment at the margin.", "    A[", "0] = 1"]
+        self.assertEqual(source_of(g).text().decode().splitlines(), ["import dace", "K = dace.symbol('K')", *wanted])
+
     def test_extents_are_expressions_of_symbols(self) -> None:
-        array = dace.int64[N + 1, -M, 3 - 2 * N, M * 2]
-        self.assertEqual(array.symbols, (N, M, N, M))
+        self.assertIs(dace.int64[N + 1, 1 + N, -M, 3 - 2 * N, M * 2, N + M - N], dace.int64)
+
+    def test_what_a_function_names_is_what_stands_there_when_it_is_run(self) -> None:
+        global ratios
+        before, K = ratios, dace.symbol('K')
+
+        @dace.program
+        def ratios(X: dace.int64[K], Y: dace.int64[K]):
+            Y[0] = X[0]
+
+        try:
+            text = source_of(rows).text().decode()
+        finally:
+            ratios = before
+        self.assertIn("Y[0] = X[0]", text)
+        self.assertNotIn("12 // X[i]", text)
 
     def test_a_symbol_has_the_name_of_a_variable(self) -> None:
         for name in ("", "2", "a b", "ä", None):

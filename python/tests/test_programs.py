@@ -18,7 +18,7 @@ import luthkemb
 from luthkemb import programs
 from luthkemb.commands import COMMANDS, Command, Option, call_of, number
 
-SECONDS = 20.0
+SECONDS = 60.0
 
 
 class Places(Calls):
@@ -92,11 +92,15 @@ class Places(Calls):
 class Interruptions(Calls):
     """A run that is interrupted ends its child, one that does not listen too."""
 
-    CALLER = "import sys, luthkemb.programs as it; it.SECONDS_TO_END = 0.5; it.ended(['run', *sys.argv[1:]])"
+    CALLER = "import sys, luthkemb.programs as it; it.SECONDS_TO_END = float(sys.argv[1]); it.ended(sys.argv[2:])"
 
-    def interrupted(self, statements: str) -> tuple[int, int]:
-        """Interrupts a call whose child does these statements; gives the child's number and the caller's status."""
+    def interrupted(self, statements: str, seconds: float = 0.5) -> tuple[int, int]:
+        """Interrupts a call whose child does these statements, and has so many seconds to end.
+
+        Gives the child's number and the caller's status.
+        """
         mark = self.folder / "mark"
+        mark.unlink(missing_ok=True)
         text = source(
             "A: dace.int64[1]",
             f"# fake: {statements}",
@@ -106,7 +110,7 @@ class Interruptions(Calls):
         files = [self.folder / "source.py", self.folder / "arrays.json"]
         files[0].write_text(text)
         files[1].write_text('{"A":[1]}')
-        words = [sys.executable, "-c", self.CALLER, *(str(it) for it in files)]
+        words = [sys.executable, "-c", self.CALLER, str(seconds), "run", *(str(it) for it in files)]
         caller = subprocess.Popen(words, cwd=TOP / "python", stderr=subprocess.DEVNULL)
         try:
             self.wait_for(lambda: mark.is_file() and mark.read_text())
@@ -129,6 +133,12 @@ class Interruptions(Calls):
                 self.assertEqual(status, -signal.SIGINT)
                 with self.assertRaises(ProcessLookupError):
                     os.kill(child, 0)
+
+    def test_a_child_has_time_to_end(self) -> None:
+        mark = self.folder / "ended"
+        end = f"(time.sleep(0.1), Path({str(mark)!r}).touch(), __import__('os')._exit(0))"
+        self.interrupted(f"signal.signal(signal.SIGTERM, lambda *_: {end})", SECONDS)
+        self.assertTrue(mark.exists())
 
     def test_what_a_child_started_is_ended(self) -> None:
         mark = self.folder / "grandchild"
