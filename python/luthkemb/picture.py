@@ -30,6 +30,8 @@ BLANK = "style=invis"
 HEAD = (
     "compound=true",
     "newrank=true",
+    # Without a limit Graphviz takes minutes to straighten states of more than a hundred nodes.
+    "nslimit=2",
     'fontname="Helvetica"',
     'node [fontname="Helvetica" style=filled fillcolor=white]',
     'edge [fontname="Helvetica" fontsize=10]',

@@ -242,12 +242,18 @@ class TooLong(Refused):
         return f"too long {self.name}"
 
 
-REFUSALS: dict[int, type[Refused]] = {
-    it.status: it
-    for it in (
-        OutOfMemory, BadWords, SourceRefused, ArraysRefused, Fault, TurnsSpent, ReadFault, WriteFault, TooLong
-    )
-}
+KINDS: tuple[type[Refused], ...] = (
+    OutOfMemory,
+    BadWords,
+    SourceRefused,
+    ArraysRefused,
+    Fault,
+    TurnsSpent,
+    ReadFault,
+    WriteFault,
+    TooLong,
+)
+REFUSALS = {it.status: it for it in KINDS}
 
 
 def _frame(text: str, source: Source) -> Frame:
