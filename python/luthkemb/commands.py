@@ -48,7 +48,7 @@ class Command:
             raise ProgramFailed(status, output.decode(errors="replace")) from wrong
 
     def _words(self, source: Source, options: Entries, entries: Entries, folder: Path) -> list[str]:
-        """Gives the words of a call, whose files that are no one's yet are written to the folder."""
+        """Gives the words of a call; what has no file yet is written to the folder."""
         arrays = folder / "arrays.json"
         write_entries(arrays, entries)
         words = [self.word, source.file_in(folder), str(arrays)]
