@@ -7,12 +7,8 @@ mod case;
 #[cfg(test)]
 mod ends;
 #[cfg(test)]
-mod expressions;
-#[cfg(test)]
-mod faults;
-#[cfg(test)]
 mod limits;
 #[cfg(test)]
-mod statements;
+mod tables;
 #[cfg(test)]
 mod written;

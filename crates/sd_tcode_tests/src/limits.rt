@@ -1,91 +1,92 @@
-use crate::case::{Case, evaluated, ran, ran_plain, scalars, tasklet};
-use crate::written::{local, one, out, two};
-use sd_graph::{Act, OneSign, TwoSign, Value};
+use crate::case::{Case, add_wrong, scalars};
+use std::alloc::Global;
 use std::test::Fail;
 
-#[test]
-fn an_expression_of_64_levels(rt: HostRuntime) -> Result<(), Fail> {
-    let alloc = rt.alloc();
-    let case = scalars(&[(&[], &[3])]);
-    let mut leftmost = Value::Number(1);
-    let mut rightmost = Value::Number(1);
-    let mut signs = Value::Number(1);
-    for _ in 0..64 {
-        let input = Value::Input {
-            connector: 0,
-            at: Vec::new(alloc),
-        };
-        leftmost = two(alloc, TwoSign::Mul, leftmost, input)?;
-        let input = Value::Input {
-            connector: 0,
-            at: Vec::new(alloc),
-        };
-        rightmost = two(alloc, TwoSign::Sub, input, rightmost)?;
-        signs = one(alloc, OneSign::Neg, signs)?;
-    }
-    for (value, wanted) in [
-        (leftmost, "1=8733086111712066817 "),
-        (rightmost, "1=1 "),
-        (signs, "1=1 "),
-    ] {
-        let mut body = Vec::new(alloc);
-        body.push(Act::Out {
-            connector: 1,
-            at: Vec::new(alloc),
-            value,
-        })?;
-        let code = tasklet(alloc, &case, body)?;
-        assert_eq!(rt; evaluated(alloc, &case, &code)?.as_str(), wanted);
-        assert_eq!(rt; ran(alloc, &case, &code)?.as_str(), wanted);
-        assert_eq!(rt; ran_plain(alloc, &case, &code)?.as_str(), wanted);
+/// Adds a part so many times.
+fn repeat(text: &mut String, part: &str, count: u32) -> Result<(), Fail> {
+    for _ in 0..count {
+        text.push_str(part)?;
     }
     Ok(())
 }
 
-#[test]
-fn code_of_1024_lines(rt: HostRuntime) -> Result<(), Fail> {
-    let alloc = rt.alloc();
-    let case = Case {
+/// Expressions of 64 levels over the input 3: to the left, to the right, and signs alone.
+fn levels(alloc: Global) -> Result<String, Fail> {
+    let mut text = String::from_str(alloc, "o1 = 1")?;
+    repeat(&mut text, " i0 *", 64)?;
+    text.push_str(" -> 1=8733086111712066817\no1 =")?;
+    repeat(&mut text, " i0", 64)?;
+    text.push_str(" 1")?;
+    repeat(&mut text, " -", 64)?;
+    text.push_str(" -> 1=1\no1 = 1")?;
+    repeat(&mut text, " neg", 64)?;
+    text.push_str(" -> 1=1")?;
+    Ok(text)
+}
+
+/// Code of 1,024 lines.
+fn lines(alloc: Global) -> Result<String, Fail> {
+    let mut text = String::new(alloc);
+    repeat(&mut text, "l0 = l0 i0 +; ", 1023)?;
+    text.push_str("o1 = l0 -> 1=3069")?;
+    Ok(text)
+}
+
+/// A tasklet of 64 connectors: each of 32 outputs is the product of an input and its number.
+fn products(alloc: Global) -> Result<String, Fail> {
+    let mut text = String::from_str(alloc, "o63 = i0 0 *")?;
+    let mut effects = String::from_str(alloc, " -> 63=0")?;
+    for number in 1..32_u32 {
+        let (output, value) = (63_u32.wrapping_sub(number), number.wrapping_mul(7));
+        write!(&mut text, "; o{output} = i{number} {number} *")?;
+        write!(&mut effects, " {output}={value}")?;
+    }
+    text.push_str(effects.as_str())?;
+    Ok(text)
+}
+
+/// One input, and a local.
+fn one_local() -> Case<'static> {
+    Case {
         ins: &[(&[], &[3])],
         outs: &[&[]],
         variables: &[],
         locals: 1,
-    };
-    let mut body = Vec::new(alloc);
-    for _ in 0..1023 {
-        body.push(local(alloc, 0, "l0 i0 +")?)?;
+        plain: true,
     }
-    body.push(out(alloc, 1, &[], "l0")?)?;
-    let code = tasklet(alloc, &case, body)?;
-    assert_eq!(rt; evaluated(alloc, &case, &code)?.as_str(), "1=3069 ");
-    assert_eq!(rt; ran(alloc, &case, &code)?.as_str(), "1=3069 ");
-    assert_eq!(rt; ran_plain(alloc, &case, &code)?.as_str(), "1=3069 ");
-    Ok(())
+}
+
+const SEVEN: (&[u64], &[i64]) = (&[], &[7]);
+
+const SCALAR: &[u64] = &[];
+
+/// 32 inputs and 32 outputs.
+fn connectors() -> Case<'static> {
+    Case {
+        ins: &[SEVEN; 32],
+        outs: &[SCALAR; 32],
+        variables: &[],
+        locals: 0,
+        plain: true,
+    }
+}
+
+/// The lines that are wrong.
+fn wrong(alloc: Global) -> Result<String, Fail> {
+    let mut text = String::new(alloc);
+    add_wrong(
+        alloc,
+        &mut text,
+        &scalars(&[(&[], &[3])]),
+        levels(alloc)?.as_str(),
+    )?;
+    add_wrong(alloc, &mut text, &one_local(), lines(alloc)?.as_str())?;
+    add_wrong(alloc, &mut text, &connectors(), products(alloc)?.as_str())?;
+    Ok(text)
 }
 
 #[test]
-fn a_tasklet_of_64_connectors(rt: HostRuntime) -> Result<(), Fail> {
-    let alloc = rt.alloc();
-    let scalar: (&[u64], &[i64]) = (&[], &[7]);
-    let outs: [&[u64]; 32] = [&[]; 32];
-    let case = Case {
-        ins: &[scalar; 32],
-        outs: &outs,
-        variables: &[],
-        locals: 0,
-    };
-    let mut body = Vec::new(alloc);
-    let mut wanted = String::new(alloc);
-    for k in 0..32 {
-        let connector = 63_u32.wrapping_sub(k);
-        let text = format!(in alloc; "i{k} {k} *")?;
-        body.push(out(alloc, connector, &[], text.as_str())?)?;
-        let value = k.wrapping_mul(7);
-        write!(&mut wanted, "{connector}={value} ")?;
-    }
-    let code = tasklet(alloc, &case, body)?;
-    assert_eq!(rt; evaluated(alloc, &case, &code)?.as_str(), wanted.as_str());
-    assert_eq!(rt; ran(alloc, &case, &code)?.as_str(), wanted.as_str());
-    assert_eq!(rt; ran_plain(alloc, &case, &code)?.as_str(), wanted.as_str());
+fn limits_are_reached(rt: HostRuntime) -> Result<(), Fail> {
+    assert_eq!(rt; wrong(rt.alloc())?.as_str(), "");
     Ok(())
 }

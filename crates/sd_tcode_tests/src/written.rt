@@ -1,6 +1,6 @@
 //! Expressions written with their operators behind: `i0 i1 * 7 +`. `i0` is an input connector that is a
 //! scalar, `i0/2` the element of one at the two subscripts before it, `v0` a variable, `l0` a local.
-//! `value when other ?` is a conditional. What is missing counts as 0.
+//! `value when other ?` is a conditional. What is missing counts as 0. Lines set a local or an output.
 use sd_graph::{Act, OneSign, TwoSign, Value};
 use sd_list::NoMemory;
 use std::alloc::Global;
@@ -11,26 +11,33 @@ const BEFORE: [(&str, OneSign); 3] = [
     ("~", OneSign::Inv),
 ];
 
-pub(crate) const BETWEEN: [(&str, TwoSign); 18] = [
-    ("or", TwoSign::Or),
-    ("and", TwoSign::And),
-    ("<", TwoSign::Less),
-    ("<=", TwoSign::LessEqual),
-    (">", TwoSign::Greater),
-    (">=", TwoSign::GreaterEqual),
-    ("==", TwoSign::Equal),
-    ("!=", TwoSign::Differ),
-    ("|", TwoSign::BitOr),
-    ("^", TwoSign::BitXor),
-    ("&", TwoSign::BitAnd),
-    ("+", TwoSign::Add),
-    ("-", TwoSign::Sub),
-    ("*", TwoSign::Mul),
-    ("//", TwoSign::FloorDiv),
-    ("%", TwoSign::Mod),
-    ("min", TwoSign::Min),
-    ("max", TwoSign::Max),
-];
+/// The words between two expressions.
+pub(crate) const BETWEEN: &str = "or and < <= > >= == != | ^ & + - * // % min max";
+
+/// The sign of the word of this place among them.
+fn between(place: usize) -> Option<TwoSign> {
+    match place {
+        0 => Some(TwoSign::Or),
+        1 => Some(TwoSign::And),
+        2 => Some(TwoSign::Less),
+        3 => Some(TwoSign::LessEqual),
+        4 => Some(TwoSign::Greater),
+        5 => Some(TwoSign::GreaterEqual),
+        6 => Some(TwoSign::Equal),
+        7 => Some(TwoSign::Differ),
+        8 => Some(TwoSign::BitOr),
+        9 => Some(TwoSign::BitXor),
+        10 => Some(TwoSign::BitAnd),
+        11 => Some(TwoSign::Add),
+        12 => Some(TwoSign::Sub),
+        13 => Some(TwoSign::Mul),
+        14 => Some(TwoSign::FloorDiv),
+        15 => Some(TwoSign::Mod),
+        16 => Some(TwoSign::Min),
+        17 => Some(TwoSign::Max),
+        _ => None,
+    }
+}
 
 /// The sign of this word among those before an expression.
 fn sign_before(word: &str) -> Option<OneSign> {
@@ -42,14 +49,10 @@ fn sign_before(word: &str) -> Option<OneSign> {
     None
 }
 
-/// The sign of this word among those between two expressions.
-fn sign_between(word: &str) -> Option<TwoSign> {
-    for (name, sign) in &BETWEEN {
-        if *name == word {
-            return Some(*sign);
-        }
-    }
-    None
+/// The sign of this word between two expressions.
+pub(crate) fn sign_between(word: &str) -> Option<TwoSign> {
+    let place = BETWEEN.split(' ').position(|name| name == word)?;
+    between(place)
 }
 
 /// A letter, the number behind it, and the number behind a stroke.
@@ -130,69 +133,99 @@ fn leaf(alloc: Global, word: &str, stack: &mut Vec<Value>) -> Result<Value, NoMe
     }
 }
 
+/// What stands for a word: a name or a number, or an operator over what stands before it.
+fn read(alloc: Global, word: &str, stack: &mut Vec<Value>) -> Result<Value, NoMemory> {
+    if let Some(sign) = sign_between(word) {
+        let right = last(stack);
+        return two(alloc, sign, last(stack), right);
+    }
+    if let Some(sign) = sign_before(word) {
+        return one(alloc, sign, last(stack));
+    }
+    if word == "?" {
+        return choice(alloc, stack);
+    }
+    leaf(alloc, word, stack)
+}
+
+/// A conditional over the three values before it.
+fn choice(alloc: Global, stack: &mut Vec<Value>) -> Result<Value, NoMemory> {
+    let other = Box::new(alloc, last(stack))?;
+    let when = Box::new(alloc, last(stack))?;
+    let value = Box::new(alloc, last(stack))?;
+    Ok(Value::Choice { value, when, other })
+}
+
 /// The expression of a text.
 pub(crate) fn value(alloc: Global, text: &str) -> Result<Value, NoMemory> {
     let mut stack = Vec::new(alloc);
     for word in text.split_ascii_whitespace() {
-        let next = if let Some(sign) = sign_between(word) {
-            let right = last(&mut stack);
-            let left = last(&mut stack);
-            two(alloc, sign, left, right)?
-        } else if let Some(sign) = sign_before(word) {
-            one(alloc, sign, last(&mut stack))?
-        } else if word == "?" {
-            let other = last(&mut stack);
-            let when = last(&mut stack);
-            let chosen = last(&mut stack);
-            Value::Choice {
-                value: Box::new(alloc, chosen)?,
-                when: Box::new(alloc, when)?,
-                other: Box::new(alloc, other)?,
-            }
-        } else {
-            leaf(alloc, word, &mut stack)?
-        };
+        let next = read(alloc, word, &mut stack)?;
         stack.push(next)?;
     }
     Ok(last(&mut stack))
 }
 
-/// Sets a local.
-pub(crate) fn local(alloc: Global, number: u32, text: &str) -> Result<Act, NoMemory> {
-    Ok(Act::Local {
-        local: number,
-        value: value(alloc, text)?,
-    })
+/// The subscripts of a text, parted by commas and ended by a bracket.
+fn subscripts(alloc: Global, text: &str) -> Result<Vec<Value>, NoMemory> {
+    let mut at = Vec::new(alloc);
+    for one in text.trim_end_matches(']').split(',') {
+        at.push(value(alloc, one)?)?;
+    }
+    Ok(at)
 }
 
-/// Sets an output connector at these subscripts.
-pub(crate) fn out(
-    alloc: Global,
-    connector: u32,
-    subscripts: &[&str],
-    text: &str,
-) -> Result<Act, NoMemory> {
-    let mut at = Vec::new(alloc);
-    for subscript in subscripts {
-        at.push(value(alloc, subscript)?)?;
+/// A line that sets a local or an output connector: `l0 = ..`, `o2 = ..`, `o2[.., ..] = ..`.
+pub(crate) fn act(alloc: Global, line: &str) -> Result<Act, NoMemory> {
+    let (target, text) = line.trim().split_once(" = ").unwrap_or((line, ""));
+    let value = value(alloc, text)?;
+    let (name, at) = match target.split_once('[') {
+        Some((name, text)) => (name, subscripts(alloc, text)?),
+        None => (target, Vec::new(alloc)),
+    };
+    let Name { letter, number, .. } = name_of(name);
+    if letter == b'l' {
+        return Ok(Act::Local {
+            local: number,
+            value,
+        });
     }
     Ok(Act::Out {
-        connector,
+        connector: number,
         at,
-        value: value(alloc, text)?,
+        value,
     })
 }
 
-/// A branch.
-pub(crate) fn when(
-    alloc: Global,
-    text: &str,
-    body: Vec<Act>,
-    other: Vec<Act>,
-) -> Result<Act, NoMemory> {
+/// Lines one after another, parted by this sign.
+fn acts(alloc: Global, text: &str, sign: &str) -> Result<Vec<Act>, NoMemory> {
+    let mut acts = Vec::new(alloc);
+    for line in text.split(sign) {
+        acts.push(act(alloc, line)?)?;
+    }
+    Ok(acts)
+}
+
+/// A branch: `.. then .. also .. else ..`.
+fn branch(alloc: Global, text: &str) -> Result<Act, NoMemory> {
+    let (when, blocks) = text.split_once(" then ").unwrap_or((text, ""));
+    let (body, other) = blocks.split_once(" else ").unwrap_or((blocks, ""));
     Ok(Act::When {
-        when: value(alloc, text)?,
-        body,
-        other,
+        when: value(alloc, when)?,
+        body: acts(alloc, body, " also ")?,
+        other: acts(alloc, other, " also ")?,
     })
+}
+
+/// The body of a text: lines parted by semicolons, where one that begins with `when` is a branch.
+pub(crate) fn body(alloc: Global, text: &str) -> Result<Vec<Act>, NoMemory> {
+    let mut body = Vec::new(alloc);
+    for line in text.split(';') {
+        let next = match line.trim().strip_prefix("when ") {
+            Some(rest) => branch(alloc, rest)?,
+            None => act(alloc, line)?,
+        };
+        body.push(next)?;
+    }
+    Ok(body)
 }

@@ -1,0 +1,11 @@
+//! Tests of the top call, in a crate of their own so that `sd_tool` is proved without them.
+#![tactic(auto)]
+
+#[cfg(test)]
+mod call;
+#[cfg(test)]
+mod devices;
+#[cfg(test)]
+mod rows;
+#[cfg(test)]
+mod sources;
