@@ -1,0 +1,6 @@
+pub mod HoldingLemmas
+pub mod InPlaceLemmas
+pub mod UpwardsLemmas
+pub mod InForceLemmas
+pub mod LinkedLemmas
+pub mod ValidLemmas

@@ -1,0 +1,17 @@
+pub mod Places
+pub mod Failing
+pub mod Parts
+pub mod NamesInForce
+pub mod CodeNames
+pub mod Dimensions
+pub mod Transitions
+pub mod StreamUse
+pub mod Shapes
+pub mod NestedLinks
+pub mod MovedShapes
+pub mod CodeSize
+pub mod NodeCounts
+pub mod Ranks
+pub mod SizesGone
+pub mod WithinLimits
+pub mod Valid
