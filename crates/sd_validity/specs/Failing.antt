@@ -1,5 +1,5 @@
 -- The first place of a graph at which a rule fails.
-use Rattle.std.specs.Prelude.{◌≡◌, ℕ, List, [], ◌∷◌, ◌++◌, Option, Some, None, Bool, if◌then◌else◌}
+use Rattle.std.specs.Prelude.{◌≡◌, ℕ, List, [], ◌∷◌, ◌++◌, Option, Some, None, Bool, true, false, if◌then◌else◌}
 use Rattle.sd_graph.specs.PlainTree.{GraphTree}
 use Rattle.sd_validity.specs.Places.{Place, all_places}
 
@@ -19,3 +19,13 @@ first_failing rule tree = failing rule [] (all_places tree)
 -- a rule holds of a graph
 abbrev pub Holds : Rule → GraphTree → Type 0
 Holds rule tree = first_failing rule tree ≡ None
+
+-- the first place at which a rule fails, with those before it, at each of which the rule holds, and those behind it
+pub record IsFirst (rule : Rule) (places : List Place) (path : List ℕ) : Type 0 where
+  pub passed : List Place
+  pub place : Place
+  pub rest : List Place
+  pub split : places ≡ passed ++ place ∷ rest
+  pub holds : (before : List Place) (other : Place) (others : List Place) → passed ≡ before ++ other ∷ others → rule before other ≡ true
+  pub fails : rule passed place ≡ false
+  pub told : path ≡ place.path

@@ -1,16 +1,16 @@
 //! What validity gives: each law is a function that does nothing.
-ghost use Rattle.std.specs.Prelude.{◌≡◌, ℕ, List, Some};
+ghost use Rattle.std.specs.Prelude.{◌≡◌, ℕ, List, [], None, Some};
 ghost use Rattle.sd_graph.specs.PlainTree.{GraphTree};
 ghost use Rattle.sd_graph.specs.InForce.{AreContainersInForce};
 ghost use Rattle.sd_graph.specs.InPlace.{HasStreamsInPlace, IsLinked};
 ghost use Rattle.sd_graph.specs.Upwards.{LeadsUpwards};
-ghost use Rattle.sd_validity.specs.Failing.{Holds};
+ghost use Rattle.sd_validity.specs.Failing.{Holds, IsFirst, Rule, failing};
+ghost use Rattle.sd_validity.specs.Places.{Place};
 ghost use Rattle.sd_validity.specs.NamesInForce.{rule_1};
 ghost use Rattle.sd_validity.specs.Transitions.{rule_3};
 ghost use Rattle.sd_validity.specs.StreamUse.{rule_4};
 ghost use Rattle.sd_validity.specs.NestedLinks.{rule_5};
 ghost use Rattle.sd_validity.specs.Valid.{IsValid, invalidity};
-ghost use Rattle.std.specs.Prelude.{None};
 
 /// Each container that is named in a graph, and in each graph nested in it, is in force there, where
 /// the rule of names holds.
@@ -47,4 +47,10 @@ pub fn a_valid_graph_is_as_its_laws_ask()
 pub fn a_graph_is_valid_where_no_rule_fails()
     ensures valid { (tree : GraphTree) → invalidity tree ≡ None → IsValid tree }
     ensures none { (tree : GraphTree) → IsValid tree → invalidity tree ≡ None }
+{}
+
+/// The path that is told of a rule is that of the first place at which it fails: at each one before
+/// it the rule holds.
+pub fn the_place_that_is_told_is_the_first_that_fails()
+    ensures { (rule : Rule) (places : List Place) (path : List ℕ) → failing rule [] places ≡ Some path → IsFirst rule places path }
 {}

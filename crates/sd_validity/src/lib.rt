@@ -13,4 +13,5 @@ pub use laws::{
     a_graph_is_valid_where_no_rule_fails, a_graph_with_its_names_names_what_is_in_force,
     a_graph_with_its_streams_has_them_in_place, a_graph_with_right_links_is_linked,
     a_graph_with_right_transitions_leads_upwards, a_valid_graph_is_as_its_laws_ask,
+    the_place_that_is_told_is_the_first_that_fails,
 };
