@@ -4,8 +4,7 @@ use Rattle.sd_range.specs.declared.affine.Affine.{Affine}
 use Rattle.sd_range.specs.declared.range.Range.{Range}
 use Rattle.sd_range.specs.declared.subset.Dim.{Dim}
 use Rattle.sd_range.specs.declared.subset.Dim.TheVariants.{Index, Span}
-use Rattle.sd_num.specs.declared.resolution.Resolution.{Resolution}
-use Rattle.sd_graph.specs.PlainTree.{ValueTree, literal, variable, two, no_value, ActTrees, assign, no_act, and_act, TaskletTree, GuardTree, ExitTree, KindTree, task, ItemTrees, no_item, and_item, StateTrees, no_state, and_state, GraphTree, graph}
+use Rattle.sd_graph.specs.PlainTree.{ValueTree, literal, variable, two, no_value, ActTrees, assign, no_act, and_act, TaskletTree, GuardTree, ExitTree, KindTree, task, ItemTrees, no_item, and_item}
 use Rattle.sd_graph.specs.declared.container.Container.{Container}
 use Rattle.sd_graph.specs.declared.container.ContainerKind.{ContainerKind}
 use Rattle.sd_graph.specs.declared.link.Link.{Link}

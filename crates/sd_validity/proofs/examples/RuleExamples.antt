@@ -1,12 +1,11 @@
 -- A valid graph with a thing of each kind, and each rule broken by hand, with the place that is told.
-use Rattle.std.proofs.Common.{◌≡◌, ℕ, ℤ, pos, negsuc, List, [], ◌∷◌, Option, Some, None, Bool, true, false, refl}
+use Rattle.std.proofs.Common.{◌≡◌, ℕ, pos, List, [], ◌∷◌, Option, Some, None, true, false, refl}
 use Rattle.sd_num.specs.declared.resolution.Resolution.TheVariants.{Sum}
 use Rattle.sd_range.specs.declared.affine.Affine.{Affine}
-use Rattle.sd_range.specs.declared.subset.Dim.{Dim}
 use Rattle.sd_range.specs.declared.subset.Dim.TheVariants.{Index, Span}
-use Rattle.sd_graph.specs.PlainTree.{ValueTree, literal, variable, local, input, one, two, choice, no_value, and_value, set_local, assign, branch, ActTrees, no_act, and_act, ExitTree, KindTree, task, map_scope, consume_scope, nested_graph, reduction, copy, ItemTrees, no_item, and_item, StateTrees, no_state, and_state, GraphTree, graph}
+use Rattle.sd_graph.specs.PlainTree.{literal, local, input, no_value, set_local, assign, branch, no_act, and_act, ExitTree, KindTree, task, map_scope, consume_scope, nested_graph, reduction, copy, ItemTrees, no_item, and_item, StateTrees, no_state, and_state, GraphTree, graph}
 use Rattle.sd_graph.specs.declared.container.Container.{Container}
-use Rattle.sd_graph.specs.declared.container.ContainerKind.TheVariants.{Argument, Transient, Private, Stream, PrivateStream}
+use Rattle.sd_graph.specs.declared.container.ContainerKind.TheVariants.{Argument, Transient, Private, Stream}
 use Rattle.sd_validity.specs.Valid.{invalidity}
 use Rattle.sd_validity.proofs.examples.ExampleParts.{number, plus, range, span, container, link, code, giving, below, exit, one_item, writing}
 
@@ -136,8 +135,8 @@ an_output_that_is_read = refl
 
 a_local_behind_its_block :
     told (task (code [] (0 ∷ []) [] 1
-        (and_act (branch (literal (pos 1)) (and_act (set_local 0 (literal (pos 7))) no_act) no_act) (and_act (assign 0 no_value (local 0)) no_act)))
-        [] (link 0 (Index (number (pos 0)) ∷ []) ∷ [])) ≡ at_item 2
+    (and_act (branch (literal (pos 1)) (and_act (set_local 0 (literal (pos 7))) no_act) no_act) (and_act (assign 0 no_value (local 0)) no_act)))
+    [] (link 0 (Index (number (pos 0)) ∷ []) ∷ [])) ≡ at_item 2
 a_local_behind_its_block = refl
 
 -- rule 3: transitions of the loop
