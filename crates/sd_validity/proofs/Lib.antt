@@ -4,5 +4,5 @@ pub mod UpwardsLemmas
 pub mod InForceLemmas
 pub mod LinkedLemmas
 pub mod ValidLemmas
-pub mod examples
 pub mod FirstLemmas
+pub mod examples

@@ -15,3 +15,4 @@ pub mod Ranks
 pub mod SizesGone
 pub mod WithinLimits
 pub mod Valid
+pub mod PlaceOf

@@ -96,6 +96,13 @@ abbrev mutual
       graph_place (graph name containers arguments variables symbols states) path depth
       ∷ state_places states (graph_place (graph name containers arguments variables symbols states) path depth) 0
 
+-- those of an item, and of a state, alone
+abbrev pub places_at_item : (around : Place) → Scopes → (number : ℕ) → KindTree → List Place
+places_at_item around scopes number kind = item_place around scopes number kind ∷ places_in kind (item_place around scopes number kind)
+
+abbrev pub places_at_state : (around : Place) → (number : ℕ) → ItemTrees → List ExitTree → List Place
+places_at_state around number items exits = state_place around number items exits ∷ item_places items (state_place around number items exits) no_scopes 0
+
 -- the places of a whole graph
 abbrev pub all_places : GraphTree → List Place
 all_places tree = places_of tree [] 0
