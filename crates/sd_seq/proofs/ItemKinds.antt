@@ -15,10 +15,6 @@ use Rattle.sd_graph.specs.declared.graph.ItemKind.TheFolds.{fold-roll-ItemKind}
 use Rattle.sd_graph.specs.declared.link.Link.{Link}
 use Rattle.sd_graph.specs.declared.tasklet.Tasklet.{Tasklet}
 
-pub task_kind : (code : Tasklet) (ins outs : Vec Link Global) → kind_tree (shape.Task code ins outs) ≡ task (tasklet_tree code) ins.items outs.items
-unfolding shape.roll-ItemKind denote.Hole.Carrier.roll
-task_kind code ins outs = fold-roll-ItemKind KindTree PlainItem GraphTree PlainState kind_step item_step graph_step state_step (layer.Task code ins outs)
-
 pub map_kind : (params : Vec (ℕ × Range) Global) (private : Vec ℕ Global) (body : Vec Item Global) → kind_tree (shape.Map params private body) ≡ map_scope params.items private.items (item_trees body.items)
 unfolding shape.roll-ItemKind denote.Hole.Carrier.roll
 map_kind params private body = fold-roll-ItemKind KindTree PlainItem GraphTree PlainState kind_step item_step graph_step state_step (layer.Map params private body)

@@ -1,9 +1,7 @@
-pub mod Comes
 pub mod Elements
 pub mod ItemKinds
 pub mod Items
 pub mod NestedRuns
-pub mod Points
 pub mod States
 pub mod Transitions
 pub mod WholeRuns

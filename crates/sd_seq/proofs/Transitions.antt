@@ -29,17 +29,13 @@ use Rattle.sd_machine.specs.declared.end.End.TheVariants.{Finished, Fault, OutOf
 use Rattle.sd_leaves.specs.Next.{IsNext}
 use Rattle.sd_leaves.specs.declared.exit.Next.{Next}
 use Rattle.sd_leaves.specs.declared.exit.Next.TheVariants.{Nowhere, By, Fault as Fault_of_exit}
-use Rattle.sd_seq.proofs.Comes.{IsLeft}
+use Rattle.sd_rows.proofs.Comes.{IsLeft}
 use Rattle.sd_seq.proofs.States.{exits_of_graph, state_stop, exit_nowhere, exit_fault, exit_spent, exit_on, items_of_state_lead, measure, measure_falls}
 
 -- ---- states and exits of the code
 
 pub state_opened_here : (state : State) → state_tree state ≡ (item_trees (out-State state).items.items, map exit_tree (out-State state).exits.items)
 state_opened_here = state_opened
-
--- the containers of a graph, in the code and in the tree
-pub containers_in : (g : Sdfg) → map named_container (out-Sdfg g).containers.entries ≡ containers_of (graph_tree g)
-containers_in g = sym (ap containers_of (graph_opened g))
 
 items_in : (states : List State) (state : ℕ) (here : State) → state < length states → here ≡ get_or states state here →
     items_at (state_trees states) state ≡ (state_tree here).0

@@ -15,6 +15,7 @@ use sd_list::NoMemory;
 use sd_machine::{End, Machine};
 use sd_mem::Memory;
 use sd_range::Range;
+use sd_rows::run_rows;
 use sd_scope::{Base, Scope, checked_points, station, values_behind};
 use std::alloc::Global;
 
@@ -44,7 +45,7 @@ fn run_items(
 
 /// One item with its line.
 #[cycle(run)]
-#[tactic(auto, using(crate::proofs::Items::item_opened))]
+#[tactic(auto, using(sd_rows::proofs::Bodies::item_opened))]
 fn run_item(
     alloc: Global,
     item: &Item,
@@ -118,7 +119,7 @@ fn run_kind(
     }
 }
 
-/// The body of a map for each point.
+/// The body of a map for each point, row by row where it is one tasklet.
 #[cycle(run)]
 fn run_map(
     alloc: Global,
@@ -133,6 +134,10 @@ fn run_map(
     requires leads { ItemsLeadUpwards (item_trees body.now) }
     ensures { IfOk result (λ end. IsEnd (map_coming (item_trees body.now) params.now private.now (context_of (graph_tree graph.now) base.now scope.now) machine.old) machine.old end machine.new) }
 {
+    let rows = run_rows(alloc, body, params, private, graph, base, scope, machine)?;
+    if let Some(end) = rows {
+        return Ok(end);
+    }
     let mut points = checked_points(alloc, params, &scope.values)?;
     let mut point_scope = scope.inside(alloc, private)?;
     while points.next() {

@@ -10,15 +10,18 @@ use Rattle.sd_graph.specs.declared.graph.ItemKind.TheViews.{out-Sdfg}
 use Rattle.sd_graph.specs.TreeParts.{containers_of}
 use Rattle.sd_graph.specs.Unfold.{run_memory}
 use Rattle.sd_machine.specs.ComesTo.{IsEnd}
-use Rattle.sd_machine.specs.Coming.{kind_coming, state_context, from_state}
+use Rattle.sd_work.specs.BigStep.{Reached}
+use Rattle.sd_machine.specs.Coming.{kind_coming, map_coming, points_coming, state_context, from_state}
 use Rattle.sd_scope.specs.Standing.{context_of, opening_reach, IsInside}
-use Rattle.sd_seq.proofs.Comes.{as_finished}
+use Rattle.sd_rows.proofs.Comes.{IsLeft, as_finished}
 use Rattle.sd_seq.proofs.Items.{item_more, item_stop, item_leads}
 use Rattle.sd_seq.proofs.ItemKinds.{map_kind, consume_kind}
-use Rattle.sd_seq.proofs.Points.{points_begin, point_first, point_ends, point_more, point_stop}
+use Rattle.sd_rows.proofs.Points.{points_begin, point_first, point_ends, point_more, point_stop}
 use Rattle.sd_seq.proofs.Elements.{take_there, oldest_there, no_value, takes_end, element_ends, element_more, element_stop}
 use Rattle.sd_seq.proofs.NestedRuns.{nested_ends}
-use Rattle.sd_seq.proofs.Transitions.{containers_in, items_lead, graph_stop, graph_nowhere, graph_fault, graph_spent, graph_on, graph_falls, graph_over, as_many, values_begin}
+use Rattle.sd_rows.proofs.Bodies.{containers_in}
+use Rattle.sd_rows.proofs.Matched.{none_so}
+use Rattle.sd_seq.proofs.Transitions.{items_lead, graph_stop, graph_nowhere, graph_fault, graph_spent, graph_on, graph_falls, graph_over, as_many, values_begin}
 use denote.Param.Weighed.{most, at_most}
 use Rattle.sd_graph.proofs.graph.Item.TheLaws.{the_size}
 use Rattle.sd_graph.proofs.graph.State.TheLaws.{the_size as state_size}
@@ -56,7 +59,10 @@ run_kind-returns-in-Consume t c =
 
 pub run_map-loop-alloc-init : goal.run_map-loop-alloc-init
 run_map-loop-alloc-init t c = record {
-  left = points_begin (item_trees c.args.body.now) c.args.params.now c.args.private.now (context_of (graph_tree c.args.graph.now) c.args.base.now c.args.scope.now) c.args.machine.now c.in_ok-points.points c.in_ok-points.ensures;
+  left = subst (λ (machine : Reached). IsLeft (map_coming (item_trees c.args.body.now) c.args.params.now c.args.private.now (context_of (graph_tree c.args.graph.now) c.args.base.now c.args.scope.now) c.args.machine.now) c.args.machine.now
+      (λ most beside. points_coming (item_trees c.args.body.now) c.args.params.now c.args.private.now (context_of (graph_tree c.args.graph.now) c.args.base.now c.args.scope.now) c.in_ok-points.points.left machine most) machine)
+      (sym (none_so _ _ c.in_ok-rows.rows c.in_default.is c.in_ok-rows.ensures))
+      (points_begin (item_trees c.args.body.now) c.args.params.now c.args.private.now (context_of (graph_tree c.args.graph.now) c.args.base.now c.args.scope.now) c.args.machine.now c.in_ok-points.points c.in_ok-points.ensures);
   inside = c.in_ok-point_scope.ensures;
 }
 
@@ -73,8 +79,8 @@ run_map-loop-alloc-preserved t c = record {
   inside = c.in_ok-at_point.ensures.inside c.args.private.now c.loop-alloc.invariant.inside;
 }
 
-pub run_map-returns-in_default : goal.run_map-returns-in_default
-run_map-returns-in_default t c =
+pub run_map-returns-in_default-end : goal.run_map-returns-in_default-end
+run_map-returns-in_default-end t c =
     point_stop (item_trees c.args.body.now) c.args.params.now c.args.private.now (context_of (graph_tree c.args.graph.now) c.args.base.now c.args.scope.now) c.at.result.now
     _ _ _ _ _ _ (point_first c.loop-alloc.points c.next.new.self c.at.result.now c.loop-alloc-test.ensures.step c.at.ensures) c.loop-alloc.invariant.left c.in_ok-end.end
     (point_ends (item_trees c.args.body.now) c.args.params.now c.args.private.now (context_of (graph_tree c.args.graph.now) c.args.base.now c.args.scope.now) c.at.result.now
@@ -82,7 +88,7 @@ run_map-returns-in_default t c =
     (containers_in c.args.graph.now) c.in_ok-own.ensures.contents
     (c.in_ok-at_point.ensures.context (graph_tree c.args.graph.now) c.args.base.now c.args.private.now c.loop-alloc.invariant.inside)
     c.in_ok-enter.ensures.memories c.in_ok-enter.ensures.turns c.in_ok-end.ensures c.leave.ensures.memories c.leave.ensures.turns)
-    c.in_default.not-Finished
+    c.in_default-end.not-Finished
 
 pub run_nested-returns : goal.run_nested-returns
 run_nested-returns t c =

@@ -4,7 +4,7 @@ use Rattle.sd_graph.specs.TreeParts.{containers_of}
 use Rattle.sd_machine.specs.Coming.{items_coming, map_coming, points_coming, from_state}
 use Rattle.sd_scope.specs.Standing.{context_of, opening_reach, IsInside}
 use Rattle.sd_seq.specs.Taking.{consume_coming, takes_coming}
-use Rattle.sd_seq.proofs.Comes.{IsLeft}
+use Rattle.sd_rows.proofs.Comes.{IsLeft}
 use Rattle.sd_seq.proofs.States.{measure}
 use Rattle.sd_seq.proofs.run.+run.Given as goal
 
@@ -15,7 +15,7 @@ invariant-run_items-loop-item l =
 
 abbrev pub invariant-run_map-loop-alloc : goal.invariant-run_map-loop-alloc
 invariant-run_map-loop-alloc l = record {
-  left : IsLeft (map_coming (item_trees l.body) l.params l.private (context_of (graph_tree l.graph) l.base l.scope) l.initial.machine) l.initial.machine
+  left : IsLeft (map_coming (item_trees l.body) l.params l.private (context_of (graph_tree l.graph) l.base l.scope) l.fn.machine) l.fn.machine
       (λ most beside. points_coming (item_trees l.body) l.params l.private (context_of (graph_tree l.graph) l.base l.scope) l.points.left l.machine most) l.machine;
   inside : IsInside l.private l.scope l.point_scope;
 }

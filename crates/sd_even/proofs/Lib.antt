@@ -1,0 +1,9 @@
+pub mod Distances
+pub mod Lines
+pub mod Between
+pub mod Found
+pub mod LastParameter
+pub mod Counted
+pub mod Scalar
+pub mod Row
+pub mod Reached

@@ -1,0 +1,13 @@
+use Rattle.std.proofs.Common.{◌≡◌, ℤ, List, [], ◌∷◌, ◌++◌, OnOk, ap, ◌∙◌, subst, rules, FitsSigned}
+use Rattle.std.specs.Int.{w128}
+use Rattle.std.proofs.lemmas.Int.{to_z-of_z}
+use Rattle.sd_graph.specs.Unfold.{at_point}
+use Rattle.sd_scope.specs.Standing.{context_of}
+use Rattle.sd_rows.proofs.steps.Steps.go_to.Goals as goal
+
+pub returns-clause-context : goal.returns-clause-context
+returns-clause-context c tree base private inside =
+    let fits : FitsSigned w128 c.in_ok-value.value = search rules in
+    subst (λ (point : List ℤ). OnOk c.at_point.result (context_of tree base c.at_point.new.self ≡ at_point (context_of tree base c.args.outer.now) c.args.params.now private point))
+    (c.as_slice.ensures.value ∙ c.in_ok-point.ensures ∙ ap (λ value. c.args.row.now ++ value ∷ []) (to_z-of_z w128 c.in_ok-value.value fits ∙ c.in_ok-value.ensures))
+    (c.at_point.ensures.context tree base private inside)

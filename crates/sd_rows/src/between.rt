@@ -1,0 +1,250 @@
+//! A row from its ends.
+ghost use Rattle.std.specs.Prelude.{◌≡◌, ℕ, ◌≤◌, ◌<◌, ◌+◌, ◌-◌, ℤ, List, [], ◌∷◌, ◌++◌, map, length, true, Some, IfOk};
+ghost use Rattle.std.specs.Option.{MatchOption};
+ghost use Rattle.std.specs.Bool.{⊤};
+ghost use Rattle.std.specs.List.{AllByRecursion};
+ghost use Rattle.sd_num.specs.Wrapped.{wrapped};
+ghost use Rattle.sd_range.specs.Affine.{variable_value};
+ghost use Rattle.sd_graph.specs.TreeFold.{graph_tree, tasklet_tree};
+ghost use Rattle.sd_graph.specs.TreeParts.{containers_of};
+ghost use Rattle.sd_graph.specs.ContainerParts.{container_at, is_stream as is_stream_kind};
+ghost use Rattle.sd_graph.specs.Context.{Context, link_element};
+ghost use Rattle.sd_graph.specs.Unfold.{pending_of};
+ghost use Rattle.sd_tcode.specs.Outputs.{output_effects};
+ghost use Rattle.sd_scope.specs.Standing.{context_of};
+ghost use Rattle.sd_even.specs.Even.{is_scalar};
+ghost use Rattle.sd_graph.specs.declared.link.Link.{Link as LinkNow};
+ghost use Rattle.sd_rows.specs.declared.steps.Steps.{Steps as StepsNow};
+ghost use Rattle.sd_rows.specs.Along.{IsAlong, IsFromTo};
+ghost use Rattle.sd_rows.specs.Row.{IsAt, order_of, reference_on, value_on, write_on};
+
+use crate::row::{Row, Write};
+use crate::spacing::Spaced;
+use crate::steps::Steps;
+use crate::track::Track;
+use sd_graph::{ContainerKind, Link, Sdfg, Tasklet};
+use sd_list::NoMemory;
+use sd_num::wrap;
+use sd_range::Env;
+use sd_scope::{Base, Scope, link_cell};
+use std::alloc::Global;
+
+/// The row between two scopes that stand at its ends, so many points apart; `None` where an access is outside at one of them.
+pub(crate) fn row_between(
+    alloc: Global,
+    tasklet: &Tasklet,
+    ins: &[Link],
+    outs: &[Link],
+    order: &[u32],
+    steps: &Steps,
+    gaps: u32,
+    graph: &Sdfg,
+    base: &Base,
+    first: &Scope,
+    last: &Scope,
+) -> Result<Option<Row>, NoMemory>
+    requires scalars { AllByRecursion (λ link. is_scalar link.memlet.subset.dims ≡ true) (ins.now ++ outs.now) }
+    ensures order { IfOk result (λ row. MatchOption row ⊤ (λ row. order_of row ≡ order.now)) }
+    ensures reads { IfOk result (λ row. MatchOption row ⊤ (λ row. length row.reads.items ≡ length ins.now)) }
+    ensures variables { IfOk result (λ row. MatchOption row ⊤ (λ row. length row.variables.items ≡ length (tasklet_tree tasklet.now).variables)) }
+    ensures at { IfOk result (λ row. MatchOption row ⊤ (λ row. (values : List ℤ) (context : ℕ → Context)
+        → IsFromTo steps.now gaps (context_of (graph_tree graph.now) base.now first.now) (context_of (graph_tree graph.now) base.now last.now) values context → (k : ℕ) → k ≤ gaps → IsAt (tasklet_tree tasklet.now) ins.now outs.now row k (context k))) }
+{
+    let Some(reads) = tracks_of(alloc, ins, gaps, graph, base, first, last)? else {
+        return Ok(None);
+    };
+    let variables = values_of_variables(alloc, tasklet.variables.as_slice(), steps, &first.values)?;
+    let Some(writes) = writes_of(
+        alloc,
+        order,
+        ins.len(),
+        outs,
+        gaps,
+        graph,
+        base,
+        first,
+        last,
+    )?
+    else {
+        return Ok(None);
+    };
+    Ok(Some(Row {
+        reads,
+        variables,
+        writes,
+    }))
+}
+
+/// The track of a link of one element.
+fn track_of(
+    alloc: Global,
+    link: &Link,
+    gaps: u32,
+    graph: &Sdfg,
+    base: &Base,
+    first: &Scope,
+    last: &Scope,
+) -> Result<Option<Track>, NoMemory>
+    ensures { IfOk result (λ track. MatchOption track ⊤ (λ track. (steps : StepsNow) (values : List ℤ) (context : ℕ → Context)
+        → IsFromTo steps gaps (context_of (graph_tree graph.now) base.now first.now) (context_of (graph_tree graph.now) base.now last.now) values context → (k : ℕ) → k ≤ gaps → link_element (context k) link.now [] ≡ Some (reference_on track k))) }
+{
+    let Some(begin) = link_cell(alloc, graph, base, first, link, &[])? else {
+        return Ok(None);
+    };
+    let Some(end) = link_cell(alloc, graph, base, last, link, &[])? else {
+        return Ok(None);
+    };
+    match Spaced::between(begin.element, end.element, gaps) {
+        Some(elements) => Ok(Some(Track {
+            station: begin.station,
+            elements,
+        })),
+        None => Ok(None),
+    }
+}
+
+/// The tracks of links of one element each.
+fn tracks_of(
+    alloc: Global,
+    links: &[Link],
+    gaps: u32,
+    graph: &Sdfg,
+    base: &Base,
+    first: &Scope,
+    last: &Scope,
+) -> Result<Option<Vec<Track>>, NoMemory>
+    ensures tracks { IfOk result (λ tracks. MatchOption tracks ⊤ (λ tracks. (steps : StepsNow) (values : List ℤ) (context : ℕ → Context)
+        → IsFromTo steps gaps (context_of (graph_tree graph.now) base.now first.now) (context_of (graph_tree graph.now) base.now last.now) values context → (k : ℕ) → k ≤ gaps → map (λ link. link_element (context k) link []) links.now ≡ map (λ track. Some (reference_on track k)) tracks.items)) }
+    ensures count { IfOk result (λ tracks. MatchOption tracks ⊤ (λ tracks. length tracks.items ≡ length links.now)) }
+{
+    let mut tracks = Vec::with_capacity(alloc, links.len())?;
+    for link in links {
+        let Some(track) = track_of(alloc, link, gaps, graph, base, first, last)? else {
+            return Ok(None);
+        };
+        tracks.push(track)?;
+    }
+    Ok(Some(tracks))
+}
+
+/// The values of a tasklet's variables.
+fn values_of_variables(
+    alloc: Global,
+    variables: &[u32],
+    steps: &Steps,
+    first: &Env,
+) -> Result<Vec<Spaced>, NoMemory>
+    ensures values { IfOk result (λ numbers. (values : List ℤ) (context : ℕ → Context) → IsAlong steps.now values context → first.now.values ≡ (context 0).values
+        → (k : ℕ) → map (λ variable. wrapped (variable_value (context k).values variable)) variables.now ≡ map (λ numbers. value_on numbers k) numbers.items) }
+    ensures count { IfOk result (λ numbers. length numbers.items ≡ length variables.now) }
+{
+    let mut numbers = Vec::with_capacity(alloc, variables.len())?;
+    for variable in variables {
+        numbers.push(value_of_variable(*variable, steps, first))?;
+    }
+    Ok(numbers)
+}
+
+/// The values of a variable: the last parameter takes its steps, and any other keeps its value.
+fn value_of_variable(variable: u32, steps: &Steps, first: &Env) -> Spaced
+    ensures { (values : List ℤ) (context : ℕ → Context) → IsAlong steps.now values context → first.now.values ≡ (context 0).values
+        → (k : ℕ) → wrapped (variable_value (context k).values variable) ≡ value_on result k }
+{
+    if variable == steps.variable {
+        return Spaced {
+            first: steps.first,
+            step: steps.step,
+        };
+    }
+    Spaced {
+        first: element_of_variable(variable, first),
+        step: 0,
+    }
+}
+
+/// The value of a variable, as an element; one that has none counts as 0.
+fn element_of_variable(variable: u32, values: &Env) -> i64
+    ensures { result ≡ wrapped (variable_value values.now.values variable) }
+{
+    match values.values.as_slice().get(variable as usize) {
+        Some(value) => wrap(*value),
+        None => 0,
+    }
+}
+
+/// The writes of the outputs in this order.
+fn writes_of(
+    alloc: Global,
+    order: &[u32],
+    ins: usize,
+    outs: &[Link],
+    gaps: u32,
+    graph: &Sdfg,
+    base: &Base,
+    first: &Scope,
+    last: &Scope,
+) -> Result<Option<Vec<Write>>, NoMemory>
+    ensures order { IfOk result (λ writes. MatchOption writes ⊤ (λ writes. map (λ write. write.connector) writes.items ≡ order.now)) }
+    ensures at { IfOk result (λ writes. MatchOption writes ⊤ (λ writes. (steps : StepsNow) (values : List ℤ) (context : ℕ → Context)
+        → IsFromTo steps gaps (context_of (graph_tree graph.now) base.now first.now) (context_of (graph_tree graph.now) base.now last.now) values context → (k : ℕ) → k ≤ gaps
+        → (links : List LinkNow) → length links ≡ ins → (value : ℕ → ℤ) → map (pending_of (context k) links outs.now) (output_effects value order.now) ≡ map (write_on value k) writes.items)) }
+{
+    let mut writes = Vec::with_capacity(alloc, order.len())?;
+    for connector in order {
+        let Some(write) = write_of(alloc, *connector, ins, outs, gaps, graph, base, first, last)?
+        else {
+            return Ok(None);
+        };
+        writes.push(write)?;
+    }
+    Ok(Some(writes))
+}
+
+/// The write of an output; `None` where it is pushed into a stream.
+fn write_of(
+    alloc: Global,
+    connector: u32,
+    ins: usize,
+    outs: &[Link],
+    gaps: u32,
+    graph: &Sdfg,
+    base: &Base,
+    first: &Scope,
+    last: &Scope,
+) -> Result<Option<Write>, NoMemory>
+    ensures connector { IfOk result (λ write. MatchOption write ⊤ (λ write. write.connector ≡ connector)) }
+    ensures at { IfOk result (λ write. MatchOption write ⊤ (λ write. (steps : StepsNow) (values : List ℤ) (context : ℕ → Context)
+        → IsFromTo steps gaps (context_of (graph_tree graph.now) base.now first.now) (context_of (graph_tree graph.now) base.now last.now) values context → (k : ℕ) → k ≤ gaps
+        → (links : List LinkNow) → length links ≡ ins → (value : ℕ → ℤ) → pending_of (context k) links outs.now (record { connector = connector; at = []; value = value connector }) ≡ write_on value k write)) }
+{
+    let Some(output) = (connector as usize).checked_sub(ins) else {
+        return Ok(None);
+    };
+    let Some(link) = outs.get(output) else {
+        return Ok(None);
+    };
+    if is_stream(graph, link.memlet.container) {
+        return Ok(None);
+    }
+    match track_of(alloc, link, gaps, graph, base, first, last)? {
+        Some(to) => Ok(Some(Write {
+            connector,
+            by: link.memlet.resolution,
+            to,
+        })),
+        None => Ok(None),
+    }
+}
+
+/// Whether a container is a stream.
+fn is_stream(graph: &Sdfg, container: u32) -> bool
+    ensures { result ≡ is_stream_kind (container_at (containers_of (graph_tree graph.now)) container).kind }
+{
+    match graph.containers.get_index(container as usize) {
+        Some((_, container)) => matches!(
+            container.kind,
+            ContainerKind::Stream | ContainerKind::PrivateStream
+        ),
+        None => false,
+    }
+}

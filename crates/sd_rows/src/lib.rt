@@ -1,0 +1,19 @@
+//! Runs a map whose body is one tasklet row by row.
+//!
+//! A row is all points at which only the last parameter differs. Where each access of the tasklet is
+//! inside at both ends of a row, its elements lie at equal distances, so the row is run by flat code
+//! without a look-up at its points (`specs/Row.antt`). Any other row goes point by point. `run_rows` ends
+//! as the map does when it is done from left to right, or leaves a map of another kind alone.
+#![tactic(auto)]
+
+mod between;
+mod instance;
+mod point;
+mod row;
+mod row_run;
+mod rows;
+mod spacing;
+mod steps;
+mod track;
+
+pub use rows::run_rows;

@@ -1,0 +1,54 @@
+ghost use Rattle.std.specs.Prelude.{◌≡◌, ℕ, ◌<◌, ◌≤◌, ◌^◌, ℤ, ◌≤ℤ◌, pos, unsigned_abs};
+ghost use Rattle.std.specs.Option.{MatchOption};
+ghost use Rattle.std.specs.Bool.{⊤};
+ghost use Rattle.sd_even.specs.Even.{spaced};
+ghost use Rattle.sd_rows.specs.Row.{value_on};
+
+use sd_num::{add, mul};
+
+/// Numbers at equal distances, one for each point of a row, as elements.
+#[derive(Clone, Copy)]
+pub(crate) struct Spaced {
+    pub first: i64,
+    pub step: i64,
+}
+
+impl Spaced {
+    /// The number at a point.
+    #[inline(always)]
+    pub(crate) fn at(&self, k: u32) -> i64
+        ensures { result ≡ value_on self.now k }
+    {
+        add(self.first, mul(self.step, i64::from(k)))
+    }
+
+    /// The numbers from one to another one, so many points further; `None` where they do not fit.
+    pub(crate) fn between(first: u64, last: u64, gaps: u32) -> Option<Spaced>
+        ensures { MatchOption result ⊤ (λ numbers. (distance : ℤ) → pos last ≡ spaced (pos first) distance gaps
+            → (k element : ℕ) → k ≤ gaps → pos element ≡ spaced (pos first) distance k → element ≡ unsigned_abs (value_on numbers k)) }
+    {
+        let first = small(first)?;
+        let last = small(last)?;
+        let step = distance(first, last, gaps);
+        Some(Spaced { first, step })
+    }
+}
+
+/// A number as an element, where it is one.
+fn small(number: u64) -> Option<i64>
+    ensures { MatchOption result ⊤ (λ element. (element ≡ pos number) × (number < 2 ^ 63)) }
+{
+    i64::try_from(number).ok()
+}
+
+/// How far two numbers lie apart with so many gaps between them; 0 where there is no gap.
+fn distance(first: i64, last: i64, gaps: u32) -> i64
+    requires first { pos 0 ≤ℤ first }
+    requires last { pos 0 ≤ℤ last }
+    ensures { (apart : ℤ) → last ≡ spaced first apart gaps → (k : ℕ) → k ≤ gaps → spaced first result k ≡ spaced first apart k }
+{
+    if gaps == 0 {
+        return 0;
+    }
+    (last - first) / i64::from(gaps)
+}
