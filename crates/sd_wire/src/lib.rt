@@ -1,0 +1,19 @@
+//! The nodes and edges of a graph's states.
+//!
+//! Items are drawn one after another by the five rules of `specs/Drawing.antt`, and the edges are
+//! listed by source and target (`specs/Listing.antt`). Nothing is asked of the graph: a container
+//! that stands in no list round an item has no edge. Want of memory is the one refusal; a state with
+//! more nodes than 32 bits can count comes to it too.
+#![tactic(auto)]
+
+mod access;
+mod drawing;
+mod items;
+mod listing;
+mod mentioned;
+mod mode;
+mod passing;
+mod uses;
+mod wiring;
+
+pub use wiring::{wire, wire_items};
