@@ -13,6 +13,3 @@ mod variables;
 
 pub use containers::containers_of_function;
 pub use variables::variable_names;
-
-#[cfg(test)]
-mod tests;

@@ -39,7 +39,7 @@ fn graphs_above(
 /// branch about it, the containers of a block once for each scope about it, and a free name for the
 /// element of a tasklet is the first of `x$1`, `x$2` and so on that is free. A program that was read has
 /// at most 256 states and 256 containers, so each of these is bounded by a number, and the work is
-/// linear in the graph.
+/// linear in the graphs of all programs of the source, called or not.
 #[tactic(auto, using(crate::proofs::FunctionLemmas::elaborable_all, crate::proofs::FunctionLemmas::elaborable_before, crate::proofs::FunctionLemmas::graph_of_none))]
 pub fn elaborate(alloc: Global, program: &Program) -> Result<Sdfg, NoMemory>
     requires well_formed { IsWellFormed (program_of program.now) }

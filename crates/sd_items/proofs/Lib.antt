@@ -3,5 +3,4 @@ pub mod GraphsLemmas
 pub mod ItemLemmas
 pub mod Kept
 pub mod ListLemmas
-pub mod SmallNames
 pub mod StatementLemmas

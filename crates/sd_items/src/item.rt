@@ -358,6 +358,3 @@ fn skip(numbers: &mut Numbers, statement: &Statement) -> Result<(), NoMemory>
     numbers.variable = more(numbers.variable, variables_in(statement)?)?;
     Ok(())
 }
-
-#[cfg(test)]
-mod tests;

@@ -13,6 +13,3 @@ mod value;
 
 pub use item::{task_with, tasklet_item};
 pub use link::{push_inputs, push_outputs};
-
-#[cfg(test)]
-mod tests;

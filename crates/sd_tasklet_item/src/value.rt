@@ -119,41 +119,41 @@ pub(crate) fn value(
         }),
         Expr::One { sign, of } => Ok(Value::One {
             sign: one_sign(*sign),
-            of: Box::new(
-                alloc,
-                value(alloc, variables, connectors, locals, used, of)?,
-            )?,
+            of: boxed(alloc, variables, connectors, locals, used, of)?,
         }),
         Expr::Two { sign, left, right } => Ok(Value::Two {
             sign: two_sign(*sign),
-            left: Box::new(
-                alloc,
-                value(alloc, variables, connectors, locals, used, left)?,
-            )?,
-            right: Box::new(
-                alloc,
-                value(alloc, variables, connectors, locals, used, right)?,
-            )?,
+            left: boxed(alloc, variables, connectors, locals, used, left)?,
+            right: boxed(alloc, variables, connectors, locals, used, right)?,
         }),
         Expr::Choice {
             value: first,
             when,
             other,
         } => Ok(Value::Choice {
-            value: Box::new(
-                alloc,
-                value(alloc, variables, connectors, locals, used, first)?,
-            )?,
-            when: Box::new(
-                alloc,
-                value(alloc, variables, connectors, locals, used, when)?,
-            )?,
-            other: Box::new(
-                alloc,
-                value(alloc, variables, connectors, locals, used, other)?,
-            )?,
+            value: boxed(alloc, variables, connectors, locals, used, first)?,
+            when: boxed(alloc, variables, connectors, locals, used, when)?,
+            other: boxed(alloc, variables, connectors, locals, used, other)?,
         }),
     }
+}
+
+/// The code of an expression that is a part of another.
+#[cycle(values)]
+fn boxed(
+    alloc: Global,
+    variables: &Scope,
+    connectors: &Connectors,
+    locals: &Scope,
+    used: &IndexSet<u32>,
+    expression: &Expr,
+) -> Result<Box<Value>, NoMemory>
+    ensures { IfOk result (λ part. value_tree part.value ≡ definition.task_value variables.now connectors.now.ins connectors.now.outs used.now.keys locals.now (expression_of expression.now)) }
+{
+    Ok(Box::new(
+        alloc,
+        value(alloc, variables, connectors, locals, used, expression)?,
+    )?)
 }
 
 /// The code of several expressions.
