@@ -4,10 +4,10 @@ use Rattle.std.proofs.lemmas.Grind.{common_steps}
 use Rattle.sd_lex.specs.PlainTree.{StatementTree}
 use Rattle.sd_lex.specs.TreeFold.{block_listed}
 use Rattle.sd_line.specs.declared.head.BlockKind.{BlockKind}
-use Rattle.sd_blocks.specs.declared.block.Branch.{Branch}
-use Rattle.sd_blocks.specs.Context.{Context}
+use Rattle.sd_context.specs.declared.block.Branch.{Branch}
+use Rattle.sd_context.specs.Context.{Context}
+use Rattle.sd_context.specs.ContextFold.{branch_of}
 use Rattle.sd_blocks.specs.Closing.{closed, closed_times, and_then, nested, lines_of, branch_with}
-use Rattle.sd_blocks.specs.ContextFold.{branch_of}
 
 -- the last branch is the other block of those before it
 pub nested_last : (kind : BlockKind) (branches : List Branch) (last : Branch) (other : List StatementTree) → nested kind (map branch_of (branches ++ last ∷ [])) other ≡ nested kind (map branch_of branches) (branch_with kind (branch_of last) (block_listed other) ∷ [])

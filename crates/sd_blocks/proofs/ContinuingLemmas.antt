@@ -3,10 +3,10 @@ use Rattle.std.proofs.Common.{◌≡◌, ap, ◌∙◌, ℕ, List, [], ◌∷◌
 use Rattle.std.proofs.lemmas.Grind.{common_steps}
 use Rattle.std.specs.Prelude.{Ok}
 use Rattle.sd_line.specs.Head.{HeadTree}
+use Rattle.sd_context.specs.Context.{OpenBlock, Context}
+use Rattle.sd_context.specs.ContextFold.{open_block_of}
+use Rattle.sd_context.specs.declared.block.OpenBlock.{OpenBlock as CodeBlock}
 use Rattle.sd_blocks.specs.Closing.{and_then, left_by}
-use Rattle.sd_blocks.specs.Context.{OpenBlock, Context}
-use Rattle.sd_blocks.specs.ContextFold.{open_block_of}
-use Rattle.sd_blocks.specs.declared.block.OpenBlock.{OpenBlock as CodeBlock}
 use Rattle.sd_blocks.specs.Continuing.{with_branch_state, continued, next_judged, left}
 
 pub continued_is : (old counted : Context) (about : OpenBlock) (outer : List OpenBlock) (line : ℕ) (head : HeadTree) → with_branch_state old.block old ≡ Ok counted → counted.outer ≡ about ∷ outer → continued line old head ≡ next_judged counted.block line head (left_by about outer counted)

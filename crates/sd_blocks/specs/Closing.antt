@@ -11,9 +11,9 @@ use Rattle.sd_refusal.specs.declared.site.Counts.{Counts}
 use Rattle.sd_names.specs.Names.{Name, Names, with_meaning, is_among}
 use Rattle.sd_refusal.specs.NotAForm.{is_program}
 use Rattle.sd_refusal.specs.OverLimit.{is_tasklet}
+use Rattle.sd_context.specs.Context.{Branch, Opener, function, statement, consumer, if_block, else_block, OpenBlock, Context}
+use Rattle.sd_context.specs.Placing.{with_statements}
 use Rattle.sd_blocks.specs.declared.refusal.Refusal.{Refusal}
-use Rattle.sd_blocks.specs.Context.{Branch, Opener, function, statement, consumer, if_block, else_block, OpenBlock, Context}
-use Rattle.sd_blocks.specs.Placing.{with_statements}
 
 -- a context, or the refusal of a line
 abbrev pub Step : Type 0

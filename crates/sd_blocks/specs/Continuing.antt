@@ -5,11 +5,11 @@ use Rattle.sd_line.specs.Head.{HeadTree, elif_head, else_head}
 use Rattle.sd_phrase.specs.declared.reading.Reading.{Reading}
 use Rattle.sd_phrase.specs.declared.reading.Reading.TheVariants.{Form}
 use Rattle.sd_refusal.specs.NotAForm.{is_program}
-use Rattle.sd_blocks.specs.After.{known_behind}
+use Rattle.sd_context.specs.After.{known_behind}
+use Rattle.sd_context.specs.Context.{Branch, Opener, if_block, else_block, OpenBlock, Context, in_force}
+use Rattle.sd_context.specs.Placing.{opened}
 use Rattle.sd_blocks.specs.Closing.{Step, and_then, with_states, left_by, branches_with}
-use Rattle.sd_blocks.specs.Context.{Branch, Opener, if_block, else_block, OpenBlock, Context, in_force}
 use Rattle.sd_blocks.specs.Judging.{accepted, against}
-use Rattle.sd_blocks.specs.Placing.{opened}
 
 abbrev pub is_elif_or_else : HeadTree → Bool
 is_elif_or_else (elif_head when) = true

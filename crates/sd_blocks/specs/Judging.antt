@@ -3,8 +3,8 @@ use Rattle.std.specs.Prelude.{ℕ, min, List, [], ◌∷◌, Bool, Option, Some,
 use Rattle.sd_lex.specs.PlainTree.{Block, no_statement, and_statement}
 use Rattle.sd_line.specs.Head.{HeadTree, program_head, statement_head}
 use Rattle.sd_refusal.specs.Refusals.{refusal}
-use Rattle.sd_blocks.specs.Context.{Context, site_of}
-use Rattle.sd_blocks.specs.After.{context_after}
+use Rattle.sd_context.specs.Context.{Context, site_of}
+use Rattle.sd_context.specs.After.{context_after}
 use Rattle.sd_blocks.specs.Closing.{Step}
 
 abbrev pub refused : (number line : ℕ) → Step

@@ -1,10 +1,4 @@
-pub mod Context
-pub mod ContextFold
-pub mod Declaring
-pub mod Writing
-pub mod Awaiting
-pub mod Placing
-pub mod After
 pub mod Closing
+pub mod StepFold
 pub mod Judging
 pub mod Continuing

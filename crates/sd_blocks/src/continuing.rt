@@ -3,14 +3,14 @@ ghost use Rattle.std.specs.Prelude.{◌≡◌, IfOk, map};
 ghost use Rattle.sd_lex.specs.TreeFold.{statement_of};
 ghost use Rattle.sd_line.specs.HeadFold.{head_tree};
 ghost use Rattle.sd_phrase.specs.Readings.{reading_map};
-ghost use Rattle.sd_blocks.specs.ContextFold.{stepped, context_of, open_block_of, opener_of, branch_of};
+ghost use Rattle.sd_context.specs.ContextFold.{context_of, open_block_of, opener_of, branch_of};
 ghost use Rattle.sd_blocks.specs.Continuing as definition;
+ghost use Rattle.sd_blocks.specs.StepFold.{stepped};
 
-use crate::block::{Branch, InForce, OpenBlock, Opener};
-use crate::closing::{branches_with, count_state};
-use crate::context::Context;
-use crate::judging::accepted;
+use crate::closing::{branches_with, count_state, leave};
+use crate::judging::{accepted, against};
 use crate::refusal::Refusal;
+use sd_context::{Branch, Context, InForce, OpenBlock, Opener};
 use sd_lex::Statement;
 use sd_line::{BlockKind, Head};
 use sd_list::NoMemory;
@@ -71,60 +71,58 @@ fn next_opener(earlier: Vec<Branch>, head: Head) -> Opener
     }
 }
 
-impl Context {
-    /// The next block of an `if` whose last block this was.
-    fn judge_next(
-        &mut self,
-        alloc: Global,
-        last: OpenBlock,
-        line: u32,
-        head: Head,
-    ) -> Result<Result<(), Refusal>, NoMemory>
-        ensures { IfOk result (λ step. stepped step (context_of self.new) ≡ definition.next_judged (open_block_of last) line (head_tree head) (context_of self.old)) }
-    {
-        let number = self.against(alloc, &head)?;
-        let before = InForce::of(&self.names);
-        let OpenBlock {
-            opener,
-            kind,
-            line: at,
-            statements,
-            ..
-        } = last;
-        let branches = branches_of(alloc, at, statements, opener)?;
-        self.know(alloc, line, false, &head)?;
-        self.open(alloc, before, next_opener(branches, head), kind, line, 0)?;
-        Ok(accepted(number, line))
-    }
+/// The next block of an `if` whose last block this was.
+fn judge_next(
+    alloc: Global,
+    context: &mut Context,
+    last: OpenBlock,
+    line: u32,
+    head: Head,
+) -> Result<Result<(), Refusal>, NoMemory>
+    ensures { IfOk result (λ step. stepped step (context_of context.new) ≡ definition.next_judged (open_block_of last) line (head_tree head) (context_of context.old)) }
+{
+    let number = against(alloc, context, &head)?;
+    let before = InForce::of(&context.names);
+    let OpenBlock {
+        opener,
+        kind,
+        line: at,
+        statements,
+        ..
+    } = last;
+    let branches = branches_of(alloc, at, statements, opener)?;
+    context.know(alloc, line, false, &head)?;
+    context.open(alloc, before, next_opener(branches, head), kind, line, 0)?;
+    Ok(accepted(number, line))
+}
 
-    /// Counts the state behind a branch that is not the last of its `if`.
-    fn count_branch(&mut self) -> Result<(), Refusal>
-        ensures { stepped result (context_of self.new) ≡ definition.with_branch_state (open_block_of self.old.block) (context_of self.old) }
-    {
-        if self.block.kind == BlockKind::Program {
-            return count_state(&mut self.counts, self.block.line);
-        }
-        Ok(())
+/// Counts the state behind a branch that is not the last of its `if`.
+fn count_branch(context: &mut Context) -> Result<(), Refusal>
+    ensures { stepped result (context_of context.new) ≡ definition.with_branch_state (open_block_of context.old.block) (context_of context.old) }
+{
+    if context.block.kind == BlockKind::Program {
+        return count_state(&mut context.counts, context.block.line);
     }
+    Ok(())
+}
 
-    /// A line takes the place of the innermost block, which is one of an `if`.
-    pub fn go_on(
-        &mut self,
-        alloc: Global,
-        line: u32,
-        head: Head,
-    ) -> Result<Result<(), Refusal>, NoMemory>
-        ensures { IfOk result (λ step. stepped step (context_of self.new) ≡ definition.continued line (context_of self.old) (head_tree head)) }
-    {
-        if let Err(refusal) = self.count_branch() {
-            return Ok(Err(refusal));
+/// A line takes the place of the innermost block, which is one of an `if`.
+pub fn go_on(
+    alloc: Global,
+    context: &mut Context,
+    line: u32,
+    head: Head,
+) -> Result<Result<(), Refusal>, NoMemory>
+    ensures { IfOk result (λ step. stepped step (context_of context.new) ≡ definition.continued line (context_of context.old) (head_tree head)) }
+{
+    if let Err(refusal) = count_branch(context) {
+        return Ok(Err(refusal));
+    }
+    match context.outer.pop() {
+        Some(about) => {
+            let last = leave(context, about);
+            judge_next(alloc, context, last, line, head)
         }
-        match self.outer.pop() {
-            Some(about) => {
-                let last = self.leave(about);
-                self.judge_next(alloc, last, line, head)
-            }
-            None => Err(NoMemory),
-        }
+        None => Err(NoMemory),
     }
 }

@@ -1,26 +1,16 @@
-//! What is known between two lines of a source, and what comes of each line and each block.
+//! What comes of each line and of each block that ends, by what is known between lines.
 //!
-//! `Context.antt` lists what is known. Where what a line says goes is in `Placing.antt`, what is
-//! known behind it in `After.antt`, what comes of a block that ends in `Closing.antt`, and how an `elif`
-//! or `else` goes on with it in `Continuing.antt`. A line is judged by the least number that stands
-//! against it, which is of `sd_refusal`.
+//! What comes of a block that ends is in `Closing.antt`, and how an `elif` or `else` goes on with it in
+//! `Continuing.antt`. A line is judged by the least number that stands against it (`Judging.antt`), which is
+//! of `sd_refusal`; what is known behind it is of `sd_context`.
 #![tactic(auto)]
 
-mod after;
-mod awaiting;
-mod block;
 mod closing;
-mod context;
 mod continuing;
-mod declaring;
 mod judging;
-mod placing;
 mod refusal;
-mod writing;
 
-pub use awaiting::{Wanted, comes_right, is_wanted, wanted_of, wrong_number};
-pub use block::{Branch, InForce, OpenBlock, Opener};
-pub use context::{Awaited, Context};
-pub use continuing::{goes_on, is_elif_or_else};
-pub use judging::refused;
+pub use closing::{close_block, close_block_into, close_blocks};
+pub use continuing::{go_on, goes_on, is_elif_or_else};
+pub use judging::{judge, refused};
 pub use refusal::Refusal;

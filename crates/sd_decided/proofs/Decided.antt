@@ -8,9 +8,9 @@ use Rattle.sd_lex.specs.Layout.{lexed}
 use Rattle.sd_lex.specs.PlainTree.{ProgramTree}
 use Rattle.sd_lex.specs.Position.{line_count}
 use Rattle.sd_nodes.specs.NodeLimits.{nodes_over, node_limits}
+use Rattle.sd_context.specs.Context.{Awaited, nothing, block, function_def, consume_def, Context, opening}
 use Rattle.sd_blocks.specs.declared.refusal.Refusal.{Refusal}
 use Rattle.sd_blocks.specs.Closing.{Step, and_then, closed_times}
-use Rattle.sd_blocks.specs.Context.{Awaited, nothing, block, function_def, consume_def, Context, opening}
 use Rattle.sd_decided.specs.FirstRefused.{Leads, IsFirstRefused, IsRefusedAtEnd, GoesBefore, GoesBeforeNodes, Decides, IsAllAccepted}
 use Rattle.sd_source.specs.LineReading.{line_read}
 use Rattle.sd_source.specs.LinesReading.{lines_read, at_end, program_in, program_by, program_of_lines}

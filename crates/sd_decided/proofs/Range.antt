@@ -9,12 +9,12 @@ use Rattle.sd_lex.specs.Position.{line_count}
 use Rattle.sd_line.specs.Head.{HeadTree}
 use Rattle.sd_phrase.specs.declared.reading.Reading.{Reading}
 use Rattle.sd_phrase.specs.declared.reading.Reading.TheVariants.{NoForm, TooDeep, Form}
-use Rattle.sd_blocks.specs.declared.awaiting.Wanted.{Wanted}
+use Rattle.sd_context.specs.declared.awaiting.Wanted.{Wanted}
+use Rattle.sd_context.specs.After.{context_after}
+use Rattle.sd_context.specs.Awaiting.{comes_right, wrong_number, wanted_of}
+use Rattle.sd_context.specs.Context.{Context, site_of}
 use Rattle.sd_blocks.specs.declared.refusal.Refusal.{Refusal}
-use Rattle.sd_blocks.specs.After.{context_after}
-use Rattle.sd_blocks.specs.Awaiting.{comes_right, wrong_number, wanted_of}
 use Rattle.sd_blocks.specs.Closing.{Step}
-use Rattle.sd_blocks.specs.Context.{Context, site_of}
 use Rattle.sd_decided.specs.FirstRefused.{Decides}
 use Rattle.sd_source.specs.LineReading.{said}
 use Rattle.sd_source.specs.Lines.{Line, opens_tasklet}

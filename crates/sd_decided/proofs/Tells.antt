@@ -7,12 +7,12 @@ use Rattle.sd_phrase.specs.declared.reading.Reading.{Reading}
 use Rattle.sd_phrase.specs.declared.reading.Reading.TheVariants.{NoForm, TooDeep, Form}
 use Rattle.sd_refusal.specs.NotAForm.{is_program}
 use Rattle.sd_refusal.specs.declared.site.Counts.{Counts}
-use Rattle.sd_blocks.specs.declared.awaiting.Wanted.{Wanted}
+use Rattle.sd_context.specs.declared.awaiting.Wanted.{Wanted}
+use Rattle.sd_context.specs.After.{context_after}
+use Rattle.sd_context.specs.Awaiting.{comes_right, wrong_number, wanted_of}
+use Rattle.sd_context.specs.Context.{Context, site_of}
 use Rattle.sd_blocks.specs.declared.refusal.Refusal.{Refusal}
-use Rattle.sd_blocks.specs.After.{context_after}
-use Rattle.sd_blocks.specs.Awaiting.{comes_right, wrong_number, wanted_of}
 use Rattle.sd_blocks.specs.Closing.{Step, and_then, state_counted, states_behind, states_counted, with_counts, with_states, late_states, closed, closed_into, closed_times}
-use Rattle.sd_blocks.specs.Context.{Context, site_of}
 use Rattle.sd_blocks.specs.Continuing.{goes_on, left, with_branch_state, continued_by, next_branch}
 use Rattle.sd_blocks.specs.Judging.{refused, against, least, accepted, judged_all, judged_from, steps_of}
 use Rattle.sd_source.specs.LineReading.{by_tokens, behind_last_block, behind_blocks, said, line_read}

@@ -2,8 +2,8 @@
 use Rattle.std.specs.Prelude.{◌≡◌, ℕ, ◌+◌, List, [], ◌∷◌, ◌++◌, false, ◌⊎◌, ◌<◌, ◌≤◌, Option, Some, None, Result, Ok, Err, ⊤}
 use Rattle.sd_lex.specs.PlainTree.{ProgramTree}
 use Rattle.sd_nodes.specs.NodeLimits.{nodes_over, node_limits}
+use Rattle.sd_context.specs.Context.{Context, opening}
 use Rattle.sd_blocks.specs.declared.refusal.Refusal.{Refusal}
-use Rattle.sd_blocks.specs.Context.{Context, opening}
 use Rattle.sd_source.specs.LineReading.{line_read}
 use Rattle.sd_source.specs.LinesReading.{at_end, program_by, program_of_lines}
 use Rattle.sd_source.specs.Lines.{Line}

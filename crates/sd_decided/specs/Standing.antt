@@ -12,11 +12,11 @@ use Rattle.sd_refusal.specs.Twice.{declares_twice}
 use Rattle.sd_refusal.specs.BadResolution.{has_bad_resolution}
 use Rattle.sd_refusal.specs.OverLimit.{is_over_limit}
 use Rattle.sd_refusal.specs.ShapeMismatch.{has_mismatch}
-use Rattle.sd_blocks.specs.declared.awaiting.Wanted.{Wanted}
-use Rattle.sd_blocks.specs.After.{context_after}
-use Rattle.sd_blocks.specs.Awaiting.{comes_right, wrong_number, wanted_of}
+use Rattle.sd_context.specs.declared.awaiting.Wanted.{Wanted}
+use Rattle.sd_context.specs.After.{context_after}
+use Rattle.sd_context.specs.Awaiting.{comes_right, wrong_number, wanted_of}
+use Rattle.sd_context.specs.Context.{Context, site_of}
 use Rattle.sd_blocks.specs.Closing.{Step, and_then, closed, closed_times}
-use Rattle.sd_blocks.specs.Context.{Context, site_of}
 use Rattle.sd_blocks.specs.Continuing.{goes_on, left, with_branch_state}
 use Rattle.sd_blocks.specs.Judging.{steps_of}
 use Rattle.sd_source.specs.LineReading.{stands_here, said}

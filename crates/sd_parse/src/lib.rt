@@ -2,7 +2,7 @@
 //!
 //! `parse` gives exactly the program of the definition (`SourceReading.antt` of `sd_source`), or exactly
 //! the number and the line of its error. What was read is well formed, by `sd_readable`; which line
-//! decides is a law of `sd_decided`.
+//! decides is a law of `sd_decided`, and which numbers and lines there are one of `sd_told`.
 #![tactic(auto)]
 
 mod error;

@@ -6,6 +6,7 @@ ghost use Rattle.sd_parse.specs.ErrorNumber as errors;
 ghost use Rattle.sd_program.specs.Place.{EveryPlace};
 ghost use Rattle.sd_program.specs.WellFormed.{IsWellFormed};
 ghost use Rattle.sd_source.specs.SourceReading as definition;
+ghost use Rattle.sd_told.specs.Told.{IsErrorNumber, IsLineOf};
 
 use crate::error::SourceError;
 use sd_blocks::Refusal;
@@ -23,6 +24,8 @@ pub fn parse(alloc: Global, text: &[u8]) -> Result<Program, SourceError>
     ensures well_formed { IfOk result (λ program. IsWellFormed (program_of program)) }
     ensures levels { IfOk result (λ program. EveryPlace HasFewLevels (program_of program)) }
     ensures err { IfErr result (λ error. IfSome (errors.refusal_of error) (λ refusal. definition.reads text.now ≡ Err refusal)) }
+    ensures number { IfErr result (λ error. IfSome (errors.number_of error) IsErrorNumber) }
+    ensures line { IfErr result (λ error. IfSome (errors.line_of error) (IsLineOf text.now)) }
 {
     match read_text(alloc, text) {
         Ok(Ok(program)) => Ok(program),

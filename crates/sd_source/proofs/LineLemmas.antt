@@ -2,9 +2,9 @@
 use Rattle.std.proofs.Common.{◌≡◌, refl, ℕ, zero, suc, ◌-◌, ◌<◌, List, arith}
 use Rattle.sd_line.specs.Head.{HeadTree}
 use Rattle.sd_phrase.specs.declared.reading.Reading.{Reading}
+use Rattle.sd_context.specs.Context.{Context}
+use Rattle.sd_context.specs.declared.awaiting.Wanted.{Wanted}
 use Rattle.sd_blocks.specs.Closing.{and_then, closed_times}
-use Rattle.sd_blocks.specs.Context.{Context}
-use Rattle.sd_blocks.specs.declared.awaiting.Wanted.{Wanted}
 use Rattle.sd_source.specs.LineReading.{behind_blocks, behind_last_block}
 use Rattle.sd_source.specs.Lines.{Line}
 

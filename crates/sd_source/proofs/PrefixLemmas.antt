@@ -1,8 +1,8 @@
 -- The lines before the first that is refused, and the blocks that end behind them.
 use Rattle.std.proofs.Common.{◌≡◌, refl, ap, sym, ◌∙◌, ℕ, List, [], ◌∷◌, arith}
 use Rattle.std.specs.Prelude.{Ok, Err}
+use Rattle.sd_context.specs.Context.{Opener, file, function, statement, consumer, if_block, else_block, OpenBlock, Context}
 use Rattle.sd_blocks.specs.Closing.{Step, closed_by, closed_all}
-use Rattle.sd_blocks.specs.Context.{Opener, file, function, statement, consumer, if_block, else_block, OpenBlock, Context}
 use Rattle.sd_source.specs.LineReading.{line_read}
 use Rattle.sd_source.specs.Lines.{Line}
 use Rattle.sd_source.specs.Prefix.{or_stays, count_behind, context_before_refusal, count_before_refusal, ended}

@@ -5,11 +5,11 @@ use Rattle.sd_line.specs.declared.head.BlockKind.TheVariants.{Top}
 use Rattle.sd_line.specs.Head.{HeadTree}
 use Rattle.sd_phrase.specs.declared.reading.Reading.{Reading}
 use Rattle.sd_phrase.specs.declared.reading.Reading.TheVariants.{NoForm, TooDeep, Form}
-use Rattle.sd_blocks.specs.Awaiting.{comes_right, wrong_number, wanted_of, is_wanted}
+use Rattle.sd_context.specs.Awaiting.{comes_right, wrong_number, wanted_of, is_wanted}
+use Rattle.sd_context.specs.Context.{Awaited, block, OpenBlock, Context}
+use Rattle.sd_context.specs.declared.awaiting.Wanted.{Wanted}
 use Rattle.sd_blocks.specs.Closing.{Step, and_then, closed, closed_times}
-use Rattle.sd_blocks.specs.Context.{Awaited, block, OpenBlock, Context}
 use Rattle.sd_blocks.specs.Continuing.{is_elif_or_else, goes_on, continued_by}
-use Rattle.sd_blocks.specs.declared.awaiting.Wanted.{Wanted}
 use Rattle.sd_blocks.specs.Judging.{refused, judged}
 use Rattle.sd_source.specs.Lines.{Line, opens_tasklet}
 

@@ -1,8 +1,8 @@
 -- What the lines of a source say: a program, or the first line that is refused with its least number.
 use Rattle.std.specs.Prelude.{ℕ, ◌+◌, nat_eq, List, [], ◌∷◌, length, Result, Ok, Err, if◌then◌else◌}
 use Rattle.sd_lex.specs.PlainTree.{ProgramTree}
+use Rattle.sd_context.specs.Context.{Awaited, nothing, Context, opening}
 use Rattle.sd_blocks.specs.Closing.{Step, and_then, closed_times}
-use Rattle.sd_blocks.specs.Context.{Awaited, nothing, Context, opening}
 use Rattle.sd_blocks.specs.declared.refusal.Refusal.{Refusal}
 use Rattle.sd_blocks.specs.Judging.{refused}
 use Rattle.sd_source.specs.LineReading.{line_read}

@@ -1,8 +1,8 @@
 -- The lines of a source before the first that is refused, and their program.
 use Rattle.std.specs.Prelude.{ℕ, suc, List, [], ◌∷◌, Ok, Err}
 use Rattle.sd_lex.specs.PlainTree.{ProgramTree}
+use Rattle.sd_context.specs.Context.{Context, opening}
 use Rattle.sd_blocks.specs.Closing.{Step, closed_all}
-use Rattle.sd_blocks.specs.Context.{Context, opening}
 use Rattle.sd_source.specs.LineReading.{line_read}
 use Rattle.sd_source.specs.Lines.{Line}
 use Rattle.sd_source.specs.LinesReading.{program_in}

@@ -3,14 +3,17 @@ ghost use Rattle.std.specs.Prelude.{◌≡◌, ◌∷◌, IfOk, map, reverse};
 ghost use Rattle.sd_line.specs.HeadFold.{head_tree};
 ghost use Rattle.sd_phrase.specs.Readings.{reading_map};
 ghost use Rattle.sd_phrase.specs.Spans.{AreInside};
-ghost use Rattle.sd_blocks.specs.ContextFold.{stepped, context_of, open_block_of, awaited_of};
+ghost use Rattle.sd_context.specs.ContextFold.{context_of, open_block_of, awaited_of};
+ghost use Rattle.sd_blocks.specs.StepFold.{stepped};
 ghost use Rattle.sd_source.specs.LineReading as definition;
 ghost use Rattle.sd_source.specs.SourceLines.{Source, line_of, lines_of};
 
 use crate::lines::{LineSpan, head_in, opens_tasklet};
 use sd_blocks::{
-    Awaited, Context, OpenBlock, Refusal, Wanted, comes_right, goes_on, is_elif_or_else, is_wanted,
-    refused, wanted_of, wrong_number,
+    Refusal, close_block, close_blocks, go_on, goes_on, is_elif_or_else, judge, refused,
+};
+use sd_context::{
+    Awaited, Context, OpenBlock, Wanted, comes_right, is_wanted, wanted_of, wrong_number,
 };
 use sd_line::{BlockKind, Head};
 use sd_list::NoMemory;
@@ -82,7 +85,7 @@ fn judge_here(
 {
     if stands_here(wanted, &head) {
         let is_tasklet = opens_tasklet(&head, rest);
-        context.judge(alloc, number, is_tasklet, head)
+        judge(alloc, context, number, is_tasklet, head)
     } else {
         Ok(refused(4, number))
     }
@@ -119,11 +122,11 @@ fn read_behind_last_block(
 {
     if goes_on(&read, &context.block.opener) {
         return match read {
-            Reading::Form(head) => context.go_on(alloc, number, head),
+            Reading::Form(head) => go_on(alloc, context, number, head),
             _ => Ok(Ok(())),
         };
     }
-    if let Err(refusal) = context.close(alloc)? {
+    if let Err(refusal) = close_block(alloc, context)? {
         return Ok(Err(refusal));
     }
     read_by_words(alloc, context, wanted, number, rest, read)
@@ -145,7 +148,7 @@ fn read_behind_blocks(
     if closes == 0 {
         return read_by_words(alloc, context, wanted, number, rest, read);
     }
-    if let Err(refusal) = context.close_times(alloc, closes - 1)? {
+    if let Err(refusal) = close_blocks(alloc, context, closes - 1)? {
         return Ok(Err(refusal));
     }
     read_behind_last_block(alloc, context, wanted, number, rest, read)

@@ -1,14 +1,16 @@
 //! What the lines of a source say: a program, or the first line that is refused.
 ghost use Rattle.std.specs.Prelude.{◌≡◌, ◌<◌, ◌^◌, IfOk, Ok};
 ghost use Rattle.sd_phrase.specs.Spans.{AreInside};
-ghost use Rattle.sd_blocks.specs.ContextFold.{stepped, context_of, awaited_of};
+ghost use Rattle.sd_context.specs.ContextFold.{context_of, awaited_of};
+ghost use Rattle.sd_blocks.specs.StepFold.{stepped};
 ghost use Rattle.sd_source.specs.LinesReading as definition;
 ghost use Rattle.sd_source.specs.Prefix.{count_before_refusal, count_of_lines};
 ghost use Rattle.sd_source.specs.SourceLines.{lines_of, parsed};
 
 use crate::line_reading::read_line;
 use crate::lines::LineSpan;
-use sd_blocks::{Awaited, Context, Refusal, refused};
+use sd_blocks::{Refusal, close_blocks, refused};
+use sd_context::{Awaited, Context};
 use sd_lex::Program;
 use sd_list::NoMemory;
 use sd_phrase::Piece;
@@ -50,7 +52,7 @@ fn read_end(
     match context.awaited {
         Awaited::Nothing => {
             let count = context.outer.len();
-            context.close_times(alloc, count)
+            close_blocks(alloc, context, count)
         }
         Awaited::Block => Ok(refused(4, last + 1)),
         Awaited::FunctionDef(_) => Ok(refused(4, last + 1)),

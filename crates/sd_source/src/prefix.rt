@@ -2,14 +2,15 @@
 ghost use Rattle.std.specs.Prelude.{◌≡◌, IfOk, OnOk};
 ghost use Rattle.sd_lex.specs.TreeFold.{program_of};
 ghost use Rattle.sd_phrase.specs.Spans.{AreInside};
-ghost use Rattle.sd_blocks.specs.ContextFold.{context_of};
+ghost use Rattle.sd_context.specs.ContextFold.{context_of};
 ghost use Rattle.sd_source.specs.LinesReading.{program_in};
 ghost use Rattle.sd_source.specs.Prefix as definition;
 ghost use Rattle.sd_source.specs.SourceLines.{lines_of};
 
 use crate::line_reading::read_line;
 use crate::lines::LineSpan;
-use sd_blocks::Context;
+use sd_blocks::close_block_into;
+use sd_context::Context;
 use sd_lex::Program;
 use sd_list::NoMemory;
 use sd_phrase::Piece;
@@ -50,7 +51,7 @@ fn end(alloc: Global, context: &mut Context) -> Result<(), NoMemory>
     ensures { OnOk result (context_of context.new ≡ definition.ended (context_of context.old)) }
 {
     while let Some(about) = context.outer.pop() {
-        context.close_into(alloc, about)?;
+        close_block_into(alloc, context, about)?;
     }
     Ok(())
 }

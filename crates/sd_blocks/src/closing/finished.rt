@@ -1,10 +1,10 @@
 //! The statement of a block that ends.
 ghost use Rattle.std.specs.Prelude.{◌≡◌, ◌∷◌, [], IfOk, map};
 ghost use Rattle.sd_lex.specs.TreeFold.{statement_of, block_of};
+ghost use Rattle.sd_context.specs.ContextFold.{open_block_of, opener_of, branch_of};
 ghost use Rattle.sd_blocks.specs.Closing as definition;
-ghost use Rattle.sd_blocks.specs.ContextFold.{open_block_of, opener_of, branch_of};
 
-use crate::block::{Branch, OpenBlock, Opener};
+use sd_context::{Branch, OpenBlock, Opener};
 use sd_lex::Statement;
 use sd_line::BlockKind;
 use sd_list::NoMemory;

@@ -1,11 +1,12 @@
 //! The states that are made where a block ends.
 ghost use Rattle.std.specs.Prelude.{◌≡◌, map};
 ghost use Rattle.sd_lex.specs.TreeFold.{statement_of};
+ghost use Rattle.sd_context.specs.ContextFold.{open_block_of, branch_of};
 ghost use Rattle.sd_blocks.specs.Closing as definition;
-ghost use Rattle.sd_blocks.specs.ContextFold.{counted, open_block_of, branch_of};
+ghost use Rattle.sd_blocks.specs.StepFold.{counted};
 
-use crate::block::{Branch, OpenBlock, Opener};
 use crate::refusal::Refusal;
+use sd_context::{Branch, OpenBlock, Opener};
 use sd_lex::Statement;
 use sd_line::BlockKind;
 use sd_refusal::Counts;

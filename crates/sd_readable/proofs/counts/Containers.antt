@@ -13,9 +13,9 @@ use Rattle.sd_refusal.specs.Counting.{counts_behind}
 use Rattle.sd_refusal.specs.NotAForm.{is_program}
 use Rattle.sd_refusal.specs.OverLimit.{is_tasklet, new_containers, new_states}
 use Rattle.sd_refusal.specs.declared.site.Counts.{Counts}
-use Rattle.sd_blocks.specs.Context.{Branch, Opener, file, function, statement, consumer, if_block, else_block, OpenBlock, Awaited, nothing, block, function_def, consume_def, Context, site_of}
-use Rattle.sd_blocks.specs.After.{begins_tasklet, first_connectors, context_after}
-use Rattle.sd_blocks.specs.Placing.{consumer_of}
+use Rattle.sd_context.specs.Context.{Branch, Opener, file, function, statement, consumer, if_block, else_block, OpenBlock, Awaited, nothing, block, function_def, consume_def, Context, site_of}
+use Rattle.sd_context.specs.After.{begins_tasklet, first_connectors, context_after}
+use Rattle.sd_context.specs.Placing.{consumer_of}
 use Rattle.sd_blocks.specs.Closing.{states_behind, states_counted, late_states, branch_with, nested, with_body, finished_by, finished, closed_by, closed_into}
 use Rattle.sd_blocks.specs.Continuing.{goes_on, branches_of, next_opener}
 use Rattle.sd_readable.proofs.kept.Heads.{IsFile, Fits, Opens, IsOpenedIn, AreNested}

@@ -19,10 +19,10 @@ use Rattle.sd_names.specs.Expressions.{optional}
 use Rattle.sd_refusal.specs.OverLimit.{is_tasklet}
 use Rattle.sd_refusal.specs.Twice.{declares, are_not_new, declares_local}
 use Rattle.sd_program.specs.DeclaredNames.{declared_names, declared_names_all, container_names}
-use Rattle.sd_blocks.specs.After.{context_after}
-use Rattle.sd_blocks.specs.Context.{Branch, Opener, file, function, statement, consumer, if_block, else_block, OpenBlock, Awaited, nothing, block, function_def, consume_def, Context, site_of}
-use Rattle.sd_blocks.specs.Declaring.{with_local, with_worker}
-use Rattle.sd_blocks.specs.Placing.{consumer_of}
+use Rattle.sd_context.specs.After.{context_after}
+use Rattle.sd_context.specs.Context.{Branch, Opener, file, function, statement, consumer, if_block, else_block, OpenBlock, Awaited, nothing, block, function_def, consume_def, Context, site_of}
+use Rattle.sd_context.specs.Declaring.{with_local, with_worker}
+use Rattle.sd_context.specs.Placing.{consumer_of}
 use Rattle.sd_readable.proofs.kept.Heads.{Fits, IsInner, AreNested}
 use Rattle.sd_readable.proofs.kept.Passing.{passes, neither, true_is_not_false, false_is_not_true}
 use Rattle.sd_readable.proofs.kept.Steps.{IsWellNested, IsAccepted}

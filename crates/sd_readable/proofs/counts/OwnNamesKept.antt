@@ -12,11 +12,11 @@ use Rattle.sd_names.specs.Names.{Name, Names}
 use Rattle.sd_refusal.specs.OverLimit.{is_tasklet}
 use Rattle.sd_refusal.specs.declared.site.Counts.{Counts}
 use Rattle.sd_program.specs.DeclaredNames.{declared_names, declared_names_all}
-use Rattle.sd_blocks.specs.After.{context_after}
+use Rattle.sd_context.specs.After.{context_after}
+use Rattle.sd_context.specs.Context.{Branch, Opener, file, function, statement, consumer, if_block, else_block, OpenBlock, Context}
+use Rattle.sd_context.specs.Declaring.{names_behind}
 use Rattle.sd_blocks.specs.Closing.{branch_with, nested, finished_by, finished, closed_by, closed_into}
-use Rattle.sd_blocks.specs.Context.{Branch, Opener, file, function, statement, consumer, if_block, else_block, OpenBlock, Context}
 use Rattle.sd_blocks.specs.Continuing.{is_elif_or_else, goes_on, branches_of, next_opener}
-use Rattle.sd_blocks.specs.Declaring.{names_behind}
 use Rattle.sd_readable.proofs.kept.Ahead.{is_consumer, EndsRight}
 use Rattle.sd_readable.proofs.kept.Heads.{IsFile, Opens, IsInner, IsOpenedIn, AreNested}
 use Rattle.sd_readable.proofs.kept.Passing.{true_is_not_false, false_is_not_true}

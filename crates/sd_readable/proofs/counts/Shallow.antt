@@ -16,10 +16,10 @@ use Rattle.sd_refusal.specs.Twice.{declares_local}
 use Rattle.sd_refusal.specs.ShapeMismatch.{is_no_call}
 use Rattle.sd_refusal.specs.declared.site.Counts.{Counts}
 use Rattle.sd_refusal.specs.declared.site.Site.{Site}
-use Rattle.sd_blocks.specs.Context.{Branch, Opener, file, function, statement, consumer, if_block, else_block, OpenBlock, Awaited, nothing, block, function_def, consume_def, Context, site_of}
-use Rattle.sd_blocks.specs.After.{begins_tasklet, first_connectors, context_after}
-use Rattle.sd_blocks.specs.Declaring.{with_local, with_worker, names_behind, statement_names, connector_dimensions, element_names}
-use Rattle.sd_blocks.specs.Placing.{consumer_of}
+use Rattle.sd_context.specs.Context.{Branch, Opener, file, function, statement, consumer, if_block, else_block, OpenBlock, Awaited, nothing, block, function_def, consume_def, Context, site_of}
+use Rattle.sd_context.specs.After.{begins_tasklet, first_connectors, context_after}
+use Rattle.sd_context.specs.Declaring.{with_local, with_worker, names_behind, statement_names, connector_dimensions, element_names}
+use Rattle.sd_context.specs.Placing.{consumer_of}
 use Rattle.sd_readable.proofs.kept.Heads.{Fits}
 use Rattle.sd_readable.proofs.kept.Passing.{Passes, passes, true_is_not_false}
 use Rattle.sd_readable.proofs.kept.Steps.{IsAccepted}

@@ -14,8 +14,8 @@ use Rattle.sd_refusal.specs.Counting.{counts_behind}
 use Rattle.sd_refusal.specs.NotAForm.{is_program}
 use Rattle.sd_refusal.specs.OverLimit.{is_tasklet, call_depth}
 use Rattle.sd_refusal.specs.declared.site.Counts.{Counts}
-use Rattle.sd_blocks.specs.Context.{Branch, Opener, file, function, statement, consumer, if_block, else_block, OpenBlock, Context, site_of}
-use Rattle.sd_blocks.specs.After.{begins_tasklet, first_connectors, context_after}
+use Rattle.sd_context.specs.Context.{Branch, Opener, file, function, statement, consumer, if_block, else_block, OpenBlock, Context, site_of}
+use Rattle.sd_context.specs.After.{begins_tasklet, first_connectors, context_after}
 use Rattle.sd_blocks.specs.Closing.{states_behind, states_counted, late_states, branch_with, nested, with_body, finished_by, finished, signature_of, closed_by, closed_into}
 use Rattle.sd_blocks.specs.Continuing.{goes_on, branches_of, next_opener}
 use Rattle.sd_readable.proofs.kept.Heads.{IsFile, Opens, IsOpenedIn, AreNested}

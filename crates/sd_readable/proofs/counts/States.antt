@@ -13,10 +13,10 @@ use Rattle.sd_names.specs.Names.{Name}
 use Rattle.sd_refusal.specs.Counting.{counts_behind}
 use Rattle.sd_refusal.specs.NotAForm.{is_program}
 use Rattle.sd_refusal.specs.OverLimit.{new_containers, new_states, statement_states}
-use Rattle.sd_blocks.specs.Context.{Branch, Opener, file, function, statement, consumer, if_block, else_block, OpenBlock, Awaited, nothing, block, function_def, consume_def, Context, site_of}
-use Rattle.sd_blocks.specs.After.{begins_tasklet, first_connectors, context_after}
-use Rattle.sd_blocks.specs.Awaiting.{wanted_of, is_wanted}
-use Rattle.sd_blocks.specs.Placing.{consumer_of}
+use Rattle.sd_context.specs.Context.{Branch, Opener, file, function, statement, consumer, if_block, else_block, OpenBlock, Awaited, nothing, block, function_def, consume_def, Context, site_of}
+use Rattle.sd_context.specs.After.{begins_tasklet, first_connectors, context_after}
+use Rattle.sd_context.specs.Awaiting.{wanted_of, is_wanted}
+use Rattle.sd_context.specs.Placing.{consumer_of}
 use Rattle.sd_readable.proofs.kept.Heads.{IsFile, Fits, Opens, IsOpenedIn, AreNested}
 use Rattle.sd_readable.proofs.kept.Passing.{passes, false_is_not_true}
 use Rattle.sd_readable.proofs.kept.Steps.{IsAccepted}

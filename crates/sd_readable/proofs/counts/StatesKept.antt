@@ -13,9 +13,9 @@ use Rattle.sd_line.specs.Head.{HeadTree, import_line, symbol_line, program_decor
 use Rattle.sd_refusal.specs.NotAForm.{is_program}
 use Rattle.sd_refusal.specs.OverLimit.{new_states}
 use Rattle.sd_refusal.specs.declared.site.Counts.{Counts}
-use Rattle.sd_blocks.specs.Context.{Branch, Opener, file, function, statement, consumer, if_block, else_block, OpenBlock, Awaited, nothing, block, function_def, consume_def, Context, site_of}
-use Rattle.sd_blocks.specs.After.{context_after}
-use Rattle.sd_blocks.specs.Awaiting.{awaited_behind}
+use Rattle.sd_context.specs.Context.{Branch, Opener, file, function, statement, consumer, if_block, else_block, OpenBlock, Awaited, nothing, block, function_def, consume_def, Context, site_of}
+use Rattle.sd_context.specs.After.{context_after}
+use Rattle.sd_context.specs.Awaiting.{awaited_behind}
 use Rattle.sd_blocks.specs.Closing.{states_counted, lines_of, is_loop, opener_ends, late_states, nested, with_body, finished_by, finished, closed_by, closed_into}
 use Rattle.sd_blocks.specs.Continuing.{is_elif_or_else, goes_on, branches_of, next_opener}
 use Rattle.sd_readable.proofs.kept.Heads.{Opens, IsOpenedIn, AreNested}

@@ -11,12 +11,12 @@ use Rattle.sd_line.specs.Head.{HeadTree, import_line, symbol_line, program_decor
 use Rattle.sd_names.specs.Names.{Name}
 use Rattle.sd_refusal.specs.Counting.{is_connector as says_connector}
 use Rattle.sd_refusal.specs.OverLimit.{is_tasklet}
-use Rattle.sd_blocks.specs.After.{context_after}
-use Rattle.sd_blocks.specs.Awaiting.{awaited_behind}
-use Rattle.sd_blocks.specs.Context.{Branch, OpenBlock, block, Context, opening}
+use Rattle.sd_context.specs.After.{context_after}
+use Rattle.sd_context.specs.Awaiting.{awaited_behind}
+use Rattle.sd_context.specs.Context.{Branch, OpenBlock, block, Context, opening}
 use Rattle.sd_blocks.specs.Continuing.{is_elif_or_else, next_opener}
 use Rattle.sd_source.specs.Lines.{Line, connects_from, has_connector_line, opens_tasklet}
-use Rattle.sd_blocks.specs.Placing.{consume_kind}
+use Rattle.sd_context.specs.Placing.{consume_kind}
 use Rattle.sd_readable.proofs.kept.Heads.{IsBodyStatement, IsTaskletStatement, Fits}
 use Rattle.sd_readable.proofs.kept.Passing.{true_is_not_false, false_is_not_true}
 use Rattle.sd_readable.proofs.kept.Ahead.{Ahead, ahead, seen, connects_in, is_consumer, Promises, AllPromise, Within, BetweenBy, Between, promise-map, connects-joined, promise-more, seen_by, ended-ahead}

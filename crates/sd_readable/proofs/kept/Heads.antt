@@ -10,7 +10,7 @@ use Rattle.sd_line.specs.declared.head.BlockKind.TheVariants.{Top, Program, Scop
 use Rattle.sd_line.specs.ElementLine.{levels_of_sum}
 use Rattle.sd_line.specs.Head.{HeadTree, import_line, symbol_line, program_decorator, program_head, statement_head, reduce_head, input_head, output_head, consume_decorator, consume_head, elif_head, else_head}
 use Rattle.sd_readable.specs.Levels.{IsShallowCode, IsShallow}
-use Rattle.sd_blocks.specs.Context.{Opener, file, function, statement, consumer, if_block, else_block, OpenBlock}
+use Rattle.sd_context.specs.Context.{Opener, file, function, statement, consumer, if_block, else_block, OpenBlock}
 
 -- a step that is at least 1
 abbrev pub IsFromOne : Option ℤ → Type 0

@@ -9,9 +9,9 @@ use Rattle.sd_names.specs.Names.{Name}
 use Rattle.sd_refusal.specs.NotAForm.{block_is_misplaced, map_is_misplaced, set_is_misplaced, is_misplaced, misuses}
 use Rattle.sd_refusal.specs.Uses.{uses}
 use Rattle.std.specs.List.{list_any}
-use Rattle.sd_blocks.specs.Context.{Branch, Opener, file, function, statement, consumer, if_block, else_block, OpenBlock, Awaited, nothing, block, function_def, consume_def, Context, site_of}
-use Rattle.sd_blocks.specs.After.{context_after}
-use Rattle.sd_blocks.specs.Placing.{consumer_of, consume_kind}
+use Rattle.sd_context.specs.Context.{Branch, Opener, file, function, statement, consumer, if_block, else_block, OpenBlock, Awaited, nothing, block, function_def, consume_def, Context, site_of}
+use Rattle.sd_context.specs.After.{context_after}
+use Rattle.sd_context.specs.Placing.{consumer_of, consume_kind}
 use Rattle.sd_blocks.specs.Closing.{closed_by, closed_into}
 use Rattle.sd_blocks.specs.Continuing.{goes_on, next_opener}
 use Rattle.sd_readable.proofs.kept.Heads.{IsTaskletStatement, Fits, Opens, IsInner, IsIf, if_inner, IsBody, IsOpenedIn, AreNested}

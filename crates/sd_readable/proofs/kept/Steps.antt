@@ -12,17 +12,17 @@ use Rattle.sd_phrase.specs.declared.reading.Reading.TheVariants.{NoForm, TooDeep
 use Rattle.sd_names.specs.Names.{Name}
 use Rattle.sd_refusal.specs.NotAForm.{is_program}
 use Rattle.sd_refusal.specs.declared.site.Counts.{Counts}
+use Rattle.sd_context.specs.Context.{Opener, function, file, statement, consumer, if_block, else_block, OpenBlock, Awaited, nothing, block, function_def, consume_def, Context, opening}
+use Rattle.sd_context.specs.After.{context_after}
+use Rattle.sd_context.specs.Awaiting.{comes_right, wrong_number, wanted_of, is_wanted}
 use Rattle.sd_blocks.specs.declared.refusal.Refusal.{Refusal}
-use Rattle.sd_blocks.specs.Context.{Opener, function, file, statement, consumer, if_block, else_block, OpenBlock, Awaited, nothing, block, function_def, consume_def, Context, opening}
-use Rattle.sd_blocks.specs.After.{context_after}
-use Rattle.sd_blocks.specs.Awaiting.{comes_right, wrong_number, wanted_of, is_wanted}
 use Rattle.sd_blocks.specs.Closing.{Step, and_then, states_counted, with_counts, with_states, late_states, left_by, closed_by, closed, closed_into, closed_times}
 use Rattle.sd_blocks.specs.Continuing.{is_elif_or_else, goes_on, branches_of, left, next_branch, next_judged, with_branch_state, continued_by}
 use Rattle.sd_blocks.specs.Judging.{refused, against, statement_heads, steps_of, least, judged_one, judged_all, settled, judged_from}
 use Rattle.sd_source.specs.LineReading.{stands_here, judged_here, by_tokens, behind_last_block, behind_blocks, kind_in, kind_at, said, line_read}
 use Rattle.sd_source.specs.Lines.{Line, opens_tasklet}
 use Rattle.sd_source.specs.LinesReading.{lines_read, at_end, program_in, program_by, program_of_lines}
-use Rattle.sd_blocks.specs.declared.awaiting.Wanted.{Wanted}
+use Rattle.sd_context.specs.declared.awaiting.Wanted.{Wanted}
 use Rattle.sd_readable.proofs.kept.Heads.{AreExtents, IsArgument, AreArguments, Fits, IsFile, AreNested}
 use Rattle.sd_readable.proofs.kept.Ahead.{Ahead, ahead, seen, AllPromise, Within, BetweenBy, Between, EndsRight, starts, ends_ahead, ends_right, ends_within}
 use Rattle.sd_readable.proofs.kept.AheadKept.{Connects, passes_between, goes_on_between, opens_between, other_awaits}

@@ -12,9 +12,9 @@ use Rattle.sd_line.specs.Head.{HeadTree, import_line, symbol_line, program_decor
 use Rattle.sd_names.specs.Names.{Name, Names}
 use Rattle.sd_refusal.specs.OverLimit.{is_tasklet}
 use Rattle.sd_refusal.specs.declared.site.Site.{Site}
-use Rattle.sd_blocks.specs.Context.{Branch, Opener, file, function, statement, consumer, if_block, else_block, OpenBlock, Awaited, nothing, block, function_def, consume_def, Context, site_of}
-use Rattle.sd_blocks.specs.After.{context_after}
-use Rattle.sd_blocks.specs.Placing.{memlet_of, consumer_of, consume_kind}
+use Rattle.sd_context.specs.Context.{Branch, Opener, file, function, statement, consumer, if_block, else_block, OpenBlock, Awaited, nothing, block, function_def, consume_def, Context, site_of}
+use Rattle.sd_context.specs.After.{context_after}
+use Rattle.sd_context.specs.Placing.{memlet_of, consumer_of, consume_kind}
 use Rattle.sd_blocks.specs.Closing.{branch_with, nested, with_body, finished_by, finished, closed_by, closed_into}
 use Rattle.sd_blocks.specs.Continuing.{goes_on, branches_of, next_opener}
 use Rattle.sd_readable.proofs.kept.Heads.{GoesOn, AreExtents, IsOfLine, IsBodyStatement, IsTaskletStatement, Fits, Opens, IsOpenedIn, AreNested}

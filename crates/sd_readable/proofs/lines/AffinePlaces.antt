@@ -7,8 +7,8 @@ use Rattle.sd_line.specs.declared.head.BlockKind.{BlockKind}
 use Rattle.sd_line.specs.declared.head.BlockKind.TheVariants.{Top, Program, Scope, Tasklet}
 use Rattle.sd_line.specs.Head.{HeadTree, statement_head, input_head, output_head, elif_head}
 use Rattle.sd_phrase.specs.Memlet.{MemletTree}
+use Rattle.sd_context.specs.Placing.{memlet_of}
 use Rattle.sd_blocks.specs.Closing.{branch_with}
-use Rattle.sd_blocks.specs.Placing.{memlet_of}
 use Rattle.sd_range.specs.declared.affine.Affine.{Affine}
 use Rattle.sd_names.specs.declared.meaning.Meaning.{Meaning}
 use Rattle.sd_names.specs.Names.{Name, Names, meaning_of, listed, place_of, is_number_kind, is_array, is_stream}

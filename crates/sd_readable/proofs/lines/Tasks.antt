@@ -11,9 +11,9 @@ use Rattle.sd_line.specs.Head.{HeadTree, import_line, symbol_line, program_decor
 use Rattle.sd_names.specs.Names.{Name}
 use Rattle.sd_refusal.specs.OverLimit.{new_lines}
 use Rattle.sd_program.specs.Limits.{connectors_in, lines_in, lines_in_all}
-use Rattle.sd_blocks.specs.After.{context_after}
-use Rattle.sd_blocks.specs.Context.{Branch, Opener, file, function, statement, consumer, if_block, else_block, OpenBlock, Awaited, nothing, block, function_def, consume_def, Context, site_of}
-use Rattle.sd_blocks.specs.Placing.{consumer_of}
+use Rattle.sd_context.specs.After.{context_after}
+use Rattle.sd_context.specs.Context.{Branch, Opener, file, function, statement, consumer, if_block, else_block, OpenBlock, Awaited, nothing, block, function_def, consume_def, Context, site_of}
+use Rattle.sd_context.specs.Placing.{consumer_of}
 use Rattle.sd_readable.proofs.kept.Heads.{Fits}
 use Rattle.sd_readable.proofs.kept.Passing.{passes}
 use Rattle.sd_readable.proofs.kept.Steps.{IsAccepted}

@@ -9,9 +9,9 @@ use Rattle.sd_line.specs.Head.{HeadTree, import_line, symbol_line, program_decor
 use Rattle.sd_refusal.specs.OverLimit.{is_tasklet, new_lines}
 use Rattle.sd_refusal.specs.declared.site.Counts.{Counts}
 use Rattle.sd_program.specs.Limits.{else_line, lines_in_other, HasSmallTask}
-use Rattle.sd_blocks.specs.After.{context_after}
+use Rattle.sd_context.specs.After.{context_after}
+use Rattle.sd_context.specs.Context.{Branch, Opener, file, function, statement, consumer, if_block, else_block, OpenBlock, Context, site_of}
 use Rattle.sd_blocks.specs.Closing.{states_behind, states_counted, late_states, branch_with, nested, with_body, finished_by, finished, closed_by, closed_into}
-use Rattle.sd_blocks.specs.Context.{Branch, Opener, file, function, statement, consumer, if_block, else_block, OpenBlock, Context, site_of}
 use Rattle.sd_blocks.specs.Continuing.{is_elif_or_else, goes_on, branches_of, next_opener}
 use Rattle.sd_readable.proofs.kept.Ahead.{is_consumer, EndsRight}
 use Rattle.sd_readable.proofs.kept.Nesting.{same_kind}

@@ -14,9 +14,9 @@ use Rattle.sd_names.specs.declared.meaning.Signature.{Signature}
 use Rattle.sd_names.specs.Names.{Name, Names, listed, put}
 use Rattle.sd_refusal.specs.OverLimit.{is_tasklet}
 use Rattle.sd_refusal.specs.declared.site.Site.{Site}
-use Rattle.sd_blocks.specs.Context.{Branch, Opener, file, function, statement, consumer, if_block, else_block, OpenBlock, Awaited, nothing, block, function_def, consume_def, Context}
+use Rattle.sd_context.specs.Context.{Branch, Opener, file, function, statement, consumer, if_block, else_block, OpenBlock, Awaited, nothing, block, function_def, consume_def, Context}
+use Rattle.sd_context.specs.Placing.{memlet_of, kind_in, lambda_or_last}
 use Rattle.sd_blocks.specs.Closing.{branch_with, keeps_containers}
-use Rattle.sd_blocks.specs.Placing.{memlet_of, kind_in, lambda_or_last}
 use Rattle.sd_program.specs.Names.{Named, in_force}
 use Rattle.sd_program.specs.Calls.{argument_counts}
 use Rattle.sd_program.specs.Declared.{containers_in_all}

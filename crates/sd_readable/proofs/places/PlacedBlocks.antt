@@ -7,7 +7,7 @@ use Rattle.sd_line.specs.declared.head.BlockKind.{BlockKind}
 use Rattle.sd_names.specs.declared.meaning.Container.{Container}
 use Rattle.sd_names.specs.Names.{Name}
 use Rattle.sd_refusal.specs.OverLimit.{is_tasklet}
-use Rattle.sd_blocks.specs.Context.{Branch, Opener, file, function, statement, consumer, if_block, else_block}
+use Rattle.sd_context.specs.Context.{Branch, Opener, file, function, statement, consumer, if_block, else_block}
 use Rattle.sd_blocks.specs.Closing.{is_loop, branch_with, nested, with_body, finished_by}
 use Rattle.sd_program.specs.Names.{Named}
 use Rattle.sd_program.specs.Place.{Place, behind, behind_all, past_all, in_consume, EveryAt, EveryFrom}
@@ -16,7 +16,7 @@ use Rattle.sd_readable.proofs.kept.Ahead.{is_consumer}
 use Rattle.sd_readable.proofs.kept.Heads.{Opens, IsOpenedIn}
 use Rattle.sd_readable.proofs.kept.Trees.{bare}
 use Rattle.sd_readable.proofs.kept.InForce.{Agrees}
-use Rattle.sd_blocks.specs.Placing.{opened}
+use Rattle.sd_context.specs.Placing.{opened}
 use Rattle.sd_readable.proofs.places.Placed.{over, through, begins_by, begins, AllFrom, HasHead, AreBranches, IsGoodOpener, HoldsInPlaces}
 
 -- what is asked where containers do not stay in force

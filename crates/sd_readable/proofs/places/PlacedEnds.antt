@@ -10,17 +10,17 @@ use Rattle.sd_line.specs.declared.head.BlockKind.TheVariants.{Top, Program, Scop
 use Rattle.sd_line.specs.Head.{HeadTree, import_line, symbol_line, program_decorator, program_head, statement_head, reduce_head, input_head, output_head, consume_decorator, consume_head, elif_head, else_head}
 use Rattle.sd_range.specs.declared.affine.Affine.{Affine}
 use Rattle.sd_refusal.specs.declared.site.Site.{Site}
+use Rattle.sd_context.specs.Declaring.{names_behind}
+use Rattle.sd_context.specs.Awaiting.{awaited_behind}
 use Rattle.sd_blocks.specs.Continuing.{is_elif_or_else, goes_on, branches_of, next_opener}
-use Rattle.sd_blocks.specs.Declaring.{names_behind}
-use Rattle.sd_blocks.specs.Awaiting.{awaited_behind}
 use Rattle.sd_names.specs.declared.meaning.Container.{Container}
 use Rattle.sd_names.specs.declared.meaning.Container.TheVariants.{Array}
 use Rattle.sd_names.specs.Names.{Name, Names, listed, put}
 use Rattle.sd_names.specs.Expressions.{affine_list}
 use Rattle.sd_names.specs.Extents.{or_one}
 use Rattle.sd_refusal.specs.declared.site.Counts.{Counts}
-use Rattle.sd_blocks.specs.Context.{Branch, Opener, file, function, statement, consumer, if_block, else_block, OpenBlock, Awaited, nothing, block, function_def, consume_def, Context, site_of, in_force as count_in_force}
-use Rattle.sd_blocks.specs.After.{parameters_behind, known_behind, context_after}
+use Rattle.sd_context.specs.Context.{Branch, Opener, file, function, statement, consumer, if_block, else_block, OpenBlock, Awaited, nothing, block, function_def, consume_def, Context, site_of, in_force as count_in_force}
+use Rattle.sd_context.specs.After.{parameters_behind, known_behind, context_after}
 use Rattle.sd_blocks.specs.Closing.{is_loop, branch_with, finished_by, finished, keeps_containers, names_outside, parameter_of, signature_of, with_function, left_by, closed_by, closed_into}
 use Rattle.sd_program.specs.Names.{in_force}
 use Rattle.sd_program.specs.Calls.{argument_counts}
@@ -35,7 +35,7 @@ use Rattle.sd_readable.proofs.kept.Steps.{IsFunction, IsBegun, IsWellNested, IsA
 use Rattle.sd_readable.proofs.kept.Nesting.{top_is_file}
 use Rattle.sd_readable.proofs.kept.InForce.{Agrees, more_agrees, none_agrees, listed-put}
 use Rattle.sd_names.specs.declared.meaning.Meaning.{Meaning}
-use Rattle.sd_blocks.specs.Placing.{opened, with_statements}
+use Rattle.sd_context.specs.Placing.{opened, with_statements}
 use Rattle.sd_readable.proofs.kept.Affine.{none_is_not_some}
 use Rattle.sd_readable.proofs.places.Placed.{IsAt, block_place, behind-joined, by_keeping, place-same, outside-same, AwaitsWell, around_of, over, through, begins, place_at, now, over-joined, through-more, SignaturesAgree, AllFrom, from-joined, AreBranches, IsGoodOpener, AreGoodBlocks, by_way, AgreeOutside, HoldsInPlaces, HoldsSoFar}
 use Rattle.sd_readable.proofs.places.PlacedNames.{programs_at, programs_through, through_depth, through_around, argument_holder}

@@ -18,8 +18,8 @@ use Rattle.sd_refusal.specs.NotAffine.{any_bound}
 use Rattle.sd_refusal.specs.OverLimit.{is_wide_or_long, counts_much}
 use Rattle.sd_refusal.specs.ShapeMismatch.{is_no_call, is_no_argument, is_shared}
 use Rattle.sd_refusal.specs.declared.site.Site.{Site}
+use Rattle.sd_context.specs.Placing.{memlet_of, kind_in, lambda_or_last}
 use Rattle.sd_blocks.specs.Closing.{branch_with}
-use Rattle.sd_blocks.specs.Placing.{memlet_of, kind_in, lambda_or_last}
 use Rattle.sd_program.specs.Names.{in_force}
 use Rattle.sd_program.specs.Place.{Around, program, scope, task, signature, Place}
 use Rattle.sd_program.specs.Known.{StandsInSignature, StandsInScope, StandsInProgram, StandsInTasklet, StandsIn, IsPlaced}

@@ -5,9 +5,9 @@ use Rattle.std.proofs.Math.Seq.{take-length}
 use Rattle.sd_lex.specs.PlainTree.{Expression, Expressions, StatementTree, argument_array, local_array, local_stream, assign, copy, reduce, map_scope, tasklet, consume_scope, call, for_loop, while_loop, branch, input, output, set, set_at, tasklet_branch, Block, FunctionTree}
 use Rattle.sd_phrase.specs.Memlet.{LambdaTree, MemletTree}
 use Rattle.sd_refusal.specs.NotAForm.{block_is_misplaced}
-use Rattle.sd_blocks.specs.After.{context_after}
-use Rattle.sd_blocks.specs.Declaring.{with_local, with_worker, connector_dimensions}
-use Rattle.sd_blocks.specs.Awaiting.{wanted_of, is_wanted}
+use Rattle.sd_context.specs.After.{context_after}
+use Rattle.sd_context.specs.Declaring.{with_local, with_worker, connector_dimensions}
+use Rattle.sd_context.specs.Awaiting.{wanted_of, is_wanted}
 use Rattle.sd_line.specs.declared.head.BlockKind.{BlockKind}
 use Rattle.sd_line.specs.declared.head.BlockKind.TheVariants.{Top, Program, Scope, Tasklet}
 use Rattle.sd_line.specs.Head.{HeadTree, import_line, symbol_line, program_decorator, program_head, statement_head, reduce_head, input_head, output_head, consume_decorator, consume_head, elif_head, else_head}
@@ -21,9 +21,9 @@ use Rattle.sd_names.specs.Extents.{one_extent}
 use Rattle.sd_refusal.specs.OverLimit.{is_tasklet}
 use Rattle.sd_refusal.specs.Twice.{declares, are_not_new, declares_local}
 use Rattle.sd_refusal.specs.declared.site.Counts.{Counts}
-use Rattle.sd_blocks.specs.declared.block.InForce.{InForce}
-use Rattle.sd_blocks.specs.Context.{Opener, statement, if_block, Awaited, nothing, block, function_def, consume_def, Context, site_of, in_force}
-use Rattle.sd_blocks.specs.Placing.{memlet_of, kind_in, lambda_or_last, consumer_of}
+use Rattle.sd_context.specs.declared.block.InForce.{InForce}
+use Rattle.sd_context.specs.Context.{Opener, statement, if_block, Awaited, nothing, block, function_def, consume_def, Context, site_of, in_force}
+use Rattle.sd_context.specs.Placing.{memlet_of, kind_in, lambda_or_last, consumer_of}
 use Rattle.sd_program.specs.Place.{Place, behind, in_consume, EveryAt}
 use Rattle.sd_readable.proofs.kept.Heads.{Fits, Opens, IsInner}
 use Rattle.sd_readable.proofs.kept.NewNames.{first_new, declares_new}

@@ -11,7 +11,7 @@ use Rattle.sd_names.specs.Names.{Name, Names, listed, put, meaning_of, container
 use Rattle.sd_names.specs.Expressions.{affine_list, expression_list}
 use Rattle.sd_names.specs.Extents.{or_one}
 use Rattle.sd_refusal.specs.OverLimit.{is_tasklet}
-use Rattle.sd_blocks.specs.Context.{Branch, Opener, file, function, statement, consumer, if_block, else_block, OpenBlock}
+use Rattle.sd_context.specs.Context.{Branch, Opener, file, function, statement, consumer, if_block, else_block, OpenBlock}
 use Rattle.sd_program.specs.Names.{in_force as in_force'}
 use Rattle.sd_program.specs.Calls.{argument_counts}
 use Rattle.sd_program.specs.Place.{of_dimensions, Place, length_of, dimensions_of, in_consume}

@@ -1,5 +1,5 @@
 use Rattle.std.proofs.Common.{◌≡◌, length, map, reverse}
-use Rattle.sd_blocks.specs.ContextFold.{open_block_of}
+use Rattle.sd_context.specs.ContextFold.{open_block_of}
 use Rattle.sd_source.specs.LineReading as reading
 use Rattle.sd_source.proofs.line_reading.kind_about.Given as goal
 

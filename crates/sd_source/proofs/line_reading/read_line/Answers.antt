@@ -2,7 +2,8 @@ use Rattle.std.proofs.Common.{rules, ◌≡◌}
 use Rattle.std.specs.Prelude.{IfOk}
 use Rattle.sd_line.specs.HeadFold.{head_tree}
 use Rattle.sd_phrase.specs.Readings.{reading_map}
-use Rattle.sd_blocks.specs.ContextFold.{stepped, context_of}
+use Rattle.sd_context.specs.ContextFold.{context_of}
+use Rattle.sd_blocks.specs.StepFold.{stepped}
 use Rattle.sd_source.specs.LineReading as definition
 use Rattle.sd_source.specs.SourceLines.{lines_of}
 use Rattle.sd_source.proofs.line_reading.read_line.Goals as goal

@@ -1,5 +1,5 @@
 use Rattle.std.proofs.Common.{◌≡◌, ◌+◌, length}
-use Rattle.sd_blocks.specs.ContextFold.{context_of}
+use Rattle.sd_context.specs.ContextFold.{context_of}
 use Rattle.sd_source.specs.LinesReading as reading
 use Rattle.sd_source.specs.Prefix.{count_before_refusal}
 use Rattle.sd_source.specs.SourceLines.{lines_of}

@@ -1,5 +1,5 @@
 use Rattle.std.proofs.Common.{◌≡◌, vec_len}
-use Rattle.sd_blocks.specs.ContextFold.{context_of}
+use Rattle.sd_context.specs.ContextFold.{context_of}
 use Rattle.sd_source.specs.Prefix.{ended}
 use Rattle.sd_source.proofs.prefix.end.Given as goal
 

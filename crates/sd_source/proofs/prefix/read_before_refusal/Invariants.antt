@@ -1,5 +1,5 @@
 use Rattle.std.proofs.Common.{◌≡◌, length}
-use Rattle.sd_blocks.specs.ContextFold.{context_of}
+use Rattle.sd_context.specs.ContextFold.{context_of}
 use Rattle.sd_source.specs.Prefix.{context_before_refusal, count_before_refusal}
 use Rattle.sd_source.specs.SourceLines.{lines_of}
 use Rattle.sd_source.proofs.prefix.read_before_refusal.Given as goal

@@ -1,7 +1,7 @@
 use Rattle.std.proofs.Common.{◌≡◌, map, vec_len}
 use Rattle.sd_lex.specs.TreeFold.{statement_of}
+use Rattle.sd_context.specs.ContextFold.{branch_of}
 use Rattle.sd_blocks.specs.Closing as closing
-use Rattle.sd_blocks.specs.ContextFold.{branch_of}
 use Rattle.sd_blocks.proofs.closing.finished.nested.Given as goal
 
 -- the branches that are left, with what was made of those behind them

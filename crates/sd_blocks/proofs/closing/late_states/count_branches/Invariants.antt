@@ -1,6 +1,6 @@
 use Rattle.std.proofs.Common.{◌≡◌, ◌≤◌, map, take, length}
+use Rattle.sd_context.specs.ContextFold.{branch_of}
 use Rattle.sd_blocks.specs.Closing as closing
-use Rattle.sd_blocks.specs.ContextFold.{branch_of}
 use Rattle.sd_blocks.proofs.closing.late_states.count_branches.Given as goal
 
 -- the branches that are left, from the counts so far
