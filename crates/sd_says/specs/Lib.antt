@@ -1,0 +1,15 @@
+pub mod Exact
+pub mod Held
+pub mod Declared
+pub mod Setting
+pub mod Operators
+pub mod Parts
+pub mod Elements
+pub mod Connectors
+pub mod Tasklets
+pub mod Leaves
+pub mod Behind
+pub mod Ways
+pub mod Items
+pub mod Statements
+pub mod Says
