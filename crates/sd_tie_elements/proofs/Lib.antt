@@ -1,0 +1,10 @@
+pub mod Lookups
+pub mod Affines
+pub mod Places
+pub mod Used
+pub mod LinkReads
+pub mod Signs
+pub mod Values
+pub mod Statements
+pub mod PartsTied
+pub mod PartsKnown
