@@ -1,0 +1,13 @@
+pub mod Signs
+pub mod Named
+pub mod Bounding
+pub mod Walks
+pub mod Columns
+pub mod Lasts
+pub mod Level
+pub mod AtPoint
+pub mod Distances
+pub mod Disjoint
+pub mod Hulls
+pub mod examples
+pub mod Orders

@@ -1,0 +1,6 @@
+pub mod Box
+pub mod InForce
+pub mod Apart
+pub mod Hull
+pub mod Fits
+pub mod Columns

@@ -1,0 +1,120 @@
+//! Boxes that share no element at two points of a map.
+ghost use Rattle.std.specs.Prelude.{◌≡◌, ◌↔◌, ◌⊎◌, IfOk, IsTrue};
+ghost use Rattle.std.specs.List.{All};
+ghost use Rattle.sd_range.specs.Arithmetic.{affine_difference, IsRepresentable};
+ghost use Rattle.sd_box.specs.Apart as definition;
+ghost use Rattle.sd_box.specs.Box as boxes;
+ghost use Rattle.sd_box.specs.Fits.{AreComparable, AreMeasurable, AreTold, FitsGreatest, FitsReplaced, FitsSingle};
+
+use crate::apart::{are_disjoint, are_separated};
+use crate::bounds::Bounds;
+use crate::replacing::{greatest, replaced};
+use sd_list::NoMemory;
+use sd_range::{Affine, Range};
+use std::alloc::Global;
+
+/// Whether less than a step of a parameter fits between its begin and this end.
+fn is_near(
+    alloc: Global,
+    around: &[(u32, Range)],
+    parameter: &(u32, Range),
+    end: &Affine,
+) -> Result<bool, NoMemory>
+    requires gap { IsRepresentable (affine_difference end.now parameter.now.1.begin) }
+    requires fits { FitsGreatest around.now (affine_difference end.now parameter.now.1.begin) }
+    ensures { IfOk result (λ is. (IsTrue is) ↔ (definition.IsBelow (boxes.greatest around.now (affine_difference end.now parameter.now.1.begin)) parameter.now.1.step)) }
+{
+    let length = end.minus(alloc, &parameter.1.begin)?;
+    let length = greatest(alloc, around, &length)?;
+    Ok(length.terms.as_slice().is_empty() && length.constant < parameter.1.step)
+}
+
+/// Whether a parameter has one value, seen from the greatest distance of an end to its begin.
+pub fn is_single(
+    alloc: Global,
+    around: &[(u32, Range)],
+    parameter: &(u32, Range),
+) -> Result<bool, NoMemory>
+    requires { FitsSingle around.now parameter.now }
+    ensures { IfOk result (λ is. (IsTrue is) ↔ (definition.IsSingle around.now parameter.now)) }
+{
+    for end in parameter.1.ends.as_slice() {
+        if is_near(alloc, around, parameter, end)? {
+            return Ok(true);
+        }
+    }
+    Ok(false)
+}
+
+/// Whether two boxes are apart, with a map's parameters replaced in both.
+pub fn are_apart(
+    alloc: Global,
+    around: &[(u32, Range)],
+    own: &[(u32, Range)],
+    one: &[Bounds],
+    other: &[Bounds],
+) -> Result<bool, NoMemory>
+    requires one { All (FitsReplaced own.now) one.now }
+    requires other { All (FitsReplaced own.now) other.now }
+    requires comparable { AreComparable around.now (boxes.replaced own.now one.now) (boxes.replaced own.now other.now) }
+    ensures { IfOk result (λ are. (IsTrue are) ↔ (definition.AreApart around.now own.now one.now other.now)) }
+{
+    let one = replaced(alloc, own, one)?;
+    let other = replaced(alloc, own, other)?;
+    are_disjoint(alloc, around, one.as_slice(), other.as_slice())
+}
+
+/// Whether a parameter separates two boxes, or is single.
+fn is_settled(
+    alloc: Global,
+    around: &[(u32, Range)],
+    own: &[(u32, Range)],
+    by: &(u32, Range),
+    one: &[Bounds],
+    other: &[Bounds],
+) -> Result<bool, NoMemory>
+    requires measurable { AreMeasurable by.now one.now other.now }
+    requires single { FitsSingle around.now by.now }
+    ensures { IfOk result (λ is. (IsTrue is) ↔ (definition.IsSingle around.now by.now ⊎ definition.AreSeparated own.now by.now one.now other.now)) }
+{
+    if are_separated(own, by, one, other) {
+        return Ok(true);
+    }
+    is_single(alloc, around, by)
+}
+
+/// Whether two boxes are separated on each parameter of a map that is not single.
+fn are_all_separated(
+    alloc: Global,
+    around: &[(u32, Range)],
+    own: &[(u32, Range)],
+    one: &[Bounds],
+    other: &[Bounds],
+) -> Result<bool, NoMemory>
+    requires { AreTold around.now own.now one.now other.now }
+    ensures { IfOk result (λ are. (IsTrue are) ↔ (definition.AreAllSeparated around.now own.now one.now other.now)) }
+{
+    for by in own {
+        if !is_settled(alloc, around, own, by, one, other)? {
+            return Ok(false);
+        }
+    }
+    Ok(true)
+}
+
+/// Whether two boxes share no element at two points of a map, as far as their bounds show.
+pub fn are_harmless(
+    alloc: Global,
+    around: &[(u32, Range)],
+    own: &[(u32, Range)],
+    one: &[Bounds],
+    other: &[Bounds],
+) -> Result<bool, NoMemory>
+    requires { AreTold around.now own.now one.now other.now }
+    ensures { IfOk result (λ are. (IsTrue are) ↔ (definition.AreHarmless around.now own.now one.now other.now)) }
+{
+    if are_all_separated(alloc, around, own, one, other)? {
+        return Ok(true);
+    }
+    are_apart(alloc, around, own, one, other)
+}
