@@ -16,8 +16,10 @@ use Rattle.sd_graph.specs.declared.tasklet.Tasklet.{Tasklet}
 use Rattle.sd_graph.specs.declared.tasklet.Port.{Port}
 use Rattle.sd_program.specs.Names.{Named}
 use Rattle.sd_task.specs.Links.{ports_of}
-use Rattle.sd_tasklet_item.specs.Code.{task_value, task_values, followed_by, locals_behind, next_behind, used_acts_all, next_behind_all, act_of, acts_of}
-use Rattle.sd_tasklet_item.specs.Item.{connectors_from, code_with}
+use Rattle.sd_tasklet_names.specs.UsedNames.{locals_behind, next_behind, used_acts_all, next_behind_all}
+use Rattle.sd_tasklet_item.specs.Code.{task_value, task_values, followed_by, act_of, acts_of}
+use Rattle.sd_tasklet_names.specs.UsedNames.{connectors_from}
+use Rattle.sd_tasklet_item.specs.Item.{code_with}
 
 -- the code of several expressions, one by one
 pub values_mapped : (variables ins outs : Named ℕ) (used : List ℕ) (locals : Named ℕ) (expressions : List Expr) →

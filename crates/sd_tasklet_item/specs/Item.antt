@@ -7,7 +7,8 @@ use Rattle.sd_program.specs.Names.{Named}
 use Rattle.sd_in_force.specs.Names.{with_numbered}
 use Rattle.sd_task.specs.Table.{Table}
 use Rattle.sd_task.specs.Links.{memlet_link, ports_of}
-use Rattle.sd_tasklet_item.specs.Code.{used_acts_all, next_behind_all, acts_of}
+use Rattle.sd_tasklet_names.specs.UsedNames.{connectors_from, used_acts_all, next_behind_all}
+use Rattle.sd_tasklet_item.specs.Code.{acts_of}
 
 -- the link of a line that declares an input, before these
 abbrev pub input_before : Table → StatementTree → List Link → List Link
@@ -26,10 +27,6 @@ output_before table statement rest = rest
 abbrev pub outputs_of : Table → Block → List Link
 outputs_of table no_statement = []
 outputs_of table (and_statement first rest) = output_before table first (outputs_of table rest)
-
--- connectors as names in force, the first with this number
-abbrev pub connectors_from : (next : ℕ) → List Link → Named ℕ
-connectors_from next links = with_numbered (map (λ link. link.connector) links) next []
 
 -- the code of a tasklet with these links: its inputs are numbered first, then its outputs
 abbrev pub code_with : (variables : Named ℕ) → (ins outs : List Link) → Block → TaskletTree

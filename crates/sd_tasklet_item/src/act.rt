@@ -2,14 +2,15 @@ ghost use Rattle.std.specs.Prelude.{◌≡◌, option_map, IfOk, OnOk};
 ghost use Rattle.sd_graph.specs.TreeFold.{act_tree, act_trees, value_tree};
 ghost use Rattle.sd_lex.specs.TreeFold.{statement_of, block_of};
 ghost use Rattle.sd_tasklet_item.specs.Code as definition;
+ghost use Rattle.sd_tasklet_names.specs.UsedNames as names;
 
-use crate::names::{Connectors, Locals};
 use crate::value::{value, values};
 use indexmap::IndexSet;
 use sd_graph::{Act, Value};
 use sd_in_force::Scope;
 use sd_lex::Statement;
 use sd_list::NoMemory;
+use sd_tasklet_names::{Connectors, Locals};
 use std::alloc::Global;
 
 /// What is assigned to an output connector, or else to a local.
@@ -37,8 +38,8 @@ fn act(
     statement: &Statement,
 ) -> Result<Option<Act>, NoMemory>
     ensures act { IfOk result (λ act. option_map act_tree act ≡ definition.act_of variables.now connectors.now.ins connectors.now.outs used.now.keys (statement_of statement.now) locals.old.names locals.old.next) }
-    ensures locals { OnOk result (locals.new.names ≡ definition.locals_behind variables.now connectors.now.ins connectors.now.outs (statement_of statement.now) locals.old.names locals.old.next) }
-    ensures next { OnOk result (locals.new.next ≡ definition.next_behind variables.now connectors.now.ins connectors.now.outs (statement_of statement.now) locals.old.names locals.old.next) }
+    ensures locals { OnOk result (locals.new.names ≡ names.locals_behind variables.now connectors.now.ins connectors.now.outs (statement_of statement.now) locals.old.names locals.old.next) }
+    ensures next { OnOk result (locals.new.next ≡ names.next_behind variables.now connectors.now.ins connectors.now.outs (statement_of statement.now) locals.old.names locals.old.next) }
 {
     match statement {
         Statement::Set {
@@ -88,7 +89,7 @@ pub(crate) fn acts(
 ) -> Result<Vec<Act>, NoMemory>
     ensures acts { IfOk result (λ acts. act_trees acts.items ≡ definition.acts_of variables.now connectors.now.ins connectors.now.outs used.now.keys (block_of body.now) locals.old.names locals.old.next) }
     ensures locals { OnOk result (locals.new.names ≡ locals.old.names) }
-    ensures next { OnOk result (locals.new.next ≡ definition.next_behind_all variables.now connectors.now.ins connectors.now.outs (block_of body.now) locals.old.names locals.old.next) }
+    ensures next { OnOk result (locals.new.next ≡ names.next_behind_all variables.now connectors.now.ins connectors.now.outs (block_of body.now) locals.old.names locals.old.next) }
 {
     let mark = locals.names.len();
     let mut acts = Vec::new(alloc);

@@ -10,13 +10,12 @@ ghost use Rattle.sd_tasklet_item.specs.Item as definition;
 
 use crate::act::acts;
 use crate::link::{push_inputs, push_outputs};
-use crate::names::{Connectors, Locals};
-use crate::used::used_variables;
 use sd_graph::{ItemKind, Link, Tasklet};
 use sd_in_force::Scope;
 use sd_lex::Statement;
 use sd_list::NoMemory;
 use sd_task::{Names, ports};
+use sd_tasklet_names::{Connectors, Locals, used_variables};
 use std::alloc::Global;
 
 /// The code of a tasklet with these links.

@@ -7,8 +7,6 @@
 mod act;
 mod item;
 mod link;
-mod names;
-mod used;
 mod value;
 
 pub use item::{task_with, tasklet_item};

@@ -8,7 +8,7 @@ use Rattle.sd_in_force.specs.Stack.{oldest}
 use Rattle.sd_in_force.proofs.ListLemmas.{drop_all}
 use Rattle.sd_tasklet_item.specs.Code.{act_of, acts_of, followed_by}
 use Rattle.sd_tasklet_item.proofs.CodeLemmas.{acts_before, acts_before_more, acts_before_none, acts_stepped}
-use Rattle.sd_tasklet_item.proofs.LocalLemmas.{behind_keeps, behind_longer}
+use Rattle.sd_tasklet_names.proofs.LocalLemmas.{behind_keeps, behind_longer}
 use Rattle.sd_tasklet_item.proofs.act.+acts.Goals as goal
 use Rattle.sd_tasklet_item.proofs.act.+acts.Goals.{acts-in-Some+in_ok-push, acts-in_default}
 

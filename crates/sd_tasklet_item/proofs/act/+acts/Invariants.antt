@@ -2,7 +2,8 @@ use Rattle.std.proofs.Common.{◌≡◌, ◌≤◌, drop, length, map}
 use Rattle.sd_graph.specs.TreeFold.{act_tree}
 use Rattle.sd_lex.specs.TreeFold.{block_of}
 use Rattle.sd_in_force.specs.Stack.{oldest}
-use Rattle.sd_tasklet_item.specs.Code.{acts_of, next_behind_all}
+use Rattle.sd_tasklet_names.specs.UsedNames.{next_behind_all}
+use Rattle.sd_tasklet_item.specs.Code.{acts_of}
 use Rattle.sd_tasklet_item.proofs.CodeLemmas.{acts_before}
 use Rattle.sd_tasklet_item.proofs.act.+acts.Given as goal
 

@@ -2,8 +2,8 @@ use Rattle.std.proofs.Common.{arith, ◌≤◌, ◌∙◌, ap, sym, subst, lengt
 use Rattle.std.proofs.lemmas.Grind.{common_steps}
 use Rattle.sd_lex.specs.TreeFold.{statement_of}
 use Rattle.sd_in_force.specs.Stack.{oldest}
-use Rattle.sd_tasklet_item.proofs.LocalLemmas.{behind_keeps, behind_longer}
-use Rattle.sd_tasklet_item.proofs.used.+lines.Goals as goal
+use Rattle.sd_tasklet_names.proofs.LocalLemmas.{behind_keeps, behind_longer}
+use Rattle.sd_tasklet_names.proofs.used.+lines.Goals as goal
 
 pub push_used_block-loop-statement-preserved : goal.push_used_block-loop-statement-preserved
 push_used_block-loop-statement-preserved t c =

@@ -1,7 +1,7 @@
 use Rattle.std.proofs.Common.{◌≡◌, drop}
 use Rattle.sd_lex.specs.TreeFold.{expressions_of}
-use Rattle.sd_tasklet_item.specs.Code.{used_values}
-use Rattle.sd_tasklet_item.proofs.value.+used.Given as goal
+use Rattle.sd_tasklet_names.specs.UsedNames.{used_values}
+use Rattle.sd_tasklet_names.proofs.expression.+used.Given as goal
 
 abbrev pub invariant-push_all_used-loop-expression : goal.invariant-push_all_used-loop-expression
 invariant-push_all_used-loop-expression l =

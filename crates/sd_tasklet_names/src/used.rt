@@ -1,9 +1,9 @@
 ghost use Rattle.std.specs.Prelude.{◌≡◌, [], IfOk, OnOk};
 ghost use Rattle.sd_lex.specs.TreeFold.{statement_of, block_of};
-ghost use Rattle.sd_tasklet_item.specs.Code as definition;
+ghost use Rattle.sd_tasklet_names.specs.UsedNames as definition;
 
+use crate::expression::{push_all_used, push_used};
 use crate::names::{Connectors, Locals};
-use crate::value::{push_all_used, push_used};
 use indexmap::IndexSet;
 use sd_in_force::Scope;
 use sd_lex::Statement;
@@ -71,7 +71,7 @@ fn push_used_block(
 }
 
 /// The variables that a tasklet's code uses.
-pub(crate) fn used_variables(
+pub fn used_variables(
     alloc: Global,
     variables: &Scope,
     connectors: &Connectors,

@@ -3,7 +3,7 @@ use Rattle.std.proofs.Common.{◌≡◌, ℕ, suc, ◌-◌, ◌≤◌, ◌∷◌
 use Rattle.sd_lex.specs.PlainTree.{StatementTree, argument_array, local_array, local_stream, assign, copy, reduce, map_scope, tasklet, consume_scope, call, for_loop, while_loop, branch, input, output, set, set_at, tasklet_branch}
 use Rattle.sd_program.specs.Names.{Name, Named}
 use Rattle.sd_in_force.specs.Stack.{oldest}
-use Rattle.sd_tasklet_item.specs.Code.{is_assigned, locals_behind}
+use Rattle.sd_tasklet_names.specs.UsedNames.{is_assigned, locals_behind}
 
 pub oldest_all : (names : Named ℕ) → oldest (length names) names ≡ names
 oldest_all names =

@@ -1,8 +1,8 @@
 use Rattle.std.proofs.Common.{◌≡◌, ◌≤◌, drop, length}
 use Rattle.sd_lex.specs.TreeFold.{block_of}
 use Rattle.sd_in_force.specs.Stack.{oldest}
-use Rattle.sd_tasklet_item.specs.Code.{used_acts_all, next_behind_all}
-use Rattle.sd_tasklet_item.proofs.used.+lines.Given as goal
+use Rattle.sd_tasklet_names.specs.UsedNames.{used_acts_all, next_behind_all}
+use Rattle.sd_tasklet_names.proofs.used.+lines.Given as goal
 
 abbrev pub invariant-push_used_block-loop-statement : goal.invariant-push_used_block-loop-statement
 invariant-push_used_block-loop-statement l =

@@ -1,6 +1,6 @@
 ghost use Rattle.std.specs.Prelude.{◌≡◌, ◌+◌, [], ◌∷◌, cond, length, IfOk, OnOk};
-ghost use Rattle.sd_tasklet_item.specs.Code as definition;
-ghost use Rattle.sd_tasklet_item.specs.Item.{connectors_from};
+ghost use Rattle.sd_tasklet_names.specs.UsedNames as definition;
+ghost use Rattle.sd_tasklet_names.specs.UsedNames.{connectors_from};
 
 use sd_graph::Link;
 use sd_in_force::{Scope, more};
@@ -9,14 +9,14 @@ use std::alloc::Global;
 
 /// The connectors of a tasklet, by name.
 #[derive(Drop)]
-pub(crate) struct Connectors {
-    pub(crate) ins: Scope,
-    pub(crate) outs: Scope,
+pub struct Connectors {
+    pub ins: Scope,
+    pub outs: Scope,
 }
 
 impl Connectors {
     /// The connectors of these links: the inputs are numbered first, then the outputs.
-    pub(crate) fn new(alloc: Global, ins: &[Link], outs: &[Link]) -> Result<Connectors, NoMemory>
+    pub fn new(alloc: Global, ins: &[Link], outs: &[Link]) -> Result<Connectors, NoMemory>
         ensures ins { IfOk result (λ connectors. connectors.ins ≡ connectors_from 0 ins.now) }
         ensures outs { IfOk result (λ connectors. connectors.outs ≡ connectors_from (length ins.now) outs.now) }
     {
@@ -44,14 +44,14 @@ fn numbered(alloc: Global, links: &[Link], first: u32) -> Result<Scope, NoMemory
 
 /// The locals in force in a tasklet, by name; `next` is the number of the next new one.
 #[derive(Drop)]
-pub(crate) struct Locals {
-    pub(crate) names: Scope,
-    pub(crate) next: u32,
+pub struct Locals {
+    pub names: Scope,
+    pub next: u32,
 }
 
 impl Locals {
     /// No local.
-    pub(crate) fn new(alloc: Global) -> Locals
+    pub fn new(alloc: Global) -> Locals
         ensures names { result.names ≡ [] }
         ensures next { result.next ≡ 0 }
     {
@@ -62,7 +62,7 @@ impl Locals {
     }
 
     /// A name that is assigned: it is a new local where it is neither an output nor a local in force.
-    pub(crate) fn assign(
+    pub fn assign(
         &mut self,
         alloc: Global,
         connectors: &Connectors,
