@@ -10,7 +10,7 @@ use Rattle.sd_graph.specs.Unfold.{cut, pending_by, pending_through, pending_of}
 use Rattle.sd_graph.specs.declared.link.Link.{Link}
 use Rattle.sd_program.specs.Names.{Name}
 use Rattle.sd_in_force.specs.Names.{with_numbered}
-use Rattle.sd_tasklet_item.specs.Item.{connectors_from}
+use Rattle.sd_tasklet_names.specs.UsedNames.{connectors_from}
 use Rattle.sd_says.specs.Setting.{taken_in, with_each}
 use Rattle.sd_says.specs.Connectors.{Inlet, Input, Outlet, elements_read, inputs_with}
 use Rattle.sd_tie_tasklets.proofs.Stands.{StandsAt, stands_here, stands_after, stands_whole}

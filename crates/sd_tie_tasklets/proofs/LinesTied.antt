@@ -12,7 +12,8 @@ use Rattle.sd_graph.specs.PlainTree.{ActTree, ActTrees}
 use Rattle.sd_program.specs.Names.{Name, Named, in_force}
 use Rattle.sd_in_force.specs.Names.{number_or}
 use Rattle.sd_tasklet_item.specs.Code as code
-use Rattle.sd_tasklet_item.specs.Code.{is_assigned, locals_behind, next_behind, next_behind_all, used_value, used_values, used_acts, used_acts_all, followed_by}
+use Rattle.sd_tasklet_names.specs.UsedNames.{is_assigned, locals_behind, next_behind, next_behind_all, used_value, used_values, used_acts, used_acts_all}
+use Rattle.sd_tasklet_item.specs.Code.{followed_by}
 use Rattle.sd_says.specs.Setting.{with_each}
 use Rattle.sd_says.specs.Connectors.{Input, Outlet}
 use Rattle.sd_says.specs.Tasklets as said

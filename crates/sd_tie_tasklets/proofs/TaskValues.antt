@@ -13,7 +13,7 @@ use Rattle.sd_task.specs.Operators.{one_sign, two_sign}
 use Rattle.sd_task.specs.UsedVariables as task
 use Rattle.sd_task.specs.UsedVariables.{with_variable}
 use Rattle.sd_tasklet_item.specs.Code as code
-use Rattle.sd_tasklet_item.specs.Code.{named_variable, used_value, used_values}
+use Rattle.sd_tasklet_names.specs.UsedNames.{named_variable, used_value, used_values}
 use Rattle.sd_says.specs.Setting.{with_each}
 use Rattle.sd_says.specs.Operators.{one_value, two_sides}
 use Rattle.sd_says.specs.Connectors.{Input, Outlet, value_at}

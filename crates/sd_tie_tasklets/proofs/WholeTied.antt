@@ -22,7 +22,8 @@ use Rattle.sd_program.specs.Place.{Holder}
 use Rattle.sd_task.specs.Table.{Table, container_number}
 use Rattle.sd_task.specs.Links.{memlet_link, link_to}
 use Rattle.sd_tasklet_item.specs.Item as item
-use Rattle.sd_tasklet_item.specs.Item.{inputs_of, outputs_of, connectors_from, code_with, tasklet_item}
+use Rattle.sd_tasklet_names.specs.UsedNames.{connectors_from}
+use Rattle.sd_tasklet_item.specs.Item.{inputs_of, outputs_of, code_with, tasklet_item}
 use Rattle.sd_says.specs.Held as holding
 use Rattle.sd_says.specs.Held.{pending_in, element_in}
 use Rattle.sd_says.specs.Setting.{Setting, taken_in, place_at, held_by}
