@@ -1,0 +1,4 @@
+pub mod Follows
+pub mod Standing
+pub mod Passed
+pub mod CallsDo
