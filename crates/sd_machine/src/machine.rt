@@ -1,6 +1,6 @@
-ghost use Rattle.std.specs.Prelude.{◌≡◌, ◌+◌, ◌≤◌, ◌∷◌, [], zero, suc, drop, slice_get, true, IsTrue, IsFalse, IfOk, OnOk};
+ghost use Rattle.std.specs.Prelude.{◌≡◌, ◌+◌, ◌≤◌, ◌<◌, ◌∷◌, [], zero, suc, drop, slice_get, true, IsTrue, IsFalse, IfOk, OnOk};
 ghost use Rattle.std.specs.Option.{MatchOption};
-ghost use Rattle.sd_work.specs.Memory.{look, waiting};
+ghost use Rattle.sd_work.specs.Memory.{contents_of, elements_of, look, waiting};
 ghost use Rattle.sd_work.specs.Change.{apply, innermost, push, take, write};
 ghost use Rattle.sd_machine.specs.Stack.{reference_of, IsPaid};
 
@@ -71,6 +71,20 @@ impl Machine {
         true
     }
 
+    /// Spends so many turns; `false` where fewer are left, and then none is spent.
+    pub fn pay_for(&mut self, count: u32) -> bool
+        ensures memories { self.new.memories ≡ self.old.memories }
+        ensures paid { IsTrue result → self.old.turns ≡ self.new.turns + count }
+        ensures none { IsFalse result → (self.old.turns < count) × (self.new.turns ≡ self.old.turns) }
+    {
+        let count = u64::from(count);
+        if self.turns < count {
+            return false;
+        }
+        self.turns -= count;
+        true
+    }
+
     /// The value of an element; 0 where there is no such element.
     pub fn look(&self, cell: Cell) -> i64
         ensures { result ≡ look (reference_of cell) self.now.memories }
@@ -78,6 +92,16 @@ impl Machine {
         match position(self.memories.len(), cell.station.level) {
             Some(i) => self.memories[i].cell(cell.station.container, cell.element),
             None => 0,
+        }
+    }
+
+    /// The elements of an array in row order; none where there is no such array.
+    pub fn cells(&self, station: Station) -> &[i64]
+        ensures { result.now ≡ elements_of (contents_of station.level station.container self.now.memories) }
+    {
+        match position(self.memories.len(), station.level) {
+            Some(i) => self.memories[i].cells(station.container),
+            None => &[],
         }
     }
 
