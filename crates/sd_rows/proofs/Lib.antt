@@ -1,13 +1,8 @@
 pub mod Bodies
-pub mod Comes
-pub mod Filled
 pub mod Fresh
 pub mod Gaps
-pub mod Instances
-pub mod Loading
 pub mod Matched
 pub mod Points
 pub mod RowEnds
-pub mod RowSteps
 pub mod RowsOfMap
 pub mod Tracks

@@ -13,7 +13,7 @@ use Rattle.sd_machine.specs.ComesTo.{IsEnd}
 use Rattle.sd_machine.specs.Coming.{items_coming, point_term, points_coming, map_coming}
 use Rattle.sd_machine.specs.declared.end.End.{End}
 use Rattle.sd_machine.specs.declared.end.End.TheVariants.{Finished}
-use Rattle.sd_rows.proofs.Comes.{IsLeft, left_more, left_stop, owned_ends}
+use Rattle.sd_row.proofs.Comes.{IsLeft, left_more, left_stop, owned_ends}
 
 -- ---- the points of the code
 

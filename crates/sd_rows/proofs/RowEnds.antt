@@ -10,14 +10,14 @@ use Rattle.sd_graph.specs.declared.link.Link.{Link}
 use Rattle.sd_tcode.specs.Compiled.{Compiled}
 use Rattle.sd_tcode.specs.declared.frame.Frame.{Frame}
 use Rattle.sd_machine.specs.ComesTo.{IsEnd}
-use Rattle.sd_rows.specs.declared.row.Row.{Row}
+use Rattle.sd_row.specs.declared.row.Row.{Row}
 use Rattle.sd_rows.specs.declared.steps.Steps.{Steps}
-use Rattle.sd_rows.specs.declared.row_run.RowEnd.{RowEnd}
+use Rattle.sd_row.specs.declared.row_run.RowEnd.{RowEnd}
 use Rattle.sd_rows.specs.Along.{row_of}
 use Rattle.sd_rows.specs.Code.{IsInstance}
-use Rattle.sd_rows.specs.Point.{IsOver, below}
-use Rattle.sd_rows.specs.Setting.{Setting, IsSetting, IsRowOf, row_coming, end_of_row}
-use Rattle.sd_rows.proofs.RowSteps.{row_entered, over_entered, bare_private}
+use Rattle.sd_row.specs.Point.{IsOver, below}
+use Rattle.sd_row.specs.Setting.{Setting, IsSetting, IsRowOf, row_coming, end_of_row}
+use Rattle.sd_row.proofs.RowSteps.{row_entered, over_entered, bare_private}
 
 module _ (tree : TaskletTree) (ins outs : List Link) (line : ℕ) (params : List (ℕ × Range)) (private : List ℕ) (context : Context) (row : List ℤ) (steps : Steps) where
   abbrev pub setting : (line : ℕ) → Setting

@@ -21,8 +21,8 @@ use Rattle.sd_even.proofs.Distances.{spaced_first, spaced_step}
 use Rattle.sd_even.proofs.LastParameter.{params_in_rows}
 use Rattle.sd_rows.specs.declared.steps.Steps.{Steps}
 use Rattle.sd_rows.specs.Along.{step_to, row_of, IsLast}
-use Rattle.sd_rows.specs.Setting.{Setting, term_of, terms_from, row_coming}
-use Rattle.sd_rows.proofs.Comes.{IsLeft, comes-then, comes-stop, stops}
+use Rattle.sd_row.specs.Setting.{Setting, term_of, terms_from, row_coming}
+use Rattle.sd_row.proofs.Comes.{IsLeft, comes-then, comes-stop, stops}
 
 -- ---- points one after another
 

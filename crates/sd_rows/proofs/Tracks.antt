@@ -24,10 +24,11 @@ use Rattle.sd_even.proofs.Reached.{even_within}
 use Rattle.sd_even.proofs.LastParameter.{values_at_last}
 use Rattle.sd_even.proofs.Row.{referred, to_element}
 use Rattle.sd_even.proofs.Scalar.{one_element, no_extents}
-use Rattle.sd_rows.specs.declared.spacing.Spaced.{Spaced}
+use Rattle.sd_columns.specs.declared.spacing.Spaced.{Spaced}
 use Rattle.sd_rows.specs.declared.steps.Steps.{Steps}
-use Rattle.sd_rows.specs.declared.track.Track.{Track}
-use Rattle.sd_rows.specs.Row.{value_on, reference_on}
+use Rattle.sd_row.specs.declared.track.Track.{Track}
+use Rattle.sd_columns.specs.Columns.{value_on}
+use Rattle.sd_row.specs.Row.{reference_on}
 use Rattle.sd_rows.specs.Along.{step_to, IsAlong, IsFromTo, IsLast, row_of}
 
 -- the points of a row stand along it

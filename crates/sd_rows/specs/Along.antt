@@ -9,7 +9,7 @@ use Rattle.sd_graph.specs.Unfold.{at_point}
 use Rattle.sd_graph.specs.declared.link.Link.{Link}
 use Rattle.sd_even.specs.Even.{spaced, IsEven}
 use Rattle.sd_rows.specs.declared.steps.Steps.{Steps}
-use Rattle.sd_rows.specs.Setting.{Setting}
+use Rattle.sd_row.specs.Setting.{Setting}
 
 -- the value of the last parameter at the point of this number
 abbrev pub step_to : Steps → (k : ℕ) → ℤ

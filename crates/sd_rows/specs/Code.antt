@@ -7,6 +7,8 @@ use Rattle.sd_tcode.specs.Compiled.{Compiled, IsCodeOf}
 use Rattle.sd_tcode.specs.Named.{IsNamed}
 use Rattle.sd_tcode.specs.Held.{IsReady, given}
 use Rattle.sd_tcode.specs.declared.frame.Frame.{Frame}
+use Rattle.sd_columns.specs.declared.columns.Columns.{Columns}
+use Rattle.sd_columns.specs.Columns.{register_count, AreWide}
 use Rattle.sd_even.specs.Even.{is_scalar}
 
 -- code and a frame for a tasklet with these links, which are scalars, and as many as it has connectors; each output is set once
@@ -22,6 +24,11 @@ pub record IsInstance (tree : TaskletTree) (ins outs : List Link) (compiled : Co
   pub scalars : AllByRecursion (λ link. is_scalar link.memlet.subset.dims ≡ true) (ins ++ outs)
   pub few_values : length ins < 2 ^ 32
   pub few_variables : length tree.variables < 2 ^ 32
+
+-- a column for each register of this code
+pub record AreColumnsOf (compiled : Compiled) (columns : Columns) : Type 0 where
+  pub registers : register_count columns ≡ compiled.registers
+  pub wide : AreWide columns
 
 -- links for each connector of a tasklet, and few of them and of its variables
 pub record AreFor (tree : TaskletTree) (ins outs : List Link) : Type 0 where

@@ -16,16 +16,17 @@ ghost use Rattle.sd_even.specs.Even.{is_scalar};
 ghost use Rattle.sd_graph.specs.declared.link.Link.{Link as LinkNow};
 ghost use Rattle.sd_rows.specs.declared.steps.Steps.{Steps as StepsNow};
 ghost use Rattle.sd_rows.specs.Along.{IsAlong, IsFromTo};
-ghost use Rattle.sd_rows.specs.Row.{IsAt, order_of, reference_on, value_on, write_on};
+ghost use Rattle.sd_columns.specs.Columns.{value_on};
+ghost use Rattle.sd_row.specs.Row.{IsAt, order_of, reference_on, write_on};
 
-use crate::row::{Row, Write};
-use crate::spacing::Spaced;
+use crate::spacing::spaced_between;
 use crate::steps::Steps;
-use crate::track::Track;
+use sd_columns::Spaced;
 use sd_graph::{ContainerKind, Link, Sdfg, Tasklet};
 use sd_list::NoMemory;
 use sd_num::wrap;
 use sd_range::Env;
+use sd_row::{Row, Track, Write};
 use sd_scope::{Base, Scope, link_cell};
 use std::alloc::Global;
 
@@ -94,7 +95,7 @@ fn track_of(
     let Some(end) = link_cell(alloc, graph, base, last, link, &[])? else {
         return Ok(None);
     };
-    match Spaced::between(begin.element, end.element, gaps) {
+    match spaced_between(begin.element, end.element, gaps) {
         Some(elements) => Ok(Some(Track {
             station: begin.station,
             elements,

@@ -4,12 +4,14 @@ ghost use Rattle.std.specs.Bool.{⊤};
 ghost use Rattle.std.specs.List.{AllByRecursion};
 ghost use Rattle.sd_graph.specs.TreeFold.{tasklet_tree};
 ghost use Rattle.sd_even.specs.Even.{is_scalar};
-ghost use Rattle.sd_rows.specs.Code.{IsInstance, IsFit, AreFor};
+ghost use Rattle.sd_rows.specs.Code.{IsInstance, AreColumnsOf, IsFit, AreFor};
 
+use sd_columns::Columns;
 use sd_compile::{compile, is_named};
 use sd_graph::{Link, Port, Tasklet};
 use sd_list::NoMemory;
 use sd_range::Dim;
+use sd_row::MOST_RUNS;
 use sd_tcode::{Code, Frame};
 use std::alloc::Global;
 
@@ -18,18 +20,21 @@ use std::alloc::Global;
 pub(crate) struct Instance {
     pub code: Code,
     pub frame: Frame,
+    pub columns: Columns,
 }
 
 impl Instance {
-    /// That of a tasklet whose connectors are scalars and whose outputs are each set once, outside of branches; `None` of another
-    /// one.
+    /// That for rows of so many points of a tasklet whose connectors are scalars and whose outputs are each set once, outside of
+    /// branches; `None` of another one.
     pub(crate) fn of(
         alloc: Global,
         tasklet: &Tasklet,
         ins: &[Link],
         outs: &[Link],
+        points: u32,
     ) -> Result<Option<Instance>, NoMemory>
-        ensures { IfOk result (λ instance. MatchOption instance ⊤ (λ instance. IsInstance (tasklet_tree tasklet.now) ins.now outs.now instance.code instance.frame)) }
+        ensures columns { IfOk result (λ instance. MatchOption instance ⊤ (λ instance. AreColumnsOf instance.code instance.columns)) }
+        ensures instance { IfOk result (λ instance. MatchOption instance ⊤ (λ instance. IsInstance (tasklet_tree tasklet.now) ins.now outs.now instance.code instance.frame)) }
     {
         if !is_for(tasklet, ins, outs) {
             return Ok(None);
@@ -40,7 +45,12 @@ impl Instance {
         }
         let widest = ones(alloc, code.input_count())?;
         let frame = Frame::reserve(alloc, &code, widest.as_slice())?;
-        Ok(Some(Instance { code, frame }))
+        let columns = Columns::reserve(alloc, code.register_count(), points.min(MOST_RUNS))?;
+        Ok(Some(Instance {
+            code,
+            frame,
+            columns,
+        }))
     }
 }
 

@@ -8,12 +8,8 @@
 
 mod between;
 mod instance;
-mod point;
-mod row;
-mod row_run;
 mod rows;
 mod spacing;
 mod steps;
-mod track;
 
 pub use rows::run_rows;

@@ -8,14 +8,12 @@ ghost use Rattle.sd_machine.specs.ComesTo.{IsEnd};
 ghost use Rattle.sd_machine.specs.Coming.{map_coming};
 ghost use Rattle.sd_scope.specs.Standing.{context_of, IsInside};
 ghost use Rattle.sd_even.specs.Even.{is_scalar};
-ghost use Rattle.sd_rows.specs.Setting.{row_coming, IsRowOf};
+ghost use Rattle.sd_row.specs.Setting.{row_coming, IsRowOf};
 ghost use Rattle.sd_rows.specs.Along.{row_of, IsLast};
-ghost use Rattle.sd_rows.specs.Code.{IsInstance};
+ghost use Rattle.sd_rows.specs.Code.{IsInstance, AreColumnsOf};
 
 use crate::between::row_between;
 use crate::instance::Instance;
-use crate::row::Row;
-use crate::row_run::{RowEnd, run_row};
 use crate::steps::Steps;
 use sd_graph::{Item, ItemKind, Link, Sdfg, Tasklet};
 use sd_leaves::run_task;
@@ -23,6 +21,7 @@ use sd_list::NoMemory;
 use sd_machine::{End, Machine};
 use sd_mem::Memory;
 use sd_range::Range;
+use sd_row::{Row, RowEnd, run_row};
 use sd_scope::{Base, Scope, checked_points, place_of};
 use sd_tcode::Code;
 use std::alloc::Global;
@@ -86,7 +85,7 @@ fn run_task_rows(
     let Some(steps) = Steps::of(alloc, last, &scope.values)? else {
         return Ok(None);
     };
-    let Some(mut instance) = Instance::of(alloc, tasklet, ins, outs)? else {
+    let Some(mut instance) = Instance::of(alloc, tasklet, ins, outs, steps.count)? else {
         return Ok(None);
     };
     let end = run_all(
@@ -127,6 +126,7 @@ fn run_all(
 ) -> Result<End, NoMemory>
     requires none { private.now ≡ [] }
     requires instance { IsInstance (tasklet_tree tasklet.now) ins.now outs.now instance.old.code instance.old.frame }
+    requires columns { AreColumnsOf instance.old.code instance.old.columns }
     requires steps { IsLast params.now outer.now scope.now.values.values steps.now }
     ensures end { IfOk result (λ end. IsEnd (map_coming (and_item line (task (tasklet_tree tasklet.now) ins.now outs.now) no_item) params.now private.now (context_of (graph_tree graph.now) base.now scope.now) machine.old) machine.old end machine.new) }
 {
@@ -183,11 +183,13 @@ fn run_one(
 ) -> Result<End, NoMemory>
     requires none { private.now ≡ [] }
     requires instance { IsInstance (tasklet_tree tasklet.now) ins.now outs.now instance.old.code instance.old.frame }
+    requires columns { AreColumnsOf instance.old.code instance.old.columns }
     requires steps { IsLast params.now outer.now scope.now.values.values steps.now }
     requires first { IsInside private.now scope.now first.old }
     requires last { IsInside private.now scope.now last.old }
     ensures end { IfOk result (λ end. IsEnd (row_coming (row_of (tasklet_tree tasklet.now) ins.now outs.now line params.now private.now (context_of (graph_tree graph.now) base.now scope.now) row.now steps.now) 0 steps.now.count machine.old) machine.old end machine.new) }
     ensures instance { OnOk result (IsInstance (tasklet_tree tasklet.now) ins.now outs.now instance.new.code instance.new.frame) }
+    ensures columns { OnOk result (AreColumnsOf instance.new.code instance.new.columns) }
     ensures first { OnOk result (IsInside private.now scope.now first.new) }
     ensures last { OnOk result (IsInside private.now scope.now last.new) }
 {
@@ -283,10 +285,12 @@ fn run_tracks(
 ) -> Result<End, NoMemory>
     requires none { private.now ≡ [] }
     requires instance { IsInstance (tasklet_tree tasklet.now) ins.now outs.now instance.old.code instance.old.frame }
+    requires columns { AreColumnsOf instance.old.code instance.old.columns }
     requires tracks { IsRowOf (row_of (tasklet_tree tasklet.now) ins.now outs.now 0 params.now private.now (context_of (graph_tree graph.now) base.now scope.now) row.now steps.now) instance.old.code tracks.now steps.now.count }
     requires inside { IsInside private.now scope.now inner.old }
     ensures end { IfOk result (λ end. IsEnd (row_coming (row_of (tasklet_tree tasklet.now) ins.now outs.now line params.now private.now (context_of (graph_tree graph.now) base.now scope.now) row.now steps.now) 0 steps.now.count machine.old) machine.old end machine.new) }
     ensures instance { OnOk result (IsInstance (tasklet_tree tasklet.now) ins.now outs.now instance.new.code instance.new.frame) }
+    ensures columns { OnOk result (AreColumnsOf instance.new.code instance.new.columns) }
     ensures inside { OnOk result (IsInside private.now scope.now inner.new) }
 {
     let own = Memory::of_scope(alloc, &graph.containers, private)?;
@@ -295,6 +299,7 @@ fn run_tracks(
         tracks,
         &instance.code,
         &mut instance.frame,
+        &mut instance.columns,
         steps.count,
         machine,
     );

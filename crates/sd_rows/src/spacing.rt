@@ -2,36 +2,19 @@ ghost use Rattle.std.specs.Prelude.{◌≡◌, ℕ, ◌<◌, ◌≤◌, ◌^◌,
 ghost use Rattle.std.specs.Option.{MatchOption};
 ghost use Rattle.std.specs.Bool.{⊤};
 ghost use Rattle.sd_even.specs.Even.{spaced};
-ghost use Rattle.sd_rows.specs.Row.{value_on};
+ghost use Rattle.sd_columns.specs.Columns.{value_on};
 
-use sd_num::{add, mul};
+use sd_columns::Spaced;
 
-/// Numbers at equal distances, one for each point of a row, as elements.
-#[derive(Clone, Copy)]
-pub(crate) struct Spaced {
-    pub first: i64,
-    pub step: i64,
-}
-
-impl Spaced {
-    /// The number at a point.
-    #[inline(always)]
-    pub(crate) fn at(&self, k: u32) -> i64
-        ensures { result ≡ value_on self.now k }
-    {
-        add(self.first, mul(self.step, i64::from(k)))
-    }
-
-    /// The numbers from one to another one, so many points further; `None` where they do not fit.
-    pub(crate) fn between(first: u64, last: u64, gaps: u32) -> Option<Spaced>
-        ensures { MatchOption result ⊤ (λ numbers. (distance : ℤ) → pos last ≡ spaced (pos first) distance gaps
-            → (k element : ℕ) → k ≤ gaps → pos element ≡ spaced (pos first) distance k → element ≡ unsigned_abs (value_on numbers k)) }
-    {
-        let first = small(first)?;
-        let last = small(last)?;
-        let step = distance(first, last, gaps);
-        Some(Spaced { first, step })
-    }
+/// The numbers from one to another one, so many points further; `None` where they do not fit.
+pub(crate) fn spaced_between(first: u64, last: u64, gaps: u32) -> Option<Spaced>
+    ensures { MatchOption result ⊤ (λ numbers. (distance : ℤ) → pos last ≡ spaced (pos first) distance gaps
+        → (k element : ℕ) → k ≤ gaps → pos element ≡ spaced (pos first) distance k → element ≡ unsigned_abs (value_on numbers k)) }
+{
+    let first = small(first)?;
+    let last = small(last)?;
+    let step = distance(first, last, gaps);
+    Some(Spaced { first, step })
 }
 
 /// A number as an element, where it is one.

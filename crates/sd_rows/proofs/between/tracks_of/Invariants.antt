@@ -4,7 +4,7 @@ use Rattle.sd_graph.specs.Context.{Context, link_element}
 use Rattle.sd_scope.specs.Standing.{context_of}
 use Rattle.sd_rows.specs.declared.steps.Steps.{Steps}
 use Rattle.sd_rows.specs.Along.{IsFromTo}
-use Rattle.sd_rows.specs.Row.{reference_on}
+use Rattle.sd_row.specs.Row.{reference_on}
 use Rattle.sd_rows.proofs.between.tracks_of.Given as goal
 
 -- the tracks so far

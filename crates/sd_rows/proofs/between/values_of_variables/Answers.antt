@@ -2,8 +2,8 @@ use Rattle.std.proofs.Common.{◌≡◌, ◌++◌, [], ◌∷◌, map, get_or, a
 use Rattle.std.proofs.lemmas.List.{get_or_default}
 use Rattle.sd_num.specs.Wrapped.{wrapped}
 use Rattle.sd_range.specs.Affine.{variable_value}
-use Rattle.sd_rows.specs.Row.{value_on}
-use Rattle.sd_rows.proofs.Filled.{made_more, made_whole, one_longer}
+use Rattle.sd_columns.specs.Columns.{value_on}
+use Rattle.sd_row.proofs.Filled.{made_more, made_whole, one_longer}
 use Rattle.sd_rows.proofs.between.values_of_variables.Goals as goal
 
 pub loop-variable-preserved : goal.loop-variable-preserved

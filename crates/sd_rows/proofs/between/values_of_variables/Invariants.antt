@@ -3,7 +3,7 @@ use Rattle.sd_num.specs.Wrapped.{wrapped}
 use Rattle.sd_range.specs.Affine.{variable_value}
 use Rattle.sd_graph.specs.Context.{Context}
 use Rattle.sd_rows.specs.Along.{IsAlong}
-use Rattle.sd_rows.specs.Row.{value_on}
+use Rattle.sd_columns.specs.Columns.{value_on}
 use Rattle.sd_rows.proofs.between.values_of_variables.Given as goal
 
 -- the values so far

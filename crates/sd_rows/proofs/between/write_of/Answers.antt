@@ -3,7 +3,7 @@ use Rattle.sd_graph.specs.ContainerParts.{container_at, is_stream}
 use Rattle.sd_leaves.proofs.Lists.{member_there}
 use Rattle.sd_rows.proofs.Matched.{found_so}
 use Rattle.sd_rows.proofs.Tracks.{output_through, containers_along}
-use Rattle.sd_rows.specs.Row.{reference_on}
+use Rattle.sd_row.specs.Row.{reference_on}
 use Rattle.sd_rows.proofs.between.write_of.Goals as goal
 
 pub returns-in-Some-2-clause-at : goal.returns-in-Some-2-clause-at

@@ -2,9 +2,9 @@ use Rattle.std.proofs.Common.{◌≡◌, ◌++◌, ◌∷◌, [], map, get_or, a
 use Rattle.std.proofs.lemmas.List.{get_or_default}
 use Rattle.std.proofs.lemmas.Simd.{map-map}
 use Rattle.sd_graph.specs.Unfold.{pending_of}
-use Rattle.sd_rows.specs.declared.row.Write.{Write}
-use Rattle.sd_rows.specs.Row.{write_on}
-use Rattle.sd_rows.proofs.Filled.{made_more, made_whole, same_list}
+use Rattle.sd_row.specs.declared.row.Write.{Write}
+use Rattle.sd_row.specs.Row.{write_on}
+use Rattle.sd_row.proofs.Filled.{made_more, made_whole, same_list}
 use Rattle.sd_rows.proofs.Matched.{found_so}
 use Rattle.sd_rows.proofs.between.writes_of.Goals as goal
 

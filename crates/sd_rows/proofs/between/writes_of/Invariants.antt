@@ -6,7 +6,7 @@ use Rattle.sd_graph.specs.declared.link.Link.{Link}
 use Rattle.sd_scope.specs.Standing.{context_of}
 use Rattle.sd_rows.specs.declared.steps.Steps.{Steps}
 use Rattle.sd_rows.specs.Along.{IsFromTo}
-use Rattle.sd_rows.specs.Row.{write_on}
+use Rattle.sd_row.specs.Row.{write_on}
 use Rattle.sd_rows.proofs.between.writes_of.Given as goal
 
 -- the writes so far

@@ -1,6 +1,6 @@
 use Rattle.std.proofs.Common.{◌≡◌, true, arith, rules}
 use Rattle.sd_even.specs.Even.{is_scalar}
-use Rattle.sd_rows.proofs.Filled.{all_behind, all_none}
+use Rattle.sd_row.proofs.Filled.{all_behind, all_none}
 use Rattle.sd_rows.proofs.instance.are_scalar_links.Goals as goal
 
 pub loop-link-preserved : goal.loop-link-preserved

@@ -1,5 +1,5 @@
 use Rattle.std.proofs.Common.{◌≡◌, arith, rules}
-use Rattle.sd_rows.proofs.Filled.{all_behind, all_none}
+use Rattle.sd_row.proofs.Filled.{all_behind, all_none}
 use Rattle.sd_rows.proofs.instance.are_scalar_ports.Goals as goal
 
 pub loop-port-preserved : goal.loop-port-preserved

@@ -3,7 +3,7 @@ use Rattle.sd_graph.specs.TreeFold.{graph_tree, tasklet_tree}
 use Rattle.sd_range.specs.Points.{Walk}
 use Rattle.sd_leaves.proofs.Lists.{none_here}
 use Rattle.sd_scope.specs.Standing.{context_of}
-use Rattle.sd_rows.proofs.Comes.{as_finished}
+use Rattle.sd_row.proofs.Comes.{as_finished}
 use Rattle.sd_rows.proofs.Points.{point_first}
 use Rattle.sd_rows.proofs.RowsOfMap.{rows_begin, row_more, row_stop, rows_end}
 use Rattle.sd_rows.proofs.rows.run_all.Goals as goal
@@ -14,6 +14,7 @@ loop-alloc-init c =
     record {
       left = rows_begin (tasklet_tree c.args.tasklet.now) c.args.ins.now c.args.outs.now c.args.line c.args.params.now c.args.private.now context c.args.steps.now c.args.outer.now c.args.machine.now c.in_ok-rows.rows c.requires.steps c.in_ok-rows.ensures;
       instance = c.requires.instance;
+      columns = c.requires.columns;
       first = c.in_ok-first.ensures;
       last = c.in_ok-last.ensures;
     }
@@ -26,6 +27,7 @@ loop-alloc-preserved c =
           (point_first c.loop-alloc.rows c.next.new.self c.at.result.now c.loop-alloc-test.ensures.step c.at.ensures) c.loop-alloc.invariant.left
           (as_finished _ _ _ c.in_ok-end.end c.in-Finished.is c.in_ok-end.ensures.end);
       instance = c.in_ok-end.ensures.instance;
+      columns = c.in_ok-end.ensures.columns;
       first = c.in_ok-end.ensures.first;
       last = c.in_ok-end.ensures.last;
     }

@@ -2,8 +2,8 @@ use Rattle.std.proofs.Common.{◌-◌}
 use Rattle.sd_graph.specs.TreeFold.{graph_tree, tasklet_tree}
 use Rattle.sd_scope.specs.Standing.{context_of, IsInside}
 use Rattle.sd_rows.specs.Along.{row_of}
-use Rattle.sd_rows.specs.Setting.{row_coming}
-use Rattle.sd_rows.proofs.Comes.{IsLeft}
+use Rattle.sd_row.specs.Setting.{row_coming}
+use Rattle.sd_row.proofs.Comes.{IsLeft}
 use Rattle.sd_rows.proofs.rows.run_points.Given as goal
 
 -- what the points that are left come to, the row comes to

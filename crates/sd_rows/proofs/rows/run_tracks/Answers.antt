@@ -6,9 +6,9 @@ use Rattle.sd_graph.specs.declared.place.Place.{Place}
 use Rattle.sd_machine.specs.ComesTo.{IsEnd}
 use Rattle.sd_machine.specs.declared.end.End.TheVariants as ends
 use Rattle.sd_scope.specs.Standing.{context_of}
-use Rattle.sd_rows.specs.declared.row_run.RowEnd.{RowEnd}
+use Rattle.sd_row.specs.declared.row_run.RowEnd.{RowEnd}
 use Rattle.sd_rows.specs.Along.{row_of}
-use Rattle.sd_rows.specs.Setting.{row_coming, end_of_row}
+use Rattle.sd_row.specs.Setting.{row_coming, end_of_row}
 use Rattle.sd_rows.proofs.Bodies.{containers_in}
 use Rattle.sd_rows.proofs.RowEnds.{tracks_end}
 use Rattle.sd_rows.proofs.rows.run_tracks.Goals as goal

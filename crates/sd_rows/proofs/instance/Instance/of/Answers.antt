@@ -4,8 +4,8 @@ use Rattle.sd_rows.specs.Code.{IsFit}
 use Rattle.sd_rows.proofs.Fresh.{fresh}
 use Rattle.sd_rows.proofs.instance.Instance.of.Goals as goal
 
-pub returns : goal.returns
-returns c =
+pub returns-clause-instance : goal.returns-clause-instance
+returns-clause-instance c =
     let tree = tasklet_tree c.args.tasklet.now in
     let fit : IsFit tree c.args.ins.now c.args.outs.now = search rules in
     let plain : IsSome c.in_ok-code.code.plain = search rules in

@@ -1,0 +1,9 @@
+pub mod BlockRuns
+pub mod Blocks
+pub mod Comes
+pub mod Filled
+pub mod Folds
+pub mod Instances
+pub mod Loading
+pub mod Registers
+pub mod RowSteps
