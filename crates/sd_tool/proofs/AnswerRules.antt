@@ -3,10 +3,10 @@ use Rattle.std.proofs.Common.{◌≡◌, ℕ, ◌^◌, ◌≤◌, List, Option, 
 use Rattle.std.proofs.lemmas.Option.{IfSome_then}
 use Rattle.sd_io.specs.Shelf.{IsTold, IsToldLonger}
 use Rattle.sd_graph.specs.PlainTree.{GraphTree}
-use Rattle.sd_tool.specs.Command.{Call, IsRun}
+use Rattle.sd_tool.specs.Command.{Call, IsCall}
 use Rattle.sd_tool.specs.Work.{Work, source_graph, prepared}
-use Rattle.sd_tool.specs.Answers.{ShelfUse, shelf_use, Answer, source_refused, arrays_refused, Reads, Unread, faulty, longer, ReadsSource, Comes, Answers, no_source, no_program, no_arrays, no_work, runs}
-use Rattle.sd_tool.specs.Ending.{answer_of, Refuses, TellsRun}
+use Rattle.sd_tool.specs.Answers.{ShelfUse, shelf_use, Answer, source_refused, arrays_refused, Reads, Unread, faulty, longer, ReadsSource, Comes, Answers, no_source, no_program, no_arrays, no_work}
+use Rattle.sd_tool.specs.Ending.{answer_of, Refuses}
 use Rattle.sd_tool.specs.declared.ending.Ending.{Ending}
 use Rattle.sd_tool.proofs.SinkLemmas.{HasRisen-later, HasRisen-earlier}
 
@@ -62,18 +62,18 @@ refused_so told (Ok read) (Some answer) P each refuses = absurd refuses
 refused_so told (Err error) (Some answer) P each refuses = subst P (sym refuses) (each error refl)
 
 -- a source that is not read
-pub refuses_source : (words : List (List ℕ)) (shelf : ShelfUse) (call : Call) (ending : Ending) → IsRun words call →
+pub refuses_source : (words : List (List ℕ)) (shelf : ShelfUse) (call : Call) (ending : Ending) → IsCall words call →
     IfSome (answer_of ending) (Unread shelf call.source (2 ^ 20)) → IfSome (answer_of ending) (Answers words shelf)
 refuses_source words shelf call ending asked unread = IfSome_then (answer_of ending) unread (λ answer why. no_source call asked why)
 
 -- a source with an error
-pub refuses_program : (words : List (List ℕ)) (shelf : ShelfUse) (call : Call) (text : List ℕ) (ending : Ending) → IsRun words call → Reads shelf call.source (2 ^ 20) text →
+pub refuses_program : (words : List (List ℕ)) (shelf : ShelfUse) (call : Call) (text : List ℕ) (ending : Ending) → IsCall words call → Reads shelf call.source (2 ^ 20) text →
     Refuses source_refused (source_graph text) (answer_of ending) → IfSome (answer_of ending) (Answers words shelf)
 refuses_program words shelf call text ending asked reads refuses =
     refused_so source_refused (source_graph text) (answer_of ending) (Answers words shelf) (λ refusal is. no_program call text refusal asked reads is) refuses
 
 -- a source was read in a part of the call
-pub reads_source : (words : List (List ℕ)) (part whole : ShelfUse) (call : Call) (text : List ℕ) (tree : GraphTree) → IsPart part whole → IsRun words call → Reads part call.source (2 ^ 20) text →
+pub reads_source : (words : List (List ℕ)) (part whole : ShelfUse) (call : Call) (text : List ℕ) (tree : GraphTree) → IsPart part whole → IsCall words call → Reads part call.source (2 ^ 20) text →
     source_graph text ≡ Ok tree → ReadsSource words whole call tree
 reads_source words part whole call text tree is_part asked reads is = record {
   asked = asked;
@@ -100,7 +100,3 @@ pub comes_to : (words : List (List ℕ)) (part whole : ShelfUse) (call : Call) (
     prepared tree bytes ≡ Ok work → Comes words whole call work
 comes_to words part whole call tree bytes work is_part source reads is =
     record { tree = tree; source = source; arrays = bytes; reads = Reads-part part whole call.arrays (2 ^ 26) bytes is_part reads; is = is }
-
--- what tells the run is the answer
-pub answers_run : (words : List (List ℕ)) (shelf : ShelfUse) (call : Call) (work : Work) (answer : Answer) → Comes words shelf call work → TellsRun work call.turns answer → Answers words shelf answer
-answers_run words shelf call work answer comes tells = subst (Answers words shelf) (sym tells.is) (runs call work tells.outcome comes tells.ends)

@@ -11,12 +11,15 @@ use Rattle.sd_work.specs.Step.{Outcome}
 use Rattle.sd_graph.specs.declared.place.Place.{Place}
 use Rattle.sd_tool.specs.Written.{written_status}
 use Rattle.sd_tool.specs.Work.{Work, run_of_work}
-use Rattle.sd_tool.specs.Answers.{ShelfUse, Answer, Answers, answer_of_run, status_of, text_of}
+use Rattle.sd_tool.specs.Answers.{ShelfUse, Answer, Answers, answer_of_run, listed, status_of, text_of}
 use Rattle.sd_tool.specs.Ending.{answer_of}
 use Rattle.sd_tool.specs.declared.ending.Ending.{Ending}
 use Rattle.sd_tool.specs.declared.ending.Ending.TheVariants as endings
 use Rattle.sd_tool.specs.Ends.{SinkUse, Ends, written, sink_failed, cut_short, no_memory, Writes, WritesPrefix}
-use Rattle.sd_tool.specs.Headline.{Prints}
+use Rattle.sd_tool.specs.Headline.{Prints, Lists}
+use Rattle.sd_tool.specs.Report.{reported}
+use Rattle.sd_tool.specs.declared.report.Report.{Report}
+use Rattle.sd_tool.specs.declared.report.Report.TheVariants as reports
 
 -- a text was to be written for an answer
 pub ends_written : (words : List (List ℕ)) (shelf : ShelfUse) (sink : SinkUse) (answer : Answer) (text : List ℕ) (wrote : Result ⊤ SinkError) → Answers words shelf answer → text ≡ text_of answer →
@@ -25,6 +28,11 @@ pub ends_written : (words : List (List ℕ)) (shelf : ShelfUse) (sink : SinkUse)
 ends_written words shelf sink answer text (Ok _) answers is whole prefix rose = written answer answers (subst (Writes sink) is whole) refl
 ends_written words shelf sink answer text (Err Failed) answers is whole prefix rose = sink_failed answer answers (subst (WritesPrefix sink) is prefix) (rose refl) refl
 ends_written words shelf sink answer text (Err Memory) answers is whole prefix rose = cut_short answer answers (subst (WritesPrefix sink) is prefix) refl
+
+-- a report has the status 0
+pub status_of_report : (report : Report) → status_of (reported report) ≡ 0
+status_of_report (reports.Arrays after) = refl
+status_of_report (reports.Graph bound) = refl
 
 -- the text of an ending was to be written
 ends_as_told : (words : List (List ℕ)) (shelf : ShelfUse) (sink : SinkUse) (told : Option Answer) (text : List ℕ) (wrote : Result ⊤ SinkError) → (told ≡ None → ⊥) → IfSome told (Answers words shelf) → text ≡ option_map_or text_of told [] →
@@ -63,3 +71,11 @@ prints_from_end words shelf sink status work turns outcome ends one quiet (writt
 prints_from_end words shelf sink status work turns outcome ends one quiet (sink_failed answer answers prefix rose is) = absurd (quiet rose)
 prints_from_end words shelf sink status work turns outcome ends one quiet (cut_short answer answers prefix is) = record { outcome = outcome; ends = ends; printed = inr is }
 prints_from_end words shelf sink status work turns outcome ends one quiet (no_memory nothing is) = record { outcome = outcome; ends = ends; printed = inr is }
+
+-- where only the text of the graph can come and the sink did not fail, it is written, or memory was wanting
+pub lists_from_end : (words : List (List ℕ)) (shelf : ShelfUse) (sink : SinkUse) (status : ℕ) (work : Work) → ((answer : Answer) → Answers words shelf answer → answer ≡ listed work.tree) →
+    ¬ HasRisen sink.faults_before sink.faults_after → Ends words shelf sink status → Lists work sink status
+lists_from_end words shelf sink status work one quiet (written answer answers whole is) = inl (is ∙ ap status_of (one answer answers), subst (λ a. Writes sink (text_of a)) (one answer answers) whole)
+lists_from_end words shelf sink status work one quiet (sink_failed answer answers prefix rose is) = absurd (quiet rose)
+lists_from_end words shelf sink status work one quiet (cut_short answer answers prefix is) = inr is
+lists_from_end words shelf sink status work one quiet (no_memory nothing is) = inr is

@@ -1,5 +1,6 @@
 pub mod SinkLemmas
 pub mod LineSplit
+pub mod Pieces
 pub mod Items
 pub mod Reading
 pub mod AnswerRules

@@ -1,11 +1,11 @@
 -- What the words and the files say, they say of one thing.
-use Rattle.std.proofs.Common.{◌≡◌, ℕ, List, [], ◌∷◌, Option, Some, None, Result, Ok, Err, refl, sym, ◌∙◌, subst, codes}
+use Rattle.std.proofs.Common.{◌≡◌, ℕ, List, [], ◌∷◌, Option, Some, None, Result, Ok, Err, refl, ap, sym, ◌∙◌, subst, codes}
 use Rattle.sd_io.specs.Shelf.{IsTold}
 use Rattle.sd_tool.specs.Finding.{Finds}
-use Rattle.sd_tool.specs.Command.{Call, IsRun, GiveTurns}
+use Rattle.sd_tool.specs.Command.{Command, to_run, to_print, Call, IsCall, IsCommand, GiveTurns}
 
-same_call : (a b : Call) → a.source ≡ b.source → a.arrays ≡ b.arrays → a.turns ≡ b.turns → a ≡ b
-same_call a b source arrays turns = λ i. record { source = source i; arrays = arrays i; turns = turns i }
+same_call : (a b : Call) → a.source ≡ b.source → a.arrays ≡ b.arrays → a.command ≡ b.command → a ≡ b
+same_call a b source arrays command = λ i. record { source = source i; arrays = arrays i; command = command i }
 
 -- words give turns in one way
 GiveTurns-unique : (options : List (List ℕ)) (turns other : ℕ) → GiveTurns options turns → GiveTurns options other → turns ≡ other
@@ -14,12 +14,25 @@ GiveTurns-unique (name ∷ []) turns other x y = absurd x
 GiveTurns-unique (name ∷ value ∷ []) turns other x y = sym x.1.is ∙ y.1.is
 GiveTurns-unique (name ∷ value ∷ more ∷ others) turns other x y = absurd x
 
+-- `run` is not `print`
+other_word : (word : List ℕ) → word ≡ codes "run" → word ≡ codes "print" → ⊥
+other_word word run print = cc
+
+-- a word and options are one command
+IsCommand-unique : (word : List ℕ) (options : List (List ℕ)) (a b : Command) → IsCommand word options a → IsCommand word options b → a ≡ b
+IsCommand-unique word options (to_run turns) (to_run other) x y = ap to_run (GiveTurns-unique options turns other x.1 y.1)
+IsCommand-unique word options (to_run turns) to_print x y = absurd (other_word word x.0 y.0)
+IsCommand-unique word options to_print (to_run other) x y = absurd (other_word word y.0 x.0)
+IsCommand-unique word options to_print to_print x y = refl
+
 -- the words are one call
-pub IsRun-unique : (words : List (List ℕ)) (a b : Call) → IsRun words a → IsRun words b → a ≡ b
-IsRun-unique words a b x y =
-    let both : codes "run" ∷ a.source ∷ a.arrays ∷ x.options ≡ codes "run" ∷ b.source ∷ b.arrays ∷ y.options = sym x.are ∙ y.are in
+pub IsCall-unique : (words : List (List ℕ)) (a b : Call) → IsCall words a → IsCall words b → a ≡ b
+IsCall-unique words a b x y =
+    let both : x.word ∷ a.source ∷ a.arrays ∷ x.options ≡ y.word ∷ b.source ∷ b.arrays ∷ y.options = sym x.are ∙ y.are in
+    let word : y.word ≡ x.word = cc in
     let options : y.options ≡ x.options = cc in
-    same_call a b (cc) (cc) (GiveTurns-unique x.options a.turns b.turns x.gives_turns (subst (λ o. GiveTurns o b.turns) options y.gives_turns))
+    same_call a b (cc) (cc)
+    (IsCommand-unique x.word x.options a.command b.command x.asks (subst (λ w. IsCommand w x.options b.command) word (subst (λ o. IsCommand y.word o b.command) options y.asks)))
 
 -- the bytes that were read are the content that is told
 pub read_is_told : (told : Option (List ℕ)) (content bytes : List ℕ) → told ≡ Some content → IsTold told bytes → bytes ≡ content

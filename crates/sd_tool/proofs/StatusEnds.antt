@@ -10,13 +10,13 @@ use Rattle.sd_graph.specs.PlainTree.{GraphTree}
 use Rattle.sd_graph.specs.declared.place.Place.{Place}
 use Rattle.sd_blocks.specs.declared.refusal.Refusal.{Refusal}
 use Rattle.sd_tool.specs.declared.ending.ArraysRefusal.{ArraysRefusal}
-use Rattle.sd_tool.specs.Command.{Call, IsRun}
+use Rattle.sd_tool.specs.Command.{Command, to_run, to_print, Call, IsCall}
 use Rattle.sd_tool.specs.Work.{Work, source_graph, prepared, run_of_work}
-use Rattle.sd_tool.specs.Answers.{ShelfUse, Answer, done, faulted, turns_spent, bad_words, source_refused, arrays_refused, read_fault, too_long, Reads, Unread, faulty, longer, ReadsSource, Comes, Answers, no_command, no_source, no_program, no_arrays, no_work, runs, answer_of_run, status_of, text_of}
+use Rattle.sd_tool.specs.Answers.{ShelfUse, Answer, done, faulted, turns_spent, listed, bad_words, source_refused, arrays_refused, read_fault, too_long, Reads, Unread, faulty, longer, ReadsSource, Answers, no_command, no_source, no_program, no_arrays, no_work, answered, answer_of_run, Tells, status_of, text_of}
 use Rattle.sd_tool.specs.Ends.{SinkUse, Ends, written, sink_failed, cut_short, no_memory, Writes, WritesPrefix}
 use Rattle.sd_tool.specs.Told.{TellsSource, TellsArrays, Asks}
-use Rattle.sd_tool.specs.Statuses.{NamesNothing, HasNoProgram, HasNoWork, IsFile, EndsAs, Statuses}
-use Rattle.sd_tool.proofs.Reading.{IsRun-unique, same_Ok, same_Err, Ok_or_Err}
+use Rattle.sd_tool.specs.Statuses.{NamesNothing, HasNoProgram, HasNoWork, Runs, ListsGraph, IsFile, EndsAs, Statuses}
+use Rattle.sd_tool.proofs.Reading.{IsCall-unique, same_Ok, same_Err, Ok_or_Err}
 use Rattle.sd_tool.proofs.ToldFiles.{not_unread, read_content}
 use Rattle.sd_tool.proofs.StatusRows.{Cause, cause}
 
@@ -50,30 +50,34 @@ told : (words : List (List ℕ)) (shelf : ShelfUse) (sink : SinkUse) (status : �
 told words shelf sink status w = (w.is, w.answers, cause words shelf w.answers, w.whole)
 
 module _ (words : List (List ℕ)) (shelf : ShelfUse) (sink : SinkUse) where
-  zero_at : (answer : Answer) → Told words shelf sink 0 answer → (call : Call) × (work : Work) × (left : Left) × Comes words shelf call work × Sequential (run_of_work work) call.turns (Done left) × Writes sink (text_of (done work.tree left.memory))
-  zero_at (done tree memory) t = (t.2.0, t.2.1, t.2.2, t.2.3.0, t.2.3.1, subst (λ a. Writes sink (text_of a)) t.2.4 t.3)
+  zero_at : (answer : Answer) → Told words shelf sink 0 answer →
+      ((work : Work) × (turns : ℕ) × (left : Left) × Runs words shelf work turns (Done left) × Writes sink (text_of (done work.tree left.memory))) ⊎ ((work : Work) × ListsGraph words shelf work × Writes sink (text_of (listed work.tree)))
+  zero_at (done tree memory) t = inl (t.2.0, t.2.1, t.2.2, t.2.3, subst (λ a. Writes sink (text_of a)) t.2.4 t.3)
   zero_at (faulted fault) t = absurd (let e = t.0 in omega arith)
   zero_at (turns_spent turns) t = absurd (let e = t.0 in omega arith)
+  zero_at (listed tree) t = inr (t.2.0, t.2.1, subst (λ g. Writes sink (text_of (listed g))) t.2.2 t.3)
   zero_at bad_words t = absurd (let e = t.0 in omega arith)
   zero_at (source_refused refusal) t = absurd (let e = t.0 in omega arith)
   zero_at (arrays_refused refusal) t = absurd (let e = t.0 in omega arith)
   zero_at (read_fault name) t = absurd (let e = t.0 in omega arith)
   zero_at (too_long name) t = absurd (let e = t.0 in omega arith)
 
-  seven_at : (answer : Answer) → Told words shelf sink 7 answer → (call : Call) × (work : Work) × (fault : Fault Place) × Comes words shelf call work × Sequential (run_of_work work) call.turns (Faulted fault) × Writes sink (text_of (faulted fault))
+  seven_at : (answer : Answer) → Told words shelf sink 7 answer → (work : Work) × (turns : ℕ) × (fault : Fault Place) × Runs words shelf work turns (Faulted fault) × Writes sink (text_of (faulted fault))
   seven_at (done tree memory) t = absurd (let e = t.0 in omega arith)
-  seven_at (faulted fault) t = (t.2.0, t.2.1, fault, t.2.2, t.2.3, t.3)
+  seven_at (faulted fault) t = (t.2.0, t.2.1, fault, t.2.2, t.3)
   seven_at (turns_spent turns) t = absurd (let e = t.0 in omega arith)
+  seven_at (listed tree) t = absurd (let e = t.0 in omega arith)
   seven_at bad_words t = absurd (let e = t.0 in omega arith)
   seven_at (source_refused refusal) t = absurd (let e = t.0 in omega arith)
   seven_at (arrays_refused refusal) t = absurd (let e = t.0 in omega arith)
   seven_at (read_fault name) t = absurd (let e = t.0 in omega arith)
   seven_at (too_long name) t = absurd (let e = t.0 in omega arith)
 
-  eight_at : (answer : Answer) → Told words shelf sink 8 answer → (call : Call) × (work : Work) × Comes words shelf call work × Sequential (run_of_work work) call.turns Spent × Writes sink (text_of (turns_spent call.turns))
+  eight_at : (answer : Answer) → Told words shelf sink 8 answer → (work : Work) × (turns : ℕ) × Runs words shelf work turns Spent × Writes sink (text_of (turns_spent turns))
   eight_at (done tree memory) t = absurd (let e = t.0 in omega arith)
   eight_at (faulted fault) t = absurd (let e = t.0 in omega arith)
-  eight_at (turns_spent turns) t = (t.2.0, t.2.1, t.2.2.0, t.2.2.1, subst (λ turns. Writes sink (text_of (turns_spent turns))) t.2.3 t.3)
+  eight_at (turns_spent turns) t = (t.2.0, t.2.1, t.2.2, subst (λ given. Writes sink (text_of (turns_spent given))) t.2.3 t.3)
+  eight_at (listed tree) t = absurd (let e = t.0 in omega arith)
   eight_at bad_words t = absurd (let e = t.0 in omega arith)
   eight_at (source_refused refusal) t = absurd (let e = t.0 in omega arith)
   eight_at (arrays_refused refusal) t = absurd (let e = t.0 in omega arith)
@@ -84,6 +88,7 @@ module _ (words : List (List ℕ)) (shelf : ShelfUse) (sink : SinkUse) where
   two_at (done tree memory) t = absurd (let e = t.0 in omega arith)
   two_at (faulted fault) t = absurd (let e = t.0 in omega arith)
   two_at (turns_spent turns) t = absurd (let e = t.0 in omega arith)
+  two_at (listed tree) t = absurd (let e = t.0 in omega arith)
   two_at bad_words t = (t.2, t.3)
   two_at (source_refused refusal) t = absurd (let e = t.0 in omega arith)
   two_at (arrays_refused refusal) t = absurd (let e = t.0 in omega arith)
@@ -94,6 +99,7 @@ module _ (words : List (List ℕ)) (shelf : ShelfUse) (sink : SinkUse) where
   three_at (done tree memory) t = absurd (let e = t.0 in omega arith)
   three_at (faulted fault) t = absurd (let e = t.0 in omega arith)
   three_at (turns_spent turns) t = absurd (let e = t.0 in omega arith)
+  three_at (listed tree) t = absurd (let e = t.0 in omega arith)
   three_at bad_words t = absurd (let e = t.0 in omega arith)
   three_at (source_refused refusal) t = (refusal, t.2, t.3)
   three_at (arrays_refused refusal) t = absurd (let e = t.0 in omega arith)
@@ -104,6 +110,7 @@ module _ (words : List (List ℕ)) (shelf : ShelfUse) (sink : SinkUse) where
   four_at (done tree memory) t = absurd (let e = t.0 in omega arith)
   four_at (faulted fault) t = absurd (let e = t.0 in omega arith)
   four_at (turns_spent turns) t = absurd (let e = t.0 in omega arith)
+  four_at (listed tree) t = absurd (let e = t.0 in omega arith)
   four_at bad_words t = absurd (let e = t.0 in omega arith)
   four_at (source_refused refusal) t = absurd (let e = t.0 in omega arith)
   four_at (arrays_refused refusal) t = (refusal, t.2, t.3)
@@ -114,6 +121,7 @@ module _ (words : List (List ℕ)) (shelf : ShelfUse) (sink : SinkUse) where
   nine_at (done tree memory) t = absurd (let e = t.0 in omega arith)
   nine_at (faulted fault) t = absurd (let e = t.0 in omega arith)
   nine_at (turns_spent turns) t = absurd (let e = t.0 in omega arith)
+  nine_at (listed tree) t = absurd (let e = t.0 in omega arith)
   nine_at bad_words t = absurd (let e = t.0 in omega arith)
   nine_at (source_refused refusal) t = absurd (let e = t.0 in omega arith)
   nine_at (arrays_refused refusal) t = absurd (let e = t.0 in omega arith)
@@ -124,6 +132,7 @@ module _ (words : List (List ℕ)) (shelf : ShelfUse) (sink : SinkUse) where
   eleven_at (done tree memory) t = absurd (let e = t.0 in omega arith)
   eleven_at (faulted fault) t = absurd (let e = t.0 in omega arith)
   eleven_at (turns_spent turns) t = absurd (let e = t.0 in omega arith)
+  eleven_at (listed tree) t = absurd (let e = t.0 in omega arith)
   eleven_at bad_words t = absurd (let e = t.0 in omega arith)
   eleven_at (source_refused refusal) t = absurd (let e = t.0 in omega arith)
   eleven_at (arrays_refused refusal) t = absurd (let e = t.0 in omega arith)
@@ -132,14 +141,14 @@ module _ (words : List (List ℕ)) (shelf : ShelfUse) (sink : SinkUse) where
 
 -- where the source is told and quiet
 module _ (words : List (List ℕ)) (shelf : ShelfUse) (call : Call) (source : List ℕ) (tells : TellsSource words shelf call source) where
-  same_call : (other : Call) → IsRun words other → other ≡ call
-  same_call other asked = IsRun-unique words other call asked tells.asked
+  same_call : (other : Call) → IsCall words other → other ≡ call
+  same_call other asked = IsCall-unique words other call asked tells.asked
 
   -- what is read of the source is what is told
-  source_is : (other : Call) (bytes : List ℕ) → IsRun words other → Reads shelf other.source (2 ^ 20) bytes → bytes ≡ source
+  source_is : (other : Call) (bytes : List ℕ) → IsCall words other → Reads shelf other.source (2 ^ 20) bytes → bytes ≡ source
   source_is other bytes asked reads = read_content shelf call.source source bytes (2 ^ 20) tells.told (subst (λ c. Reads shelf c.source (2 ^ 20) bytes) (same_call other asked) reads)
 
-  is_read : {answer : Answer} (other : Call) → length source ≤ 2 ^ 20 → IsRun words other → Unread shelf other.source (2 ^ 20) answer → ⊥
+  is_read : {answer : Answer} (other : Call) → length source ≤ 2 ^ 20 → IsCall words other → Unread shelf other.source (2 ^ 20) answer → ⊥
   is_read {answer} other within asked why =
       not_unread shelf call.source source (2 ^ 20) tells.told within tells.quiet (subst (λ c. Unread shelf c.source (2 ^ 20) answer) (same_call other asked) why)
 
@@ -148,7 +157,7 @@ module _ (words : List (List ℕ)) (shelf : ShelfUse) (call : Call) (source : Li
   graph_is other tree reads = subst (λ s. source_graph s ≡ Ok tree) (source_is other reads.source reads.asked reads.reads) reads.is
 
   -- and so is an error
-  error_is : (other : Call) (bytes : List ℕ) (refusal : Refusal) → IsRun words other → Reads shelf other.source (2 ^ 20) bytes → source_graph bytes ≡ Err refusal → source_graph source ≡ Err refusal
+  error_is : (other : Call) (bytes : List ℕ) (refusal : Refusal) → IsCall words other → Reads shelf other.source (2 ^ 20) bytes → source_graph bytes ≡ Err refusal → source_graph source ≡ Err refusal
   error_is other bytes refusal asked reads is = subst (λ s. source_graph s ≡ Err refusal) (source_is other bytes asked reads) is
 
   pub refused_source : (refusal : Refusal) → length source ≤ 2 ^ 20 → source_graph source ≡ Err refusal → (answer : Answer) → Answers words shelf answer → answer ≡ source_refused refusal
@@ -158,14 +167,14 @@ module _ (words : List (List ℕ)) (shelf : ShelfUse) (call : Call) (source : Li
       ap source_refused (same_Err (source_graph source) found refusal (error_is other bytes found asked reads has) is)
   refused_source refusal within is answer (no_arrays other tree reads why) = absurd (Ok_or_Err (source_graph source) tree refusal (graph_is other tree reads) is)
   refused_source refusal within is answer (no_work other tree arrays found reads read has) = absurd (Ok_or_Err (source_graph source) tree refusal (graph_is other tree reads) is)
-  refused_source refusal within is answer (runs other work outcome comes ends) = absurd (Ok_or_Err (source_graph source) comes.tree refusal (graph_is other comes.tree comes.source) is)
+  refused_source refusal within is answer (answered other work comes tells) = absurd (Ok_or_Err (source_graph source) comes.tree refusal (graph_is other comes.tree comes.source) is)
 
-  too_long_to_read : (other : Call) (bytes : List ℕ) → 2 ^ 20 < length source → IsRun words other → Reads shelf other.source (2 ^ 20) bytes → ⊥
+  too_long_to_read : (other : Call) (bytes : List ℕ) → 2 ^ 20 < length source → IsCall words other → Reads shelf other.source (2 ^ 20) bytes → ⊥
   too_long_to_read other bytes long asked reads =
       let within : length source ≤ 2 ^ 20 = subst (λ b. length b ≤ 2 ^ 20) (source_is other bytes asked reads) reads.within in
       omega arith
 
-  long_source : {answer : Answer} (other : Call) → IsRun words other → Unread shelf other.source (2 ^ 20) answer → answer ≡ too_long call.source
+  long_source : {answer : Answer} (other : Call) → IsCall words other → Unread shelf other.source (2 ^ 20) answer → answer ≡ too_long call.source
   long_source other asked (faulty rose) = absurd (tells.quiet (subst (λ c. HasRisen (shelf.faults_before c.source) (shelf.faults_after c.source)) (same_call other asked) rose))
   long_source other asked (longer told rose) = ap (λ c. too_long c.source) (same_call other asked)
 
@@ -175,14 +184,20 @@ module _ (words : List (List ℕ)) (shelf : ShelfUse) (call : Call) (source : Li
   long_at_source long answer (no_program other bytes found asked reads has) = absurd (too_long_to_read other bytes long asked reads)
   long_at_source long answer (no_arrays other tree reads why) = absurd (too_long_to_read other reads.source long reads.asked reads.reads)
   long_at_source long answer (no_work other tree arrays found reads read has) = absurd (too_long_to_read other reads.source long reads.asked reads.reads)
-  long_at_source long answer (runs other work outcome comes ends) = absurd (too_long_to_read other comes.source.source long comes.source.asked comes.source.reads)
+  long_at_source long answer (answered other work comes tells) = absurd (too_long_to_read other comes.source.source long comes.source.asked comes.source.reads)
+
+-- a command answers one thing of its work
+Tells-unique : (work : Work) (command : Command) (a b : Answer) → Tells work command a → Tells work command b → a ≡ b
+Tells-unique work (to_run turns) a b x y =
+    x.is ∙ ap (answer_of_run work.tree turns) (Run-unique (run_of_work work) turns [] x.outcome y.outcome x.ends y.ends) ∙ sym y.is
+Tells-unique work to_print a b x y = x ∙ sym y
 
 -- where the arrays file is told and quiet too
 module _ (words : List (List ℕ)) (shelf : ShelfUse) (call : Call) (source : List ℕ) (tree : GraphTree) (arrays : List ℕ) (tells : TellsArrays words shelf call source tree arrays) where
   same_tree : (other : Call) (found : GraphTree) → ReadsSource words shelf other found → found ≡ tree
   same_tree other found reads = same_Ok (source_graph source) found tree (graph_is words shelf call source tells.before other found reads) tells.has_graph
 
-  arrays_are : (other : Call) (bytes : List ℕ) → IsRun words other → Reads shelf other.arrays (2 ^ 26) bytes → bytes ≡ arrays
+  arrays_are : (other : Call) (bytes : List ℕ) → IsCall words other → Reads shelf other.arrays (2 ^ 26) bytes → bytes ≡ arrays
   arrays_are other bytes asked reads =
       read_content shelf call.arrays arrays bytes (2 ^ 26) tells.told (subst (λ c. Reads shelf c.arrays (2 ^ 26) bytes) (same_call words shelf call source tells.before other asked) reads)
 
@@ -190,10 +205,10 @@ module _ (words : List (List ℕ)) (shelf : ShelfUse) (call : Call) (source : Li
   comes_again : (other : Call) (found : GraphTree) (bytes : List ℕ) → ReadsSource words shelf other found → Reads shelf other.arrays (2 ^ 26) bytes → prepared found bytes ≡ prepared tree arrays
   comes_again other found bytes reads read = λ i. prepared (same_tree other found reads i) (arrays_are other bytes reads.asked read i)
 
-  not_source : {answer : Answer} (other : Call) → IsRun words other → Unread shelf other.source (2 ^ 20) answer → ⊥
+  not_source : {answer : Answer} (other : Call) → IsCall words other → Unread shelf other.source (2 ^ 20) answer → ⊥
   not_source other asked why = is_read words shelf call source tells.before other tells.within asked why
 
-  not_program : (other : Call) (bytes : List ℕ) (refusal : Refusal) → IsRun words other → Reads shelf other.source (2 ^ 20) bytes → source_graph bytes ≡ Err refusal → ⊥
+  not_program : (other : Call) (bytes : List ℕ) (refusal : Refusal) → IsCall words other → Reads shelf other.source (2 ^ 20) bytes → source_graph bytes ≡ Err refusal → ⊥
   not_program other bytes refusal asked reads has = Ok_or_Err (source_graph source) tree refusal tells.has_graph (error_is words shelf call source tells.before other bytes refusal asked reads has)
 
   not_arrays : {answer : Answer} (other : Call) (found : GraphTree) → length arrays ≤ 2 ^ 26 → ReadsSource words shelf other found → Unread shelf other.arrays (2 ^ 26) answer → ⊥
@@ -207,35 +222,31 @@ module _ (words : List (List ℕ)) (shelf : ShelfUse) (call : Call) (source : Li
   refused_arrays refusal within is answer (no_arrays other found reads why) = absurd (not_arrays other found within reads why)
   refused_arrays refusal within is answer (no_work other found bytes error reads read has) =
       ap arrays_refused (same_Err (prepared tree arrays) error refusal (sym (comes_again other found bytes reads read) ∙ has) is)
-  refused_arrays refusal within is answer (runs other work outcome comes ends) =
+  refused_arrays refusal within is answer (answered other work comes tells) =
       absurd (Ok_or_Err (prepared tree arrays) work refusal (sym (comes_again other comes.tree comes.arrays comes.source comes.reads) ∙ comes.is) is)
 
-  -- the run of one call and one work has one outcome
-  same_run : (other : Call) (work found : Work) (outcome ended : Outcome Place Left) → other ≡ call → found ≡ work → Sequential (run_of_work work) call.turns outcome → Sequential (run_of_work found) other.turns ended →
-      answer_of_run found.tree other.turns ended ≡ answer_of_run work.tree call.turns outcome
-  same_run other work found outcome ended same is ends ran =
-      let here : Sequential (run_of_work work) call.turns ended = subst (λ c. Sequential (run_of_work work) c.turns ended) same (subst (λ w. Sequential (run_of_work w) other.turns ended) is ran) in
-      let one : ended ≡ outcome = Run-unique (run_of_work work) call.turns [] ended outcome here ends in
-      λ i. answer_of_run (is i).tree (same i).turns (one i)
+  -- what one command answers of one work
+  same_told : (other : Call) (work found : Work) (only answer : Answer) → other ≡ call → found ≡ work → Tells work call.command only → Tells found other.command answer → answer ≡ only
+  same_told other work found only answer same is told here =
+      Tells-unique work call.command answer only (subst (λ c. Tells work c.command answer) same (subst (λ w. Tells w other.command answer) is here)) told
 
-  pub runs_only : (work : Work) (outcome : Outcome Place Left) → length arrays ≤ 2 ^ 26 → prepared tree arrays ≡ Ok work → Sequential (run_of_work work) call.turns outcome →
-      (answer : Answer) → Answers words shelf answer → answer ≡ answer_of_run work.tree call.turns outcome
-  runs_only work outcome within is ends answer (no_command nothing) = absurd (nothing call tells.before.asked)
-  runs_only work outcome within is ends answer (no_source other asked why) = absurd (not_source other asked why)
-  runs_only work outcome within is ends answer (no_program other bytes found asked reads has) = absurd (not_program other bytes found asked reads has)
-  runs_only work outcome within is ends answer (no_arrays other found reads why) = absurd (not_arrays other found within reads why)
-  runs_only work outcome within is ends answer (no_work other found bytes error reads read has) =
+  pub told_only : (work : Work) (only : Answer) → length arrays ≤ 2 ^ 26 → prepared tree arrays ≡ Ok work → Tells work call.command only → (answer : Answer) → Answers words shelf answer → answer ≡ only
+  told_only work only within is told answer (no_command nothing) = absurd (nothing call tells.before.asked)
+  told_only work only within is told answer (no_source other asked why) = absurd (not_source other asked why)
+  told_only work only within is told answer (no_program other bytes found asked reads has) = absurd (not_program other bytes found asked reads has)
+  told_only work only within is told answer (no_arrays other found reads why) = absurd (not_arrays other found within reads why)
+  told_only work only within is told answer (no_work other found bytes error reads read has) =
       absurd (Ok_or_Err (prepared tree arrays) work error is (sym (comes_again other found bytes reads read) ∙ has))
-  runs_only work outcome within is ends answer (runs other found ended comes ran) =
-      same_run other work found outcome ended (same_call words shelf call source tells.before other comes.source.asked)
-      (same_Ok (prepared tree arrays) found work (sym (comes_again other comes.tree comes.arrays comes.source comes.reads) ∙ comes.is) is) ends ran
+  told_only work only within is told answer (answered other found comes here) =
+      same_told other work found only answer (same_call words shelf call source tells.before other comes.source.asked)
+      (same_Ok (prepared tree arrays) found work (sym (comes_again other comes.tree comes.arrays comes.source comes.reads) ∙ comes.is) is) told here
 
-  arrays_too_long : (other : Call) (bytes : List ℕ) → 2 ^ 26 < length arrays → IsRun words other → Reads shelf other.arrays (2 ^ 26) bytes → ⊥
+  arrays_too_long : (other : Call) (bytes : List ℕ) → 2 ^ 26 < length arrays → IsCall words other → Reads shelf other.arrays (2 ^ 26) bytes → ⊥
   arrays_too_long other bytes long asked reads =
       let within : length arrays ≤ 2 ^ 26 = subst (λ b. length b ≤ 2 ^ 26) (arrays_are other bytes asked reads) reads.within in
       omega arith
 
-  long_arrays : {answer : Answer} (other : Call) → IsRun words other → Unread shelf other.arrays (2 ^ 26) answer → answer ≡ too_long call.arrays
+  long_arrays : {answer : Answer} (other : Call) → IsCall words other → Unread shelf other.arrays (2 ^ 26) answer → answer ≡ too_long call.arrays
   long_arrays other asked (faulty rose) =
       absurd (tells.quiet (subst (λ c. HasRisen (shelf.faults_before c.arrays) (shelf.faults_after c.arrays)) (same_call words shelf call source tells.before other asked) rose))
   long_arrays other asked (longer told rose) = ap (λ c. too_long c.arrays) (same_call words shelf call source tells.before other asked)
@@ -246,7 +257,7 @@ module _ (words : List (List ℕ)) (shelf : ShelfUse) (call : Call) (source : Li
   long_at_arrays long answer (no_program other bytes found asked reads has) = absurd (not_program other bytes found asked reads has)
   long_at_arrays long answer (no_arrays other found reads why) = long_arrays other reads.asked why
   long_at_arrays long answer (no_work other found bytes error reads read has) = absurd (arrays_too_long other bytes long reads.asked read)
-  long_at_arrays long answer (runs other work outcome comes ends) = absurd (arrays_too_long other comes.arrays long comes.source.asked comes.reads)
+  long_at_arrays long answer (answered other work comes tells) = absurd (arrays_too_long other comes.arrays long comes.source.asked comes.reads)
 
 -- where the words name nothing
 bad_words_only : (words : List (List ℕ)) (shelf : ShelfUse) → NamesNothing words → (answer : Answer) → Answers words shelf answer → answer ≡ bad_words
@@ -255,13 +266,14 @@ bad_words_only words shelf nothing answer (no_source call asked why) = absurd (n
 bad_words_only words shelf nothing answer (no_program call bytes refusal asked reads is) = absurd (nothing call asked)
 bad_words_only words shelf nothing answer (no_arrays call tree reads why) = absurd (nothing call reads.asked)
 bad_words_only words shelf nothing answer (no_work call tree arrays refusal reads read is) = absurd (nothing call reads.asked)
-bad_words_only words shelf nothing answer (runs call work outcome comes ends) = absurd (nothing call comes.source.asked)
+bad_words_only words shelf nothing answer (answered call work comes tells) = absurd (nothing call comes.source.asked)
 
 -- no answer has the status 10
 ten_at : (answer : Answer) → status_of answer ≡ 10 → ⊥
 ten_at (done tree memory) e = omega arith
 ten_at (faulted fault) e = omega arith
 ten_at (turns_spent turns) e = omega arith
+ten_at (listed tree) e = omega arith
 ten_at bad_words e = omega arith
 ten_at (source_refused refusal) e = omega arith
 ten_at (arrays_refused refusal) e = omega arith
@@ -273,6 +285,7 @@ one_at : (answer : Answer) → status_of answer ≡ 1 → ⊥
 one_at (done tree memory) e = omega arith
 one_at (faulted fault) e = omega arith
 one_at (turns_spent turns) e = omega arith
+one_at (listed tree) e = omega arith
 one_at bad_words e = omega arith
 one_at (source_refused refusal) e = omega arith
 one_at (arrays_refused refusal) e = omega arith
@@ -298,10 +311,17 @@ at_status words shelf sink status number rows ten one ends is =
     let w = wrote words shelf sink number ten one (subst (Ends words shelf sink) is ends) in
     rows w.answer (told words shelf sink number w)
 
--- what a call asks for has one answer: that of its run
-pub one_answer : (words : List (List ℕ)) (shelf : ShelfUse) (call : Call) (work : Work) (outcome : Outcome Place Left) → Asks words shelf call work → Sequential (run_of_work work) call.turns outcome →
-    (answer : Answer) → Answers words shelf answer → answer ≡ answer_of_run work.tree call.turns outcome
-one_answer words shelf call work outcome asks ends = runs_only words shelf call asks.source asks.tree asks.arrays asks.tells work outcome asks.within asks.comes ends
+-- what a call asks for has one answer
+pub one_answer : (words : List (List ℕ)) (shelf : ShelfUse) (call : Call) (work : Work) (only : Answer) → Asks words shelf call work → Tells work call.command only → (answer : Answer) → Answers words shelf answer → answer ≡ only
+one_answer words shelf call work only asks told = told_only words shelf call asks.source asks.tree asks.arrays asks.tells work only asks.within asks.comes told
+
+-- a run that is asked for tells its outcome
+pub asked_run : (call : Call) (work : Work) (turns : ℕ) (outcome : Outcome Place Left) → call.command ≡ to_run turns → Sequential (run_of_work work) turns outcome → Tells work call.command (answer_of_run work.tree turns outcome)
+asked_run call work turns outcome is ends = subst (λ c. Tells work c (answer_of_run work.tree turns outcome)) (sym is) (record { outcome = outcome; ends = ends; is = refl })
+
+-- a text that is asked for is that of the graph
+pub asked_text : (call : Call) (work : Work) → call.command ≡ to_print → Tells work call.command (listed work.tree)
+asked_text call work is = subst (λ c. Tells work c (listed work.tree)) (sym is) refl
 
 -- all of it
 pub statuses : (words : List (List ℕ)) (shelf : ShelfUse) (sink : SinkUse) (status : ℕ) → Ends words shelf sink status → Statuses words shelf sink status
@@ -309,7 +329,9 @@ statuses words shelf sink status ends = record {
   zero = at_status words shelf sink status 0 (zero_at words shelf sink) (λ e. omega arith) (λ e. omega arith) ends;
   seven = at_status words shelf sink status 7 (seven_at words shelf sink) (λ e. omega arith) (λ e. omega arith) ends;
   eight = at_status words shelf sink status 8 (eight_at words shelf sink) (λ e. omega arith) (λ e. omega arith) ends;
-  run_where = λ call work outcome asks ran. ends_as words shelf sink status (answer_of_run work.tree call.turns outcome) (one_answer words shelf call work outcome asks ran) ends;
+  run_where = λ call work turns outcome asks is ran.
+      ends_as words shelf sink status (answer_of_run work.tree turns outcome) (one_answer words shelf call work (answer_of_run work.tree turns outcome) asks (asked_run call work turns outcome is ran)) ends;
+  listed_where = λ call work asks is. ends_as words shelf sink status (listed work.tree) (one_answer words shelf call work (listed work.tree) asks (asked_text call work is)) ends;
   two = at_status words shelf sink status 2 (two_at words shelf sink) (λ e. omega arith) (λ e. omega arith) ends;
   two_where = λ nothing. ends_as words shelf sink status bad_words (bad_words_only words shelf nothing) ends;
   three = at_status words shelf sink status 3 (three_at words shelf sink) (λ e. omega arith) (λ e. omega arith) ends;

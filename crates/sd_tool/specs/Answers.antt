@@ -11,16 +11,18 @@ use Rattle.sd_graph.specs.PlainTree.{GraphTree}
 use Rattle.sd_graph.specs.declared.place.Place.{Place}
 use Rattle.sd_blocks.specs.declared.refusal.Refusal.{Refusal}
 use Rattle.sd_print.specs.FaultText.{fault_text}
+use Rattle.sd_graph_text.specs.GraphText.{graph_text}
 use Rattle.sd_tool.specs.declared.ending.ArraysRefusal.{ArraysRefusal}
-use Rattle.sd_tool.specs.Command.{Call, IsRun}
+use Rattle.sd_tool.specs.Command.{Command, to_run, to_print, Call, IsCall}
 use Rattle.sd_tool.specs.Work.{Work, source_graph, prepared, run_of_work}
 use Rattle.sd_tool.specs.AnswerText.{line, done_text, source_text, arrays_text}
 
--- the arrays after a run that is done, its fault, or that its turns are spent; or why there is no run
+-- the arrays after a run that is done, its fault, or that its turns are spent; the text of a graph; or why there is neither
 pub data Answer : Type 0 where
   done : (tree : GraphTree) → (memory : Memory) → Answer
   faulted : Fault Place → Answer
   turns_spent : (turns : ℕ) → Answer
+  listed : (tree : GraphTree) → Answer
   bad_words : Answer
   source_refused : Refusal → Answer
   arrays_refused : ArraysRefusal → Answer
@@ -31,6 +33,7 @@ abbrev pub status_of : Answer → ℕ
 status_of (done tree memory) = 0
 status_of (faulted fault) = 7
 status_of (turns_spent turns) = 8
+status_of (listed tree) = 0
 status_of bad_words = 2
 status_of (source_refused refusal) = 3
 status_of (arrays_refused refusal) = 4
@@ -41,6 +44,7 @@ abbrev pub text_of : Answer → List ℕ
 text_of (done tree memory) = done_text tree memory
 text_of (faulted fault) = line (fault_text fault.place fault.kind)
 text_of (turns_spent turns) = line (codes "turns spent " ++ decimal turns)
+text_of (listed tree) = graph_text tree
 text_of bad_words = line (codes "bad words")
 text_of (source_refused refusal) = source_text refusal
 text_of (arrays_refused refusal) = arrays_text refusal
@@ -52,6 +56,17 @@ abbrev pub answer_of_run : GraphTree → (turns : ℕ) → Outcome Place Left �
 answer_of_run tree turns (Done left) = done tree left.memory
 answer_of_run tree turns (Faulted fault) = faulted fault
 answer_of_run tree turns Spent = turns_spent turns
+
+-- the sequential run of the work has an outcome, and the answer tells it
+pub record TellsRun (work : Work) (turns : ℕ) (answer : Answer) : Type 0 where
+  pub outcome : Outcome Place Left
+  pub ends : Sequential (run_of_work work) turns outcome
+  pub is : answer ≡ answer_of_run work.tree turns outcome
+
+-- what a command answers of the work that its files come to
+abbrev pub Tells : Work → Command → Answer → Type 0
+Tells work (to_run turns) answer = TellsRun work turns answer
+Tells work to_print answer = answer ≡ listed work.tree
 
 -- what a shelf tells, and the counts of each name before and after it was used
 pub record ShelfUse : Type 0 where
@@ -82,7 +97,7 @@ pub data Unread (shelf : ShelfUse) (name : List ℕ) (limit : ℕ) : Answer → 
 
 -- the words are this call, and the source is read and has this graph
 pub record ReadsSource (words : List (List ℕ)) (shelf : ShelfUse) (call : Call) (tree : GraphTree) : Type 0 where
-  pub asked : IsRun words call
+  pub asked : IsCall words call
   pub source : List ℕ
   pub reads : Reads shelf call.source (2 ^ 20) source
   pub is : source_graph source ≡ Ok tree
@@ -95,11 +110,11 @@ pub record Comes (words : List (List ℕ)) (shelf : ShelfUse) (call : Call) (wor
   pub reads : Reads shelf call.arrays (2 ^ 26) arrays
   pub is : prepared tree arrays ≡ Ok work
 
--- the places in their order: words, source read, its form, arrays read, their form, sizes and shapes, outcome; the first that refuses decides
+-- the places in their order: words, source read, its form, arrays read, their form, sizes and shapes, what the command answers; the first that refuses decides
 pub data Answers (words : List (List ℕ)) (shelf : ShelfUse) : Answer → Type 0 where
-  no_command : ((call : Call) → IsRun words call → ⊥) → Answers words shelf bad_words
-  no_source : {answer : Answer} (call : Call) → IsRun words call → Unread shelf call.source (2 ^ 20) answer → Answers words shelf answer
-  no_program : (call : Call) (source : List ℕ) (refusal : Refusal) → IsRun words call → Reads shelf call.source (2 ^ 20) source → source_graph source ≡ Err refusal → Answers words shelf (source_refused refusal)
+  no_command : ((call : Call) → IsCall words call → ⊥) → Answers words shelf bad_words
+  no_source : {answer : Answer} (call : Call) → IsCall words call → Unread shelf call.source (2 ^ 20) answer → Answers words shelf answer
+  no_program : (call : Call) (source : List ℕ) (refusal : Refusal) → IsCall words call → Reads shelf call.source (2 ^ 20) source → source_graph source ≡ Err refusal → Answers words shelf (source_refused refusal)
   no_arrays : {answer : Answer} (call : Call) (tree : GraphTree) → ReadsSource words shelf call tree → Unread shelf call.arrays (2 ^ 26) answer → Answers words shelf answer
   no_work : (call : Call) (tree : GraphTree) (arrays : List ℕ) (refusal : ArraysRefusal) → ReadsSource words shelf call tree → Reads shelf call.arrays (2 ^ 26) arrays → prepared tree arrays ≡ Err refusal → Answers words shelf (arrays_refused refusal)
-  runs : (call : Call) (work : Work) (outcome : Outcome Place Left) → Comes words shelf call work → Sequential (run_of_work work) call.turns outcome → Answers words shelf (answer_of_run work.tree call.turns outcome)
+  answered : {answer : Answer} (call : Call) (work : Work) → Comes words shelf call work → Tells work call.command answer → Answers words shelf answer

@@ -1,21 +1,32 @@
--- The words of a call: the command `run`, a source, an arrays file and, where wanted, how many turns the run may spend.
+-- The words of a call: a command, a source, an arrays file and, behind them, what the command wants besides.
 use Rattle.std.specs.Prelude.{◌≡◌, ℕ, ◌^◌, ◌≤◌, List, [], ◌∷◌, Bool, false, not, ◌==◌, IsTrue, codes}
 use Rattle.std.specs.Str.Parse.{IsNumeral, digits_value}
-use Rattle.sd_tool.specs.declared.command.Run.{Run}
+use Rattle.sd_tool.specs.declared.command.Asked.{Asked}
+use Rattle.sd_tool.specs.declared.command.Command as asked_command
+use Rattle.sd_tool.specs.declared.command.Command.TheVariants.{Run, Print}
 
 -- a word that names a file: it is not empty and does not begin with a dash
 abbrev pub is_file_word : List ℕ → Bool
 is_file_word [] = false
 is_file_word (first ∷ rest) = not (first == 45)
 
--- the names of the two files, and the turns
+-- what is wanted of the two files: a run that may spend so many turns, or the text of their graph
+pub data Command : Type 0 where
+  to_run : (turns : ℕ) → Command
+  to_print : Command
+
+-- the names of the two files, and what is wanted of them
 pub record Call : Type 0 where
   pub source : List ℕ
   pub arrays : List ℕ
-  pub turns : ℕ
+  pub command : Command
 
-abbrev pub call_of : Run → Call
-call_of run = record { source = run.source.now; arrays = run.arrays.now; turns = run.turns }
+abbrev pub command_of : asked_command.Command → Command
+command_of (Run turns) = to_run turns
+command_of Print = to_print
+
+abbrev pub call_of : Asked → Call
+call_of asked = record { source = asked.source.now; arrays = asked.arrays.now; command = command_of asked.command }
 
 -- a word is a number of turns that a run may have: digits alone, from 1 to 2^40
 pub record IsBudget (word : List ℕ) (turns : ℕ) : Type 0 where
@@ -31,10 +42,16 @@ GiveTurns (name ∷ []) turns = ⊥
 GiveTurns (name ∷ value ∷ []) turns = (name ≡ codes "--turns") × IsBudget value turns
 GiveTurns (name ∷ value ∷ other ∷ others) turns = ⊥
 
--- the words are `run` and the names of these files, and give these turns
-pub record IsRun (words : List (List ℕ)) (call : Call) : Type 0 where
+-- the first word and those behind the files are this command: `run` with its turns, or `print` alone
+abbrev pub IsCommand : (word : List ℕ) → (options : List (List ℕ)) → Command → Type 0
+IsCommand word options (to_run turns) = (word ≡ codes "run") × GiveTurns options turns
+IsCommand word options to_print = (word ≡ codes "print") × (options ≡ [])
+
+-- the words are a command with the names of these files
+pub record IsCall (words : List (List ℕ)) (call : Call) : Type 0 where
+  pub word : List ℕ
   pub options : List (List ℕ)
-  pub are : words ≡ codes "run" ∷ call.source ∷ call.arrays ∷ options
+  pub are : words ≡ word ∷ call.source ∷ call.arrays ∷ options
   pub source_word : IsTrue (is_file_word call.source)
   pub arrays_word : IsTrue (is_file_word call.arrays)
-  pub gives_turns : GiveTurns options call.turns
+  pub asks : IsCommand word options call.command

@@ -1,12 +1,9 @@
--- How a call ends without arrays to print, apart from where a name lies in memory.
-use Rattle.std.specs.Prelude.{◌≡◌, ⊤, ℕ, Option, Some, None, Result, Ok, Err}
+-- How a call ends with neither arrays nor a graph to write, apart from where a name lies in memory.
+use Rattle.std.specs.Prelude.{◌≡◌, ⊤, Option, Some, None, Result, Ok, Err}
 use Rattle.std.specs.Option.{option_map_or}
 use Rattle.sd_work.specs.Move.{fault_at}
-use Rattle.sd_work.specs.Run.{Left, Sequential}
-use Rattle.sd_work.specs.Step.{Outcome}
-use Rattle.sd_graph.specs.declared.place.Place.{Place}
-use Rattle.sd_tool.specs.Work.{Work, run_of_work, input_refusal, binding_refusal}
-use Rattle.sd_tool.specs.Answers.{Answer, answer_of_run, faulted, turns_spent, bad_words, source_refused, arrays_refused, read_fault, too_long}
+use Rattle.sd_tool.specs.Work.{input_refusal, binding_refusal}
+use Rattle.sd_tool.specs.Answers.{Answer, faulted, turns_spent, bad_words, source_refused, arrays_refused, read_fault, too_long}
 use Rattle.sd_parse.specs.ErrorNumber.{refusal_of}
 use Rattle.sd_parse.specs.declared.error.SourceError.{SourceError}
 use Rattle.sd_valid.specs.declared.error.BindError.{BindError}
@@ -44,9 +41,3 @@ abbrev pub Refuses : {X E : Type 0} → (E → Answer) → Result X E → Option
 Refuses told reading None = ⊤
 Refuses told (Ok read) (Some answer) = ⊥
 Refuses told (Err error) (Some answer) = answer ≡ told error
-
--- the sequential run of the work has an outcome, and the answer tells it
-pub record TellsRun (work : Work) (turns : ℕ) (answer : Answer) : Type 0 where
-  pub outcome : Outcome Place Left
-  pub ends : Sequential (run_of_work work) turns outcome
-  pub is : answer ≡ answer_of_run work.tree turns outcome

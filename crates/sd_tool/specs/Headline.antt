@@ -3,6 +3,7 @@ use Rattle.std.specs.Prelude.{◌≡◌, ◌⊎◌, ℕ}
 use Rattle.sd_work.specs.Run.{Left, Sequential}
 use Rattle.sd_work.specs.Step.{Outcome}
 use Rattle.sd_graph.specs.declared.place.Place.{Place}
+use Rattle.sd_graph_text.specs.GraphText.{graph_text}
 use Rattle.sd_tool.specs.Work.{Work, run_of_work}
 use Rattle.sd_tool.specs.Answers.{answer_of_run, status_of, text_of}
 use Rattle.sd_tool.specs.Ends.{SinkUse, Writes}
@@ -12,3 +13,7 @@ pub record Prints (work : Work) (turns : ℕ) (sink : SinkUse) (status : ℕ) : 
   pub outcome : Outcome Place Left
   pub ends : Sequential (run_of_work work) turns outcome
   pub printed : ((status ≡ status_of (answer_of_run work.tree turns outcome)) × Writes sink (text_of (answer_of_run work.tree turns outcome))) ⊎ (status ≡ 1)
+
+-- the text of the work's graph is written whole and the status is 0, or memory was wanting
+abbrev pub Lists : Work → SinkUse → (status : ℕ) → Type 0
+Lists work sink status = ((status ≡ 0) × Writes sink (graph_text work.tree)) ⊎ (status ≡ 1)

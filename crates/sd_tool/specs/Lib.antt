@@ -6,6 +6,8 @@ pub mod AnswerText
 pub mod Answers
 pub mod Ends
 pub mod Ending
+pub mod Report
+pub mod Pieces
 pub mod Written
 pub mod Told
 pub mod Headline

@@ -9,21 +9,21 @@ use Rattle.sd_graph.specs.PlainTree.{GraphTree}
 use Rattle.sd_graph.specs.declared.place.Place.{Place}
 use Rattle.sd_blocks.specs.declared.refusal.Refusal.{Refusal}
 use Rattle.sd_tool.specs.declared.ending.ArraysRefusal.{ArraysRefusal}
-use Rattle.sd_tool.specs.Command.{Call, IsRun}
+use Rattle.sd_tool.specs.Command.{to_run, to_print, Call, IsCall}
 use Rattle.sd_tool.specs.Work.{Work, source_graph, prepared, run_of_work}
-use Rattle.sd_tool.specs.Answers.{ShelfUse, Answer, done, faulted, turns_spent, bad_words, source_refused, arrays_refused, read_fault, too_long, Reads, ReadsSource, Comes, Answers, answer_of_run, status_of, text_of}
+use Rattle.sd_tool.specs.Answers.{ShelfUse, Answer, done, faulted, turns_spent, listed, bad_words, source_refused, arrays_refused, read_fault, too_long, Reads, ReadsSource, Comes, Answers, answer_of_run, status_of, text_of}
 use Rattle.sd_tool.specs.Ends.{SinkUse, Writes, WritesPrefix}
 use Rattle.sd_tool.specs.Told.{TellsSource, TellsArrays, Asks}
 
 -- the words are no call
 abbrev pub NamesNothing : List (List ℕ) → Type 0
-NamesNothing words = (call : Call) → IsRun words call → ⊥
+NamesNothing words = (call : Call) → IsCall words call → ⊥
 
 -- the source is read and has this error
 pub record HasNoProgram (words : List (List ℕ)) (shelf : ShelfUse) (refusal : Refusal) : Type 0 where
   pub call : Call
   pub source : List ℕ
-  pub asked : IsRun words call
+  pub asked : IsCall words call
   pub reads : Reads shelf call.source (2 ^ 20) source
   pub is : source_graph source ≡ Err refusal
 
@@ -36,9 +36,22 @@ pub record HasNoWork (words : List (List ℕ)) (shelf : ShelfUse) (refusal : Arr
   pub reads : Reads shelf call.arrays (2 ^ 26) arrays
   pub is : prepared tree arrays ≡ Err refusal
 
+-- the files come to this work, and a run of it with so many turns is asked for, whose outcome is this
+pub record Runs (words : List (List ℕ)) (shelf : ShelfUse) (work : Work) (turns : ℕ) (outcome : Outcome Place Left) : Type 0 where
+  pub call : Call
+  pub comes : Comes words shelf call work
+  pub asks : call.command ≡ to_run turns
+  pub ends : Sequential (run_of_work work) turns outcome
+
+-- the files come to this work, and the text of its graph is asked for
+pub record ListsGraph (words : List (List ℕ)) (shelf : ShelfUse) (work : Work) : Type 0 where
+  pub call : Call
+  pub comes : Comes words shelf call work
+  pub asks : call.command ≡ to_print
+
 -- the name is a file in the words, with its limit
 abbrev pub IsFile : List (List ℕ) → List ℕ → ℕ → Type 0
-IsFile words name limit = (call : Call) × IsRun words call × (((name ≡ call.source) × (limit ≡ 2 ^ 20)) ⊎ ((name ≡ call.arrays) × (limit ≡ 2 ^ 26)))
+IsFile words name limit = (call : Call) × IsCall words call × (((name ≡ call.source) × (limit ≡ 2 ^ 20)) ⊎ ((name ≡ call.arrays) × (limit ≡ 2 ^ 26)))
 
 -- the call ends with this answer, its text whole; or the sink failed, or memory was wanting
 abbrev pub EndsAs : Answer → SinkUse → ℕ → Type 0
@@ -48,12 +61,14 @@ EndsAs answer sink status =
     ⊎ (status ≡ 1)
 
 pub record Statuses (words : List (List ℕ)) (shelf : ShelfUse) (sink : SinkUse) (status : ℕ) : Type 0 where
-  -- 0, 7 and 8 only where the sequential run is done, has a fault, or wants a turn when none is left
-  pub zero : status ≡ 0 → (call : Call) × (work : Work) × (left : Left) × Comes words shelf call work × Sequential (run_of_work work) call.turns (Done left) × Writes sink (text_of (done work.tree left.memory))
-  pub seven : status ≡ 7 → (call : Call) × (work : Work) × (fault : Fault Place) × Comes words shelf call work × Sequential (run_of_work work) call.turns (Faulted fault) × Writes sink (text_of (faulted fault))
-  pub eight : status ≡ 8 → (call : Call) × (work : Work) × Comes words shelf call work × Sequential (run_of_work work) call.turns Spent × Writes sink (text_of (turns_spent call.turns))
+  -- 0 only where the sequential run that is asked for is done, or where the text of the graph is asked for
+  pub zero : status ≡ 0 → ((work : Work) × (turns : ℕ) × (left : Left) × Runs words shelf work turns (Done left) × Writes sink (text_of (done work.tree left.memory))) ⊎ ((work : Work) × ListsGraph words shelf work × Writes sink (text_of (listed work.tree)))
+  -- 7 and 8 only where the run that is asked for has a fault, or wants a turn when none is left
+  pub seven : status ≡ 7 → (work : Work) × (turns : ℕ) × (fault : Fault Place) × Runs words shelf work turns (Faulted fault) × Writes sink (text_of (faulted fault))
+  pub eight : status ≡ 8 → (work : Work) × (turns : ℕ) × Runs words shelf work turns Spent × Writes sink (text_of (turns_spent turns))
   -- and exactly there
-  pub run_where : (call : Call) (work : Work) (outcome : Outcome Place Left) → Asks words shelf call work → Sequential (run_of_work work) call.turns outcome → EndsAs (answer_of_run work.tree call.turns outcome) sink status
+  pub run_where : (call : Call) (work : Work) (turns : ℕ) (outcome : Outcome Place Left) → Asks words shelf call work → call.command ≡ to_run turns → Sequential (run_of_work work) turns outcome → EndsAs (answer_of_run work.tree turns outcome) sink status
+  pub listed_where : (call : Call) (work : Work) → Asks words shelf call work → call.command ≡ to_print → EndsAs (listed work.tree) sink status
   -- 2 exactly where the words are not those of the command
   pub two : status ≡ 2 → NamesNothing words × Writes sink (text_of bad_words)
   pub two_where : NamesNothing words → EndsAs bad_words sink status

@@ -2,13 +2,13 @@
 use Rattle.std.specs.Prelude.{◌≡◌, ℕ, ◌^◌, ◌≤◌, List, length, Some, Ok}
 use Rattle.sd_io.specs.Count.{HasRisen}
 use Rattle.sd_graph.specs.PlainTree.{GraphTree}
-use Rattle.sd_tool.specs.Command.{Call, IsRun}
+use Rattle.sd_tool.specs.Command.{Call, IsCall}
 use Rattle.sd_tool.specs.Work.{Work, source_graph, prepared}
 use Rattle.sd_tool.specs.Answers.{ShelfUse}
 
 -- the source is told and its count did not rise
 pub record TellsSource (words : List (List ℕ)) (shelf : ShelfUse) (call : Call) (source : List ℕ) : Type 0 where
-  pub asked : IsRun words call
+  pub asked : IsCall words call
   pub told : shelf.told call.source ≡ Some source
   pub quiet : ¬ HasRisen (shelf.faults_before call.source) (shelf.faults_after call.source)
 

@@ -1,25 +1,24 @@
 ghost use Rattle.std.specs.Prelude.{◌≡◌, ◌≤◌, ℕ, List, map, IfOk, IfErr, IfSome, OnOk, OnErr, IsErrOf, string_bytes};
 ghost use Rattle.sd_io.specs.Count.{HasRisen};
 ghost use Rattle.sd_io.specs.Sink.{Appends, AppendsPrefix};
-ghost use Rattle.sd_graph.specs.TreeFold.{graph_tree};
-ghost use Rattle.sd_tool.specs.AnswerText.{done_text};
-ghost use Rattle.sd_tool.specs.Answers.{ShelfUse, Reads, Unread, Comes, Answers, done, shelf_use};
-ghost use Rattle.sd_tool.specs.Command.{Call, IsRun, call_of};
+ghost use Rattle.sd_tool.specs.Answers.{ShelfUse, Reads, Unread, Comes, Answers, shelf_use};
+ghost use Rattle.sd_tool.specs.Command.{Call, IsCall, to_run, to_print, call_of};
 ghost use Rattle.sd_tool.specs.Ending.{answer_of};
 ghost use Rattle.sd_tool.specs.Ends.{Ends, sink_use};
-ghost use Rattle.sd_tool.specs.Headline.{Prints};
+ghost use Rattle.sd_tool.specs.Headline.{Prints, Lists};
+ghost use Rattle.sd_tool.specs.Report.{reported};
 ghost use Rattle.sd_tool.specs.Statuses.{Statuses};
 ghost use Rattle.sd_tool.specs.Told.{Asks};
 ghost use Rattle.sd_tool.specs.Work.{Work};
 ghost use Rattle.sd_tool.specs.Workspace.{work_of};
 ghost use Rattle.sd_tool.specs.Written.{written_status};
 
-use crate::command::{self, Run};
+use crate::command::{self, Asked};
 use crate::ending::Ending;
 use crate::output;
-use crate::workspace::{Workspace, prepared, run, source_graph};
+use crate::report::Report;
+use crate::workspace::{Workspace, prepared, source_graph};
 use sd_io::{Gate, Shelf, ShelfError, Sink, SinkError};
-use sd_json::array_line;
 use std::alloc::Global;
 
 /// The most bytes of a source and of an arrays file.
@@ -27,7 +26,7 @@ const SOURCE_LIMIT: usize = 1 << 20;
 
 const ARRAYS_LIMIT: usize = 1 << 26;
 
-/// The status of arrays that are printed, and those of what may go wrong while text is written.
+/// The status of a report that is written, and those of what may go wrong while text is written.
 const DONE: u8 = 0;
 
 const NO_MEMORY: u8 = 1;
@@ -60,12 +59,12 @@ fn content<'a, S: Shelf>(
 /// file is read.
 fn prepare<'a, S: Shelf>(
     alloc: Global,
-    call: Run<'a>,
+    call: Asked<'a>,
     shelf: &mut S,
 ) -> Result<Workspace, Ending<'a>>
-    ensures comes { (words : List (List ℕ)) → IsRun words (call_of call.entry)
+    ensures comes { (words : List (List ℕ)) → IsCall words (call_of call.entry)
         → IfOk result (λ opened. Comes words (shelf_use S.told S.faults S.overruns shelf.old shelf.new) (call_of call.entry) (work_of opened)) }
-    ensures refuses { (words : List (List ℕ)) → IsRun words (call_of call.entry)
+    ensures refuses { (words : List (List ℕ)) → IsCall words (call_of call.entry)
         → IfErr result (λ ending. IfSome (answer_of ending) (Answers words (shelf_use S.told S.faults S.overruns shelf.old shelf.new))) }
     ensures told_stays { (other : List ℕ) → S.told shelf.new other ≡ S.told shelf.old other }
     ensures faults_never_fall { (other : List ℕ) → S.faults shelf.old other ≤ S.faults shelf.new other }
@@ -77,14 +76,14 @@ fn prepare<'a, S: Shelf>(
     prepared(alloc, graph, file)
 }
 
-/// The graph and the memory after the run that the words ask for, or why there are no arrays to print.
+/// What the words ask for, or why there is nothing to report.
 fn outcome<'a, S: Shelf>(
     alloc: Global,
     words: &'a [String],
     shelf: &mut S,
-) -> Result<Workspace, Ending<'a>>
-    ensures runs { IfOk result (λ after. Answers (map string_bytes words.now) (shelf_use S.told S.faults S.overruns shelf.old shelf.new)
-        (done (graph_tree after.bound.graph) after.memory.contents)) }
+) -> Result<Report, Ending<'a>>
+    ensures reports { IfOk result (λ report.
+        Answers (map string_bytes words.now) (shelf_use S.told S.faults S.overruns shelf.old shelf.new) (reported report)) }
     ensures refuses { IfErr result (λ ending.
         IfSome (answer_of ending) (Answers (map string_bytes words.now) (shelf_use S.told S.faults S.overruns shelf.old shelf.new))) }
     ensures told_stays { (other : List ℕ) → S.told shelf.new other ≡ S.told shelf.old other }
@@ -95,23 +94,7 @@ fn outcome<'a, S: Shelf>(
         return Err(Ending::BadWords);
     };
     let opened = prepare(alloc, call, shelf)?;
-    run(alloc, opened, call.turns)
-}
-
-/// Writes the line of each argument, one after another; only one line is made at a time.
-fn write_arrays<K: Sink>(alloc: Global, out: &mut K, after: &Workspace) -> Result<(), SinkError>
-    ensures ok { OnOk result (Appends (K.taken out.old) (K.taken out.new) (done_text (graph_tree after.now.bound.graph) after.now.memory.contents)) }
-    ensures err { OnErr result (AppendsPrefix (K.taken out.old) (K.taken out.new) (done_text (graph_tree after.now.bound.graph) after.now.memory.contents)) }
-    ensures failed { IsErrOf result SinkError.Failed → HasRisen (K.faults out.old) (K.faults out.new) }
-    ensures faults_never_fall { K.faults out.old ≤ K.faults out.new }
-{
-    for argument in 0..after.bound.graph.arguments {
-        match array_line(alloc, &after.bound, &after.memory, argument) {
-            Ok(line) => output::write_line(out, line.as_bytes())?,
-            Err(_) => return Err(SinkError::Memory),
-        }
-    }
-    Ok(())
+    Report::of(alloc, call.command, opened)
 }
 
 /// The status of a text that was written, or of what went wrong.
@@ -125,7 +108,7 @@ fn status_of(written: Result<(), SinkError>, status: u8) -> u8
     }
 }
 
-/// Writes how a call ends without arrays. Nothing is written for want of memory.
+/// Writes how a call ends that has nothing to report. Nothing is written for want of memory.
 fn tell<K: Sink>(alloc: Global, out: &mut K, ending: &Ending) -> u8
     ensures ends { (words : List (List ℕ)) (shelf : ShelfUse) → IfSome (answer_of ending.now) (Answers words shelf)
         → Ends words shelf (sink_use K.taken K.faults out.old out.new) result }
@@ -134,7 +117,7 @@ fn tell<K: Sink>(alloc: Global, out: &mut K, ending: &Ending) -> u8
     match ending {
         Ending::Memory => NO_MEMORY,
         _ => match ending.line(alloc) {
-            Ok(line) => status_of(output::write_line(out, line.as_bytes()), ending.status()),
+            Ok(line) => status_of(output::write_text(out, line.as_bytes()), ending.status()),
             Err(_) => NO_MEMORY,
         },
     }
@@ -150,13 +133,13 @@ fn perform<S: Shelf, K: Sink>(alloc: Global, words: &[String], shelf: &mut S, ou
     ensures sink_faults_never_fall { K.faults out.old ≤ K.faults out.new }
 {
     match outcome(alloc, words, shelf) {
-        Ok(after) => status_of(write_arrays(alloc, out, &after), DONE),
+        Ok(report) => status_of(report.write(alloc, out), DONE),
         Err(ending) => tell(alloc, out, &ending),
     }
 }
 
-/// Does what the words ask: runs a source from the shelf on its arrays and writes the outcome, or why there
-/// is none, into the sink. Answers the exit status.
+/// Does what the words ask: runs a source from the shelf on its arrays and writes the outcome into the sink, or
+/// writes the text of its graph, or why there is neither. Answers the exit status.
 ///
 /// The words are those after the program's name. Nothing is started or waited for yet, so the runtime and
 /// the gate are not used.
@@ -168,13 +151,22 @@ pub fn sdfg<R, S: Shelf, K: Sink, G: Gate>(
     out: &mut K,
     _gate: &G,
 ) -> u8
-    // The words name two files that are told, within their limits and in their forms; no count of theirs or
-    // of the sink rises. Then the sequential run of the source's graph, with its sizes and over its arrays,
-    // has an outcome; its text is appended and the status is its own, or memory is wanting.
-    ensures headline { (call : Call) (work : Work)
+    // The words ask for a run of two files that are told, within their limits and in their forms; no count of
+    // theirs or of the sink rises. Then the sequential run of the source's graph, with its sizes and over its
+    // arrays, has an outcome; its text is appended and the status is its own, or memory is wanting.
+    ensures headline { (call : Call) (turns : ℕ) (work : Work)
         → Asks (map string_bytes words.now) (shelf_use S.told S.faults S.overruns shelf.old shelf.new) call work
+        → call.command ≡ to_run turns
         → ¬ HasRisen (K.faults out.old) (K.faults out.new)
-        → Prints work call.turns (sink_use K.taken K.faults out.old out.new) result }
+        → Prints work turns (sink_use K.taken K.faults out.old out.new) result }
+
+    // The words ask for the text of the graph of such files. Then exactly that text is appended, with the sizes
+    // in their places, and the status is 0, or memory is wanting.
+    ensures listing { (call : Call) (work : Work)
+        → Asks (map string_bytes words.now) (shelf_use S.told S.faults S.overruns shelf.old shelf.new) call work
+        → call.command ≡ to_print
+        → ¬ HasRisen (K.faults out.old) (K.faults out.new)
+        → Lists work (sink_use K.taken K.faults out.old out.new) result }
 
     // Which answer comes where, and what is written of it; want of memory alone is free.
     ensures answers { Ends (map string_bytes words.now) (shelf_use S.told S.faults S.overruns shelf.old shelf.new)

@@ -1,6 +1,6 @@
 ghost use Rattle.std.specs.Prelude.{◌≡◌, ℕ, map, string_bytes};
 ghost use Rattle.sd_tool.specs.Finding.{Finds};
-ghost use Rattle.sd_tool.specs.Command.{IsRun, IsBudget, GiveTurns, call_of, is_file_word};
+ghost use Rattle.sd_tool.specs.Command.{IsBudget, GiveTurns, IsCommand, IsCall, command_of, call_of, is_file_word};
 
 /// The turns of a run where no word tells them.
 const TURNS: u64 = 10_000_000;
@@ -8,12 +8,21 @@ const TURNS: u64 = 10_000_000;
 /// The most turns of a run.
 const MOST_TURNS: u64 = 1 << 40;
 
-/// The files of a call, and how many turns its run may spend.
+/// What is asked of the two files of a call.
 #[derive(Clone, Copy)]
-pub(crate) struct Run<'a> {
+pub(crate) enum Command {
+    /// A run that may spend so many turns.
+    Run(u64),
+    /// The text of their graph.
+    Print,
+}
+
+/// The files of a call, and what is asked of them.
+#[derive(Clone, Copy)]
+pub(crate) struct Asked<'a> {
     pub(crate) source: &'a str,
     pub(crate) arrays: &'a str,
-    pub(crate) turns: u64,
+    pub(crate) command: Command,
 }
 
 /// Whether a word may name a file: it is not empty and does not begin with a dash.
@@ -53,21 +62,32 @@ fn turns(options: &[String]) -> Option<u64>
     }
 }
 
-/// The files and the turns that the words name, where they are `run`, a source, an arrays file and, where
-/// wanted, `--turns` with a number.
-pub(crate) fn read(words: &[String]) -> Option<Run<'_>>
-    ensures { Finds call_of (IsRun (map string_bytes words.now)) result }
+/// The command that the first word and those behind the files are.
+fn command_in(word: &str, options: &[String]) -> Option<Command>
+    ensures { Finds command_of (IsCommand word.now (map string_bytes options.now)) result }
 {
-    let [command, source, arrays, options @ ..] = words else {
+    match word {
+        "run" => Some(Command::Run(turns(options)?)),
+        "print" if options.is_empty() => Some(Command::Print),
+        _ => None,
+    }
+}
+
+/// The files that the words name and what they ask of them, where they are a command, a source, an arrays file
+/// and what the command wants besides.
+pub(crate) fn read(words: &[String]) -> Option<Asked<'_>>
+    ensures { Finds call_of (IsCall (map string_bytes words.now)) result }
+{
+    let [word, source, arrays, options @ ..] = words else {
         return None;
     };
-    if command.as_str() != "run" || !is_file(source.as_str()) || !is_file(arrays.as_str()) {
+    if !is_file(source.as_str()) || !is_file(arrays.as_str()) {
         return None;
     }
-    let turns = turns(options)?;
-    Some(Run {
+    let command = command_in(word.as_str(), options)?;
+    Some(Asked {
         source: source.as_str(),
         arrays: arrays.as_str(),
-        turns,
+        command,
     })
 }

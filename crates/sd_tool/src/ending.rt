@@ -19,7 +19,7 @@ pub(crate) struct ArraysRefusal {
     pub(crate) name: Option<Text>,
 }
 
-/// How a call ends without arrays to print.
+/// How a call ends that has nothing to report.
 #[derive(Drop)]
 pub(crate) enum Ending<'a> {
     /// There is no memory.

@@ -1,22 +1,42 @@
-ghost use Rattle.std.specs.Prelude.{◌≡◌, ◌≤◌, OnOk, OnErr, IsErrOf};
+ghost use Rattle.std.specs.Prelude.{◌≡◌, ◌≤◌, ◌==◌, OnOk, OnErr, IsErrOf};
+ghost use Rattle.std.specs.List.{position};
 ghost use Rattle.sd_io.specs.Count.{HasRisen};
 ghost use Rattle.sd_io.specs.Sink.{Appends, AppendsPrefix};
+ghost use Rattle.sd_tool.specs.Pieces as pieces;
 
 use sd_io::{Sink, SinkError};
 
 /// The most bytes that one write takes.
 const PIECE: usize = 4096;
 
-/// Writes a line, in pieces of at most 4,096 bytes.
-pub(crate) fn write_line<K: Sink>(out: &mut K, line: &[u8]) -> Result<(), SinkError>
-    ensures ok { OnOk result (Appends (K.taken out.old) (K.taken out.new) line.now) }
-    ensures err { OnErr result (AppendsPrefix (K.taken out.old) (K.taken out.new) line.now) }
+/// Where the first newline stands.
+fn newline(bytes: &[u8]) -> Option<usize>
+    ensures { result ≡ position (λ byte. byte == 10) bytes.now }
+{
+    bytes.iter().position(|byte| *byte == b'\n')
+}
+
+/// How many bytes the next write takes: a line with its newline, or so much of it as one write takes.
+fn piece_length(text: &[u8]) -> usize
+    ensures { result ≡ pieces.piece_length text.now }
+{
+    let most = &text[..text.len().min(PIECE)];
+    match newline(most) {
+        Some(place) => place + 1,
+        None => most.len(),
+    }
+}
+
+/// Writes a text, each line by a write of its own; a line longer than 4,096 bytes goes in pieces of 4,096.
+pub(crate) fn write_text<K: Sink>(out: &mut K, text: &[u8]) -> Result<(), SinkError>
+    ensures ok { OnOk result (Appends (K.taken out.old) (K.taken out.new) text.now) }
+    ensures err { OnErr result (AppendsPrefix (K.taken out.old) (K.taken out.new) text.now) }
     ensures failed { IsErrOf result SinkError.Failed → HasRisen (K.faults out.old) (K.faults out.new) }
     ensures faults_never_fall { K.faults out.old ≤ K.faults out.new }
 {
-    let mut rest = line;
+    let mut rest = text;
     while !rest.is_empty() {
-        let (piece, others) = rest.split_at(rest.len().min(PIECE));
+        let (piece, others) = rest.split_at(piece_length(rest));
         out.write(piece)?;
         rest = others;
     }

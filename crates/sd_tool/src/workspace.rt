@@ -1,8 +1,8 @@
 ghost use Rattle.std.specs.Prelude.{◌≡◌, ◌≤◌, ◌^◌, Ok, length, IfOk, IfErr, IfSome};
 ghost use Rattle.sd_graph.specs.TreeFold.{graph_tree};
 ghost use Rattle.sd_graph.specs.Upwards.{LeadsUpwards};
-ghost use Rattle.sd_tool.specs.Answers.{source_refused, arrays_refused, done};
-ghost use Rattle.sd_tool.specs.Ending.{answer_of, Refuses, TellsRun};
+ghost use Rattle.sd_tool.specs.Answers.{source_refused, arrays_refused, done, TellsRun};
+ghost use Rattle.sd_tool.specs.Ending.{answer_of, Refuses};
 ghost use Rattle.sd_tool.specs.Work as definition;
 ghost use Rattle.sd_tool.specs.Workspace.{work_of};
 

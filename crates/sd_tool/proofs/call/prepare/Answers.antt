@@ -2,7 +2,7 @@ use Rattle.std.proofs.lemmas.Result.{err_from_is_err_and, IfOk-weaker, IfErr-wea
 use Rattle.std.proofs.Common.{ℕ, List}
 use Rattle.sd_graph.specs.TreeFold.{graph_tree}
 use Rattle.sd_tool.specs.Answers.{shelf_use, ReadsSource}
-use Rattle.sd_tool.specs.Command.{IsRun, call_of}
+use Rattle.sd_tool.specs.Command.{IsCall, call_of}
 use Rattle.sd_tool.specs.Workspace.{work_of}
 use Rattle.sd_tool.proofs.AnswerRules.{IsPart, first_part, second_part, refuses_source, refuses_program, reads_source, refuses_arrays, refuses_work, comes_to}
 use Rattle.sd_tool.proofs.call.prepare.Given.{Over}
@@ -21,7 +21,7 @@ returns-in_err-graph-clause-refuses g c = λ words asked.
     (refuses_program words _ (call_of c.args.call) c.in_ok-text.text.items c.in_err-graph.field-0.0 asked c.in_ok-text.ensures.read c.in_err-graph.ensures.refused)
 
 -- the source was read in the first part of the call
-source_read : (g : Over) (c : After-content-2 g) → (words : List (List ℕ)) → IsRun words (call_of c.args.call) →
+source_read : (g : Over) (c : After-content-2 g) → (words : List (List ℕ)) → IsCall words (call_of c.args.call) →
     ReadsSource words (shelf_use g.S.Shelf.told g.S.Shelf.faults g.S.Shelf.overruns c.args.shelf.now c.content-2.new.shelf) (call_of c.args.call) (graph_tree c.in_ok-graph.graph)
 source_read g c words asked =
     reads_source words _ _ (call_of c.args.call) c.in_ok-text.text.items (graph_tree c.in_ok-graph.graph)

@@ -1,11 +1,11 @@
 use Rattle.std.proofs.Common.{◌≡◌, ℕ, ◌≤◌, List, ◌++◌, length}
 use Rattle.sd_io.specs.Sink.{Appends}
-use Rattle.sd_tool.proofs.output.write_line.Given as goal
+use Rattle.sd_tool.proofs.output.write_text.Given as goal
 
--- what is written so far, and what is left, make the line
+-- what is written so far, and what is left, make the text
 abbrev pub invariant-loop-rest : goal.invariant-loop-rest
 invariant-loop-rest g l = record {
-  written : (front : List ℕ) × (l.line ≡ front ++ l.rest) × Appends (g.K.Sink.taken l.fn.out) (g.K.Sink.taken l.out) front;
+  written : (front : List ℕ) × (l.text ≡ front ++ l.rest) × Appends (g.K.Sink.taken l.fn.out) (g.K.Sink.taken l.out) front;
   faults : g.K.Sink.faults l.fn.out ≤ g.K.Sink.faults l.out;
 }
 

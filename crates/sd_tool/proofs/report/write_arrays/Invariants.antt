@@ -3,7 +3,7 @@ use Rattle.std.specs.List.{flat_map, range_with_len}
 use Rattle.sd_io.specs.Sink.{Appends}
 use Rattle.sd_graph.specs.TreeFold.{graph_tree}
 use Rattle.sd_json.specs.AnswerText.{container_line}
-use Rattle.sd_tool.proofs.call.write_arrays.Given as goal
+use Rattle.sd_tool.proofs.report.write_arrays.Given as goal
 
 -- the lines so far are written
 abbrev pub invariant-loop-argument : goal.invariant-loop-argument

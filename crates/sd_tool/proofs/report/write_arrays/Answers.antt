@@ -9,10 +9,10 @@ use Rattle.sd_json.specs.AnswerText.{container_line}
 use Rattle.sd_tool.proofs.EndLemmas.{Appends-nothing}
 use Rattle.sd_tool.proofs.LineSplit.{more_lines, lines_cut}
 use Rattle.sd_tool.proofs.SinkLemmas.{Appends-trans, AppendsPrefix-later, AppendsPrefix-none}
-use Rattle.sd_tool.proofs.call.write_arrays.Goals as goal
+use Rattle.sd_tool.proofs.report.write_arrays.Goals as goal
 
-pub returns-in_err-write_line-in-Ok-clause-err : goal.returns-in_err-write_line-in-Ok-clause-err
-returns-in_err-write_line-in-Ok-clause-err g c =
+pub returns-in_err-write_text-in-Ok-clause-err : goal.returns-in_err-write_text-in-Ok-clause-err
+returns-in_err-write_text-in-Ok-clause-err g c =
     let p = err_from_is_err_and c.from_residual.result c.from_residual.ensures.1 in
     let line : ℕ → List ℕ = container_line (graph_tree c.args.after.now.bound.graph) c.args.after.now.memory in
     let front = flat_map line (range_with_len 0 c.loop-argument.argument) in
@@ -22,7 +22,7 @@ returns-in_err-write_line-in-Ok-clause-err g c =
     (AppendsPrefix-later _ _ _ _ front c.as_bytes.result.now parts.0
     (parts.1 ∙ ap (λ text. front ++ (text ++ parts.0)) (sym (c.as_bytes.ensures.value ∙ c.in-Ok.ensures)))
     c.loop-argument.invariant.written
-    c.in_err-write_line-in-Ok.ensures.err)
+    c.in_err-write_text-in-Ok.ensures.err)
 
 pub returns-in-Err-clause-err : goal.returns-in-Err-clause-err
 returns-in-Err-clause-err g c =
@@ -38,6 +38,6 @@ loop-argument-preserved g c =
     record {
       written =
           subst (Appends _ _) (more_lines line c.loop-argument.argument)
-          (Appends-trans _ _ _ _ _ c.loop-argument.invariant.written (subst (Appends _ _) (c.as_bytes.ensures.value ∙ c.in-Ok.ensures) c.in_ok-write_line-in-Ok.ensures.ok));
-      faults = omega (arith, c.loop-argument.invariant.faults, c.in_ok-write_line-in-Ok.ensures.faults_never_fall);
+          (Appends-trans _ _ _ _ _ c.loop-argument.invariant.written (subst (Appends _ _) (c.as_bytes.ensures.value ∙ c.in-Ok.ensures) c.in_ok-write_text-in-Ok.ensures.ok));
+      faults = omega (arith, c.loop-argument.invariant.faults, c.in_ok-write_text-in-Ok.ensures.faults_never_fall);
     }

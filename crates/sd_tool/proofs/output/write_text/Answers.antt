@@ -1,7 +1,17 @@
-use Rattle.std.proofs.Common.{◌++◌, ap, ◌∙◌, sym, append_assoc, arith}
+use Rattle.std.proofs.Common.{◌++◌, ap, ◌∙◌, sym, append_assoc, arith, ◌≤◌, ◌<◌, length, subst, rules}
 use Rattle.std.proofs.lemmas.Result.{err_from_is_err_and}
 use Rattle.sd_tool.proofs.SinkLemmas.{Appends-trans, AppendsPrefix-later, AppendsPrefix-error}
-use Rattle.sd_tool.proofs.output.write_line.Goals as goal
+use Rattle.sd_tool.proofs.Pieces.{piece_within, piece_some}
+use Rattle.sd_tool.proofs.output.write_text.Goals as goal
+
+pub split_at-requires : goal.split_at-requires
+split_at-requires g c = subst (λ count. count ≤ length c.loop-rest.rest.now) (sym c.piece_length.ensures) (piece_within c.loop-rest.rest.now)
+
+pub loop-rest-smaller : goal.loop-rest-smaller
+loop-rest-smaller g c =
+    let some : 0 < length c.loop-rest.rest.now = search rules in
+    let ready = piece_some c.loop-rest.rest.now some in
+    omega (arith, c.piece_length.ensures, c.split_at.ensures.front_len, c.split_at.ensures.back_len)
 
 pub returns-in_err-write-clause-err : goal.returns-in_err-write-clause-err
 returns-in_err-write-clause-err g c =

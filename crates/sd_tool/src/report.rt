@@ -1,0 +1,95 @@
+ghost use Rattle.std.specs.Prelude.{◌≡◌, ◌≤◌, IfOk, IfErr, IfSome, OnOk, OnErr, IsErrOf};
+ghost use Rattle.sd_io.specs.Count.{HasRisen};
+ghost use Rattle.sd_io.specs.Sink.{Appends, AppendsPrefix};
+ghost use Rattle.sd_graph.specs.TreeFold.{graph_tree};
+ghost use Rattle.sd_graph.specs.Upwards.{LeadsUpwards};
+ghost use Rattle.sd_graph_text.specs.GraphText as listing;
+ghost use Rattle.sd_tool.specs.AnswerText.{done_text};
+ghost use Rattle.sd_tool.specs.Answers.{Tells, text_of};
+ghost use Rattle.sd_tool.specs.Command.{command_of};
+ghost use Rattle.sd_tool.specs.Ending.{answer_of};
+ghost use Rattle.sd_tool.specs.Report.{reported};
+ghost use Rattle.sd_tool.specs.Workspace.{work_of};
+
+use crate::command::Command;
+use crate::ending::Ending;
+use crate::output;
+use crate::workspace::{Workspace, run};
+use sd_graph::Bound;
+use sd_graph_text::graph_text;
+use sd_io::{Sink, SinkError};
+use sd_json::array_line;
+use std::alloc::Global;
+
+/// What a command gives that nothing refuses.
+#[derive(Drop)]
+pub(crate) enum Report {
+    /// The graph and the memory after a run that is done.
+    Arrays(Workspace),
+    /// A graph, whose text is wanted.
+    Graph(Bound),
+}
+
+/// Writes the line of each argument, one after another; only one line is made at a time.
+fn write_arrays<K: Sink>(alloc: Global, out: &mut K, after: &Workspace) -> Result<(), SinkError>
+    ensures ok { OnOk result (Appends (K.taken out.old) (K.taken out.new) (done_text (graph_tree after.now.bound.graph) after.now.memory.contents)) }
+    ensures err { OnErr result (AppendsPrefix (K.taken out.old) (K.taken out.new) (done_text (graph_tree after.now.bound.graph) after.now.memory.contents)) }
+    ensures failed { IsErrOf result SinkError.Failed → HasRisen (K.faults out.old) (K.faults out.new) }
+    ensures faults_never_fall { K.faults out.old ≤ K.faults out.new }
+{
+    for argument in 0..after.bound.graph.arguments {
+        match array_line(alloc, &after.bound, &after.memory, argument) {
+            Ok(line) => output::write_text(out, line.as_bytes())?,
+            Err(_) => return Err(SinkError::Memory),
+        }
+    }
+    Ok(())
+}
+
+/// Writes the text of a graph.
+fn write_graph<K: Sink>(alloc: Global, out: &mut K, bound: &Bound) -> Result<(), SinkError>
+    ensures ok { OnOk result (Appends (K.taken out.old) (K.taken out.new) (listing.graph_text (graph_tree bound.now.graph))) }
+    ensures err { OnErr result (AppendsPrefix (K.taken out.old) (K.taken out.new) (listing.graph_text (graph_tree bound.now.graph))) }
+    ensures failed { IsErrOf result SinkError.Failed → HasRisen (K.faults out.old) (K.faults out.new) }
+    ensures faults_never_fall { K.faults out.old ≤ K.faults out.new }
+{
+    match graph_text(alloc, bound) {
+        Ok(text) => output::write_text(out, text.as_bytes()),
+        Err(_) => Err(SinkError::Memory),
+    }
+}
+
+impl Report {
+    /// What a command gives of a graph and its memory, or why it gives nothing. The memory of a graph whose text
+    /// is wanted is let go.
+    pub(crate) fn of<'a>(
+        alloc: Global,
+        command: Command,
+        opened: Workspace,
+    ) -> Result<Report, Ending<'a>>
+        requires { LeadsUpwards (graph_tree opened.bound.graph) }
+        ensures tells { IfOk result (λ report. Tells (work_of opened) (command_of command) (reported report)) }
+        ensures refuses { IfErr result (λ ending. IfSome (answer_of ending) (Tells (work_of opened) (command_of command))) }
+    {
+        match command {
+            Command::Run(turns) => Ok(Report::Arrays(run(alloc, opened, turns)?)),
+            Command::Print => {
+                let Workspace { bound, .. } = opened;
+                Ok(Report::Graph(bound))
+            }
+        }
+    }
+
+    /// Writes the text of the report.
+    pub(crate) fn write<K: Sink>(&self, alloc: Global, out: &mut K) -> Result<(), SinkError>
+        ensures ok { OnOk result (Appends (K.taken out.old) (K.taken out.new) (text_of (reported self.now))) }
+        ensures err { OnErr result (AppendsPrefix (K.taken out.old) (K.taken out.new) (text_of (reported self.now))) }
+        ensures failed { IsErrOf result SinkError.Failed → HasRisen (K.faults out.old) (K.faults out.new) }
+        ensures faults_never_fall { K.faults out.old ≤ K.faults out.new }
+    {
+        match self {
+            Report::Arrays(after) => write_arrays(alloc, out, after),
+            Report::Graph(bound) => write_graph(alloc, out, bound),
+        }
+    }
+}
