@@ -1,10 +1,11 @@
 -- Loops that are there, and graphs without one.
-use Rattle.std.proofs.Common.{◌≡◌, ℕ, zero, suc, ◌<◌, List, [], ◌∷◌, Bool, true, false, ◌&&◌, ◌||◌, nat_eq, refl, ap, subst, ◌∙◌, arith}
+use Rattle.std.proofs.Common.{◌≡◌, ℕ, zero, suc, ◌<◌, List, [], ◌∷◌, length, Bool, true, false, ◌&&◌, ◌||◌, nat_eq, refl, ap, subst, ◌∙◌, arith}
 use Rattle.std.specs.List.{list_any, filter, flat_map}
 use Rattle.std.proofs.lemmas.List.Folds.{list_any-append}
 use Rattle.sd_graph.specs.PlainTree.{StateTrees, no_state, and_state, ExitTree}
 use Rattle.sd_graph.specs.TreeParts.{exits_at, count_states}
 use Rattle.sd_graph.specs.LoopScope.{numbers_below, closes_loop, is_on_loop, is_in_force, loops_in_force}
+use Rattle.sd_loops.specs.About.{does_loop_from, is_in_loop, loops_about}
 use Rattle.sd_loops.specs.Marks.{is_any_marked, is_begin, returns_to}
 
 or_true : (b : Bool) → (b || (true || false)) ≡ true
@@ -91,3 +92,16 @@ no_begin begin (and_state items exits states) is =
 
 pub no_loops : (states : StateTrees) (variables state : ℕ) → is_any_marked states ≡ false → loops_in_force states variables state ≡ []
 no_loops states variables state is = none_made _ (λ begin. no_variables states variables state begin (no_begin begin states is)) (numbers_below (count_states states))
+
+-- ---- loops about a state
+
+no_return_at : (begin : ℕ) (states : StateTrees) (number : ℕ) → is_begin begin states ≡ false → list_any (returns_to begin) (exits_at states number) ≡ false
+no_return_at begin no_state number is = refl
+no_return_at begin (and_state items exits states) zero is = (both_false (list_any (returns_to begin) exits) (is_begin begin states) is).0
+no_return_at begin (and_state items exits states) (suc number) is = no_return_at begin states number (both_false (list_any (returns_to begin) exits) (is_begin begin states) is).1
+
+pub none_about : (states : StateTrees) (state : ℕ) → is_any_marked states ≡ false → loops_about states state ≡ 0
+none_about states state is = ap (λ (kept : List ℕ). length kept) (none_kept (is_in_loop states state) (λ begin. none_passes _ (no_end begin) (numbers_below (count_states states))) (numbers_below (count_states states)))
+  where
+    no_end : (begin end : ℕ) → does_loop_from states state begin end ≡ false
+    no_end begin end = ap (λ (b : Bool). b && is_on_loop states begin end state) (no_return_at begin states end (no_begin begin states is))

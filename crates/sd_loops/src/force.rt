@@ -74,7 +74,7 @@ fn is_in_force(
 }
 
 /// Whether a state stands on a path from one to another that comes to the first at its begin only.
-fn is_on_loop(
+pub(crate) fn is_on_loop(
     alloc: Global,
     states: &[State],
     begin: usize,

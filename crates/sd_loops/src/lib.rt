@@ -1,4 +1,5 @@
-//! Which loop variables are in force in a state of a graph, as places of faults show them.
+//! Which loop variables are in force in a state of a graph, as places of faults show them, and how many
+//! loops there are about it.
 //!
 //! A state stands in a loop where it is reached from the loop's begin and leads to a marked
 //! transition back to it, both without coming to the begin again. Which states lead to one is
@@ -7,8 +8,11 @@
 //! transition. Graphs without a marked transition are answered at once.
 #![tactic(auto)]
 
+mod about;
 mod force;
 mod mark;
 mod path;
 
+pub use about::loops_about;
 pub use force::loops_in_force;
+pub use path::leads_to;

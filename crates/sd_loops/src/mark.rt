@@ -33,7 +33,7 @@ pub(crate) fn is_any_marked(states: &[State]) -> bool
 }
 
 /// Whether one of the transitions is marked and leads to this state.
-fn has_return(exits: &[Exit], begin: usize) -> bool
+pub(crate) fn has_return(exits: &[Exit], begin: usize) -> bool
     ensures { result ≡ list_any (returns_to begin) (map exit_tree exits.now) }
 {
     for exit in exits {

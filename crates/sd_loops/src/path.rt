@@ -60,7 +60,7 @@ fn are_same(a: &[bool], b: &[bool]) -> bool
 }
 
 /// Whether a path leads from one state to another, without coming to the state that is avoided.
-pub(crate) fn leads_to(
+pub fn leads_to(
     alloc: Global,
     states: &[State],
     avoided: usize,
