@@ -29,12 +29,7 @@ pub fn loops_about(alloc: Global, states: &[State], state: u32) -> Result<u64, N
 }
 
 /// Whether a state is in a loop that begins at another.
-fn is_in_loop(
-    alloc: Global,
-    states: &[State],
-    state: usize,
-    begin: usize,
-) -> Result<bool, NoMemory>
+fn is_in_loop(alloc: Global, states: &[State], state: usize, begin: usize) -> Result<bool, NoMemory>
     ensures { IfOk result (λ is. is ≡ definition.is_in_loop (state_trees states.now) state begin) }
 {
     for (end, last) in states.iter().enumerate() {
