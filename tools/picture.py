@@ -1,7 +1,7 @@
 #!/usr/bin/env python3
-"""Draws a printed graph, as an SVG or PNG picture by Graphviz or as the text that Graphviz draws.
+"""Draws a printed graph, as an SVG or PNG picture by Graphviz, or as the text that Graphviz or Mermaid draws.
 
-  picture.py [--svg | --png | --dot] [-o FILE] [TEXT]
+  picture.py [--svg | --png | --dot | --mermaid] [-o FILE] [TEXT]
 
 TEXT is a file with the text of a graph; without it the text is read from standard input. The picture goes to FILE, or
 to standard output. Its form is the one that is asked for, else that of FILE's ending, else SVG:
@@ -9,7 +9,7 @@ to standard output. Its form is the one that is asked for, else that of FILE's e
   tools/picture.py -o inc.svg tools/graphs/inc.txt
 
 The status is 0 where the picture was made; 1 where a file cannot be read or written, or Graphviz failed; 2 for other
-words; 3 where the text is no graph; 4 where Graphviz is not there. `--dot` does not need it.
+words; 3 where the text is no graph; 4 where Graphviz is not there. `--dot` and `--mermaid` do not need it.
 """
 from __future__ import annotations
 
@@ -24,7 +24,9 @@ sys.path.insert(0, str(TOP / "python"))
 from luthkemb.graph_text import NotAGraph  # noqa: E402
 from luthkemb.picture import FORMATS, DrawingFailed, NoGraphviz, Picture  # noqa: E402
 
-DOT = "dot"
+DOT, MERMAID = "dot", "mermaid"
+TEXTS = {DOT: Picture.dot, MERMAID: Picture.mermaid}
+FORMS = (*FORMATS, *TEXTS)
 FAILED, NO_GRAPH, NO_GRAPHVIZ = 1, 3, 4
 
 
@@ -35,7 +37,7 @@ def words_of(arguments: list[str]) -> argparse.Namespace:
         description=usage, epilog=rest, formatter_class=argparse.RawDescriptionHelpFormatter
     )
     forms = parser.add_mutually_exclusive_group()
-    for form in (*FORMATS, DOT):
+    for form in FORMS:
         forms.add_argument(f"--{form}", dest="form", action="store_const", const=form)
     parser.add_argument("-o", dest="output", metavar="FILE", type=Path)
     parser.add_argument("text", metavar="TEXT", nargs="?", type=Path)
@@ -47,12 +49,12 @@ def words_of(arguments: list[str]) -> argparse.Namespace:
 def form_of(output: Optional[Path]) -> str:
     """Gives the form of a file by its ending."""
     ending = output.suffix[1:].lower() if output else ""
-    return ending if ending in (*FORMATS, DOT) else FORMATS[0]
+    return ending if ending in FORMS else FORMATS[0]
 
 
 def drawn(text: bytes, form: str) -> bytes:
     picture = Picture(text.decode(errors="replace"))
-    return picture.dot().encode() if form == DOT else picture.drawn(form)
+    return TEXTS[form](picture).encode() if form in TEXTS else picture.drawn(form)
 
 
 def draw(words: argparse.Namespace) -> None:
@@ -73,7 +75,7 @@ def main(arguments: list[str]) -> int:
     except NotAGraph as wrong:
         said, status = str(wrong), NO_GRAPH
     except NoGraphviz as wrong:
-        said, status = f"{wrong} Without it, --{DOT} gives the text that it would draw.", NO_GRAPHVIZ
+        said, status = f"{wrong} Without it, --{DOT} gives the text that it would draw, and --{MERMAID} that of Mermaid.", NO_GRAPHVIZ
     except (OSError, DrawingFailed) as wrong:
         said, status = str(wrong), FAILED
     print(f"picture.py: {said}", file=sys.stderr)

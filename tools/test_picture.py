@@ -13,8 +13,9 @@ import xml.etree.ElementTree
 from pathlib import Path
 
 TOOLS = Path(__file__).resolve().parent
+TOP = TOOLS.parent
 GRAPHS = sorted((TOOLS / "graphs").glob("*.txt"))
-sys.path.insert(0, str(TOOLS.parent / "python"))
+sys.path.insert(0, str(TOP / "python"))
 
 from luthkemb.graph_text import NotAGraph, graphs_in, read_graph  # noqa: E402
 from luthkemb.picture import Picture  # noqa: E402
@@ -164,6 +165,83 @@ class TheTextThatIsDrawn(unittest.TestCase):
                 self.assertLessEqual(set(re.findall(r"l(?:head|tail)=(\w+)", text)), set(clusters))
 
 
+class TheTextOfMermaid(unittest.TestCase):
+    def lines(self, name: str) -> list[str]:
+        return [it.strip() for it in Picture(text_of(name)).mermaid().splitlines()]
+
+    def test_a_map_over_two_arrays(self) -> None:
+        self.assertEqual(Picture(INC).mermaid(), (TOOLS / "graphs/inc.mermaid").read_text())
+
+    def test_kinds_of_nodes_look_different(self) -> None:
+        for name, drawn in (
+            ("loops_and_call", '(["A20"]):::argument'),
+            ("loops_and_call", '(["T3"])'),
+            ("streams", '(["S15"]):::dashed'),
+            ("loops_and_call", '{{"tasklet<br>line 12"}}'),
+            ("loops_and_call", '[/"map<br>j4=1:2, j5=0:0"\\]'),
+            ("loops_and_call", '[\\"exit map"/]'),
+            ("loops_and_call", '[/"consume<br>S6 as e7"\\]:::dashed'),
+            ("loops_and_call", '[\\"exit consume"/]:::dashed'),
+            ("loops_and_call", '("copy")'),
+            ("reduction", '{"reduce<br>sum<br>axis 0"}'),
+        ):
+            with self.subTest(drawn):
+                label = re.search(r'".*"', drawn)
+                found = {re.sub(r"^\w+", "", it) for it in self.lines(name) if label and label[0] in it and "subgraph" not in it}
+                self.assertEqual({it for it in found if "--" not in it}, {drawn})
+
+    def test_order_edges_are_dashed(self) -> None:
+        lines = self.lines("reduction")
+        self.assertIn("g_s0_1 -.-> g_s0_3", lines)
+        self.assertIn('g_s0_3 -->|"A3(1, min)[0]<br>o7"| g_s0_4', lines)
+
+    def test_transitions_tell_what_they_ask_and_set(self) -> None:
+        lines = self.lines("loops_and_call")
+        self.assertIn('g_s3 ==>|"back<br>set k22=k22+1"| g_s1', lines)
+        self.assertTrue(any(it.endswith('==>|"if line 25"| g_s2') for it in lines))
+        self.assertIn("g_s0 ==> g_s1", self.lines("inc"))
+
+    def test_a_nested_graph_is_a_box_that_edges_lead_to(self) -> None:
+        lines = self.lines("loops_and_call")
+        self.assertIn('g_s11_0 -->|"A20[2, 1:4]<br>A2"| g_11_1', lines)
+        self.assertTrue(any(it.startswith("subgraph g_11_1 [") for it in lines))
+
+    def test_names_are_drawn_once_and_used_after(self) -> None:
+        for file in GRAPHS:
+            with self.subTest(file.name):
+                lines = [it.strip() for it in Picture(file.read_text()).mermaid().splitlines()]
+                boxes = [it.split()[1] for it in lines if it.startswith("subgraph ")]
+                made = [*boxes, *re.findall(r"^(g_\w+)[(\[{]", "\n".join(lines), re.MULTILINE)]
+                self.assertEqual(len(made), len(set(made)))
+                ends = re.findall(r"^(g_\w+) (?:==>|-->|-\.->)(?:\|.*\|)? (g_\w+)$", "\n".join(lines), re.MULTILINE)
+                self.assertEqual(len(ends), sum(re.search(r"(==|--|-\.-)>", it) is not None for it in lines))
+                self.assertLessEqual({it for pair in ends for it in pair}, set(made))
+                self.assertEqual(lines.count("end"), len(boxes))
+
+    def test_what_markdown_would_take_for_more_is_written_by_numbers(self) -> None:
+        graph = INC.replace("edge 1 2 A[i] _in0", "edge 1 2 A[2*i] _in0").replace("edge 2 3 B[i] _out", "edge 2 3 B[i] _out_")
+        text = Picture(graph).mermaid()
+        self.assertIn('|"A[2#42;i]<br>_in0"|', text)
+        self.assertIn('|"B[i]<br>_out#95;"|', text)
+
+
+class ThePicturesOfTheDocuments(unittest.TestCase):
+    PICTURE = re.compile(r"^    \./sdfg ([^|\n]*) \| tools/picture\.py --mermaid\n\n```mermaid\n(.*?)```$", re.MULTILINE | re.DOTALL)
+
+    def test_they_are_made_by_the_commands_above_them(self) -> None:
+        text = (TOP / "docs/GRAPH.md").read_text()
+        pictures = self.PICTURE.findall(text)
+        self.assertEqual((len(pictures), text.count("```mermaid")), (3, 3))
+        for words, drawn in pictures:
+            with self.subTest(words):
+                command, source, arrays = words.split()
+                folder = TOP / Path(source).parent
+                case = (folder / "graph.words").read_text().split()
+                self.assertEqual([command, source, arrays], [case[0], *(str((folder / it).relative_to(TOP)) for it in case[1:])])
+                ran = run("--mermaid", str(folder / "graph.expected"))
+                self.assertEqual((ran.returncode, ran.stdout.decode(), ran.stderr), (0, drawn, b""))
+
+
 class TheCommand(unittest.TestCase):
     def setUp(self) -> None:
         folder = tempfile.TemporaryDirectory()
@@ -177,6 +255,9 @@ class TheCommand(unittest.TestCase):
         output = self.folder / "graph.dot"
         self.assertEqual(run("-o", str(output), str(TOOLS / "graphs/inc.txt"), path="").returncode, 0)
         self.assertEqual(output.read_bytes(), wanted)
+        ran = run("--mermaid", text=INC, path=str(self.folder))
+        wanted = (TOOLS / "graphs/inc.mermaid").read_bytes()
+        self.assertEqual((ran.returncode, ran.stdout, ran.stderr), (0, wanted, b""))
 
     def test_without_graphviz_the_status_is_4(self) -> None:
         output = self.folder / "graph.svg"
@@ -199,6 +280,7 @@ class TheCommand(unittest.TestCase):
             (1, ["--dot", "-o", str(self.folder / "none/graph.dot")], INC),
             (2, ["--pdf"], INC),
             (2, ["--svg", "--dot"], INC),
+            (2, ["--dot", "--mermaid"], INC),
             (3, ["--dot"], "arrays error 14\n"),
         ):
             with self.subTest(words):

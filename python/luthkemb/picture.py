@@ -1,4 +1,4 @@
-"""Pictures of graphs, drawn by Graphviz from the text that the program prints.
+"""Pictures of graphs, made from the text that the program prints: drawn by Graphviz, or as text of Mermaid.
 
 States are boxes with their transitions between them, scopes dotted boxes in them, nested graphs boxes with states of
 their own. Access nodes are ellipses, those of arguments bold, of streams dashed; tasklets are octagons, the entries
@@ -12,6 +12,8 @@ import subprocess
 from typing import Iterator, Optional
 
 from .graph_text import Edge, Graph, Node, State, Transition, read_graph
+from .labels import exits_of, id_of, label_of_edge, label_of_node, lines_of_containers
+from .mermaid import mermaid
 
 GRAPHVIZ = "dot"
 FORMATS = ("svg", "png")
@@ -61,8 +63,12 @@ class Picture:
 
     def dot(self) -> str:
         """Gives the text that Graphviz draws."""
-        body = [*HEAD, *_whole_graph(self.graph, _id_of(self.graph))]
+        body = [*HEAD, *_whole_graph(self.graph, id_of(self.graph))]
         return "digraph {\n" + "".join(f"  {line}\n" for line in body) + "}\n"
+
+    def mermaid(self) -> str:
+        """Gives the text that Mermaid draws."""
+        return mermaid(self.graph)
 
     def drawn(self, form: str) -> bytes:
         """Gives the picture in a form of `FORMATS`, or raises `NoGraphviz` or `DrawingFailed`."""
@@ -88,16 +94,6 @@ class Picture:
         return self.text
 
 
-def _id_of(graph: Graph, state: Optional[int] = None, part: object = None) -> str:
-    """Gives the name in the drawing of a graph, of a state of it or of a part of that."""
-    named = ["g", *graph.path]
-    if state is not None:
-        named.append(f"s{state}")
-    if part is not None:
-        named.append(part)
-    return "_".join(str(it) for it in named)
-
-
 def _quoted(text: str) -> str:
     return '"' + text.replace("\\", "\\\\").replace('"', '\\"').replace("\n", "\\n") + '"'
 
@@ -120,8 +116,7 @@ def _anchor(name: str) -> str:
 
 
 def _whole_graph(graph: Graph, name: str) -> Lines:
-    containers = [f"{it.kind} {it.name}{it.extents}" for it in graph.containers.values()]
-    label = _lines_of_label(graph.name, *containers)
+    label = _lines_of_label(graph.name, *lines_of_containers(graph))
     settings = ["labeljust=l", "style=filled", "fillcolor=white", "color=black", f"label={label}"]
     yield from _cluster(name, settings, _body_of_graph(graph, name))
 
@@ -130,7 +125,7 @@ def _body_of_graph(graph: Graph, name: str) -> Lines:
     yield from (_anchor(f"{name}_in"), _anchor(f"{name}_out"))
     for number, state in enumerate(graph.states):
         yield from _state(graph, number, state)
-    yield f"{name}_in -> {_id_of(graph, 0, 'in')} [{BLANK}]"
+    yield f"{name}_in -> {id_of(graph, 0, 'in')} [{BLANK}]"
     for number, state in enumerate(graph.states):
         for transition in state.transitions:
             yield _transition(graph, number, transition)
@@ -139,30 +134,30 @@ def _body_of_graph(graph: Graph, name: str) -> Lines:
 
 
 def _transition(graph: Graph, source: int, transition: Transition) -> str:
-    there = [f"ltail=cluster_{_id_of(graph, source)}", f"lhead=cluster_{_id_of(graph, transition.to)}"]
+    there = [f"ltail=cluster_{id_of(graph, source)}", f"lhead=cluster_{id_of(graph, transition.to)}"]
     settings = ["color=blue", "fontcolor=blue", *(there if source != transition.to else [])]
     if transition.back:
         settings += ["constraint=false", "penwidth=2"]
     if transition.text:
         settings.append(f"label={_quoted(transition.text)}")
-    return f"{_out_of_state(graph, source)} -> {_id_of(graph, transition.to, 'in')} [{' '.join(settings)}]"
+    return f"{_out_of_state(graph, source)} -> {id_of(graph, transition.to, 'in')} [{' '.join(settings)}]"
 
 
 def _out_of_state(graph: Graph, number: int) -> str:
     """Gives where transitions leave a state: below its nodes, if it has any."""
-    return _id_of(graph, number, "out" if graph.states[number].nodes else "in")
+    return id_of(graph, number, "out" if graph.states[number].nodes else "in")
 
 
 def _state(graph: Graph, number: int, state: State) -> Lines:
     colors = [f'fillcolor="{STATE_COLOR}"', f'color="{STATE_COLOR}"']
     settings = ["labeljust=l", "style=filled", *colors, f'label="state {number}"']
-    yield from _cluster(_id_of(graph, number), settings, _body_of_state(graph, number, state))
+    yield from _cluster(id_of(graph, number), settings, _body_of_state(graph, number, state))
 
 
 def _body_of_state(graph: Graph, number: int, state: State) -> Lines:
-    yield _anchor(_id_of(graph, number, "in"))
+    yield _anchor(id_of(graph, number, "in"))
     if state.nodes:
-        yield _anchor(_id_of(graph, number, "out"))
+        yield _anchor(id_of(graph, number, "out"))
     yield from _list_of_nodes(graph, number, state, None)
     yield from _order_of_nodes(graph, number, state)
     for edge in state.edges:
@@ -172,34 +167,29 @@ def _body_of_state(graph: Graph, number: int, state: State) -> Lines:
 def _order_of_nodes(graph: Graph, number: int, state: State) -> Lines:
     """Puts nodes that nothing leads to below the begin of their list, and such that nothing leaves above its end."""
     begun, ended = {it.target for it in state.edges}, {it.source for it in state.edges}
-    exits = _exits(state)
+    exits = exits_of(state)
     for node in state.nodes:
         name = _end_of(graph, number, node, "in")
         scope = node.scope if node.what != "exit" else int(node.rest)
         if node.number not in begun:
-            yield f"{_id_of(graph, number, 'in' if scope is None else scope)} -> {name} [{BLANK}]"
+            yield f"{id_of(graph, number, 'in' if scope is None else scope)} -> {name} [{BLANK}]"
         if node.number not in ended and node.number not in exits:
             last = "out" if node.scope is None else exits[node.scope].number
-            yield f"{_end_of(graph, number, node, 'out')} -> {_id_of(graph, number, last)} [{BLANK}]"
-
-
-def _exits(state: State) -> dict[int, Node]:
-    """Gives the exit of each scope by the number of its entry."""
-    return {int(it.rest): it for it in state.nodes if it.what == "exit"}
+            yield f"{_end_of(graph, number, node, 'out')} -> {id_of(graph, number, last)} [{BLANK}]"
 
 
 def _list_of_nodes(graph: Graph, number: int, state: State, scope: Optional[int]) -> Lines:
     """Gives the nodes of a state, or those of a scope in it; an exit stands with its entry."""
-    exits = _exits(state)
+    exits = exits_of(state)
     for node in state.nodes:
         if node.scope != scope or node.what == "exit":
             continue
         if node.graph is not None:
-            yield from _whole_graph(node.graph, _id_of(node.graph))
+            yield from _whole_graph(node.graph, id_of(node.graph))
         elif node.is_entry():
             settings = ["style=dotted", "color=black", 'label=""']
             body = _scope(graph, number, state, node, exits[node.number])
-            yield from _cluster(_id_of(graph, number, node.number), settings, body)
+            yield from _cluster(id_of(graph, number, node.number), settings, body)
         else:
             yield _node(graph, number, node, node)
 
@@ -220,36 +210,20 @@ def _node(graph: Graph, number: int, node: Node, entry: Node) -> str:
         styles.append("dashed")
     if node.what == "copy":
         styles.append("rounded")
-    settings = [f"shape={SHAPES[node.what]}", f'style="{",".join(styles)}"', f"label={_quoted(_label(node, entry))}"]
-    return f"{_id_of(graph, number, node.number)} [{' '.join(settings)} tooltip=\"node {node.number}\"]"
-
-
-def _label(node: Node, entry: Node) -> str:
-    if node.what == "access":
-        return node.rest
-    if node.what == "exit":
-        return f"exit {entry.what}"
-    rest = node.rest
-    if node.what == "reduce":
-        rest = rest.replace(" axis", "\naxis").replace(" identity", "\nidentity")
-    return f"{node.what}\n{rest}".strip()
+    settings = [f"shape={SHAPES[node.what]}", f'style="{",".join(styles)}"', f"label={_quoted(label_of_node(node, entry))}"]
+    return f"{id_of(graph, number, node.number)} [{' '.join(settings)} tooltip=\"node {node.number}\"]"
 
 
 def _end_of(graph: Graph, number: int, node: Node, end: str) -> str:
     """Gives where edges come to a node, or leave it; for a nested graph that is a place of its own in it."""
-    return _id_of(graph, number, node.number) if node.graph is None else f"{_id_of(node.graph)}_{end}"
+    return id_of(graph, number, node.number) if node.graph is None else f"{id_of(node.graph)}_{end}"
 
 
 def _edge(graph: Graph, number: int, state: State, edge: Edge) -> str:
     source, target = state.nodes[edge.source], state.nodes[edge.target]
-    settings = [f"ltail=cluster_{_id_of(source.graph)}"] if source.graph else []
-    settings += [f"lhead=cluster_{_id_of(target.graph)}"] if target.graph else []
-    settings.append(f"label={_quoted(_label_of_edge(edge))}" if edge.text else "style=dashed")
+    settings = [f"ltail=cluster_{id_of(source.graph)}"] if source.graph else []
+    settings += [f"lhead=cluster_{id_of(target.graph)}"] if target.graph else []
+    settings.append(f"label={_quoted(label_of_edge(edge))}" if edge.text else "style=dashed")
     ends = f"{_end_of(graph, number, source, 'out')} -> {_end_of(graph, number, target, 'in')}"
     return f"{ends} [{' '.join(settings)}]"
 
-
-def _label_of_edge(edge: Edge) -> str:
-    """Gives what an edge moves, and below it its connector."""
-    moved, _, connector = edge.text.rpartition(" ")
-    return f"{moved}\n{connector}" if moved else connector
