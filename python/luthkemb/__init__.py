@@ -1,11 +1,12 @@
 """Programs of `sdfg`, called on the arrays of a Python program.
 
 `run(program, turns=None, **sizes_and_arrays)` gives the arrays after the run: NumPy arrays where such were given, else
-lists. The program is a path, a text, or a function under `@dace.program` of the stand-in `luthkemb.dace`. Sizes that
+lists. `graph(program, **sizes_and_arrays)` gives the graph that is run, which a notebook draws. The program is a path, a text, or a function under `@dace.program` of the stand-in `luthkemb.dace`. Sizes that
 follow from the shapes of arrays need not be given. What the program refuses is raised, by a class for each status.
 """
 from . import dace
 from .commands import CALLS
+from .picture import Picture
 from .refusals import (
     ArraysRefused,
     BadWords,
@@ -35,6 +36,7 @@ __all__ = [
     "LuthkembError",
     "NotBuilt",
     "OutOfMemory",
+    "Picture",
     "ProgramFailed",
     "ProgramNotFound",
     "ReadFault",

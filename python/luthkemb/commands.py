@@ -9,6 +9,7 @@ from pathlib import Path
 from typing import Any, Callable, Mapping
 
 from .arrays import is_size, read_arrays, shape_of, write_entries
+from .picture import Picture
 from .programs import ended
 from .refusals import ProgramFailed, refusal
 from .sizes import inferred
@@ -81,6 +82,11 @@ def with_sizes(source: Source, entries: Entries) -> dict[str, Any]:
     return {**inferred(source.text(), shapes, sizes), **entries}
 
 
+def read_picture(output: bytes, _: Entries) -> Picture:
+    """Gives the picture of a graph that was printed, or raises `ValueError`."""
+    return Picture(output.decode())
+
+
 def number(value: Any, _: Path) -> str:
     """Writes the number of an option."""
     return str(operator.index(value))
@@ -92,6 +98,11 @@ COMMANDS: dict[str, Command] = {
         read_arrays,
         "Runs a program on arrays and gives them after the run, by name.",
         {"turns": Option("--turns", number)},
+    ),
+    "graph": Command(
+        "print",
+        read_picture,
+        "Gives the graph of a program, with the sizes of these arrays; it prints as its text, and a notebook draws it.",
     ),
 }
 CALLS = {name: call_of(name, command) for name, command in COMMANDS.items()}

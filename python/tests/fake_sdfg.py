@@ -4,6 +4,7 @@
   # fake STATUS TEXT    the answer; in TEXT, {NAME} stands for the number of the line with the comment '# <NAME>'
   # fake: STATEMENTS    Python statements over the sizes and arrays, which are printed after them
   # fake turns B        the run wants so many turns
+  # fake graph TEXT     the text of the graph, with / between its lines
 
 The true program passes comments over, and comes to the same answer by the rest of the source.
 """
@@ -22,6 +23,7 @@ MOST_TURNS = 10_000_000
 ANSWER = re.compile(r"# fake (-?\d+) ?([^\r\n]*)")
 STATEMENTS = re.compile(r"# fake: (.*)")
 TURNS = re.compile(r"# fake turns (\d+)")
+GRAPH = re.compile(r"# fake graph (.*)")
 SYMBOL = re.compile(r"^(\w+) = dace\.symbol\('\w+'\)$", re.MULTILINE)
 FUNCTION = re.compile(r"^def \w+\((.*)\):$", re.MULTILINE)
 ARGUMENT = re.compile(r"(\w+): dace\.int64(?:\[([^]]*)\])?")
@@ -44,7 +46,7 @@ def read(name: str, most: int) -> str:
 
 def files_of(words: list[str]) -> list[str]:
     turns = words[4] if len(words) == 5 and words[3] == "--turns" else "1"
-    known = words[:1] == ["run"] and len(words) in (3, 5) and turns.isdecimal()
+    known = len(words) in {"run": (3, 5), "print": (3,)}.get("".join(words[:1]), ()) and turns.isdecimal()
     if not known or not 1 <= int(turns) <= 2**40 or any(it[:1] in ("", "-") for it in words[1:3]):
         raise Ended(2, "bad words")
     return words[1:3]
@@ -86,8 +88,12 @@ def answer(words: list[str]) -> str:
         if symbol not in names:
             raise Ended(4, f"arrays error 11 {symbol}")
     arguments = ARGUMENT.findall(FUNCTION.findall(source)[-1])
+    if "turns" in names:
+        raise Ended(4, "arrays error 18 turns")
     for argument in arguments:
         array_line(*argument, names)
+    if words[0] == "print":
+        return GRAPH.findall(source)[-1].replace("/", "\n")
     wanted, turns = TURNS.search(source), int(words[4]) if len(words) == 5 else MOST_TURNS
     if wanted and int(wanted[1]) > turns:
         raise Ended(8, f"turns spent {turns}")
