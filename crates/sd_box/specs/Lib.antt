@@ -2,5 +2,4 @@ pub mod Box
 pub mod InForce
 pub mod Apart
 pub mod Hull
-pub mod Fits
 pub mod Columns

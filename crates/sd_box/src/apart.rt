@@ -1,11 +1,10 @@
 //! Boxes that share no element.
-ghost use Rattle.std.specs.Prelude.{◌≡◌, ◌↔◌, pos, ◌-ℤ◌, ◌*ℤ◌, ◌<ℤ◌, unsigned_abs, FitsSigned, IfOk, IsTrue};
-ghost use Rattle.std.specs.Int.{w128};
+ghost use Rattle.std.specs.Prelude.{◌≡◌, ◌↔◌, pos, ◌-ℤ◌, ◌*ℤ◌, ◌<ℤ◌, unsigned_abs, IfOk, IfSome, IsTrue};
 ghost use Rattle.sd_range.specs.Terms.{coefficient_of};
 ghost use Rattle.sd_box.specs.Apart as definition;
-ghost use Rattle.sd_box.specs.Fits.{AreComparable, AreMeasurable, FitsAbove, FitsStep};
 
 use crate::bounds::{Bounds, have_same_terms};
+use crate::fitting::difference_of;
 use crate::replacing::least;
 use sd_list::NoMemory;
 use sd_range::{Affine, Range};
@@ -18,10 +17,9 @@ fn begins_above(
     one: &Bounds,
     other: &Bounds,
 ) -> Result<bool, NoMemory>
-    requires { FitsAbove around.now one.now other.now }
     ensures { IfOk result (λ does. (IsTrue does) ↔ (definition.BeginsAbove around.now one.now other.now)) }
 {
-    let gap = one.low.minus(alloc, &other.high)?;
+    let gap = difference_of(alloc, &one.low, &other.high)?;
     let gap = least(alloc, around, &gap)?;
     Ok(gap.terms.as_slice().is_empty() && 0 < gap.constant)
 }
@@ -34,7 +32,6 @@ pub fn are_disjoint(
     one: &[Bounds],
     other: &[Bounds],
 ) -> Result<bool, NoMemory>
-    requires { AreComparable around.now one.now other.now }
     ensures { IfOk result (λ are. (IsTrue are) ↔ (definition.AreDisjoint around.now one.now other.now)) }
 {
     let mut left = one;
@@ -77,69 +74,70 @@ fn are_parallel(one: &Bounds, other: &Bounds) -> bool
 }
 
 /// How far a step of a parameter moves an expression, up or down.
-fn distance_moved(by: &(u32, Range), a: &Affine) -> i128
-    requires size { FitsSigned w128 (pos (unsigned_abs (coefficient_of a.now.terms by.now.0))) }
-    requires step { FitsSigned w128 (pos (unsigned_abs (coefficient_of a.now.terms by.now.0)) *ℤ by.now.1.step) }
-    ensures { result ≡ pos (unsigned_abs (coefficient_of a.now.terms by.now.0)) *ℤ by.now.1.step }
+fn distance_moved(by: &(u32, Range), a: &Affine) -> Option<i128>
+    ensures { IfSome result (λ distance. distance ≡ pos (unsigned_abs (coefficient_of a.now.terms by.now.0)) *ℤ by.now.1.step) }
 {
-    a.terms.coefficient(by.0).abs() * by.1.step
+    let size = a.terms.coefficient(by.0).checked_abs()?;
+    size.checked_mul(by.1.step)
 }
 
 /// Whether it is less than a distance from a low bound to a high one.
-fn is_within(low: i128, high: i128, distance: i128) -> bool
-    requires { FitsSigned w128 (high -ℤ low) }
-    ensures { (IsTrue result) ↔ ((high -ℤ low) <ℤ distance) }
+fn is_within(low: i128, high: i128, distance: i128) -> Option<bool>
+    ensures { IfSome result (λ is. (IsTrue is) ↔ ((high -ℤ low) <ℤ distance)) }
 {
-    high - low < distance
+    let width = high.checked_sub(low)?;
+    Some(width < distance)
 }
 
 /// Whether a step of a parameter moves the bounds by more than they are wide.
-fn is_wide(by: &(u32, Range), one: &Bounds, other: &Bounds) -> bool
-    requires { FitsStep by.now one.now other.now }
-    ensures { (IsTrue result) ↔ (definition.IsWide by.now one.now other.now) }
+fn is_wide(by: &(u32, Range), one: &Bounds, other: &Bounds) -> Option<bool>
+    ensures { IfSome result (λ is. (IsTrue is) ↔ (definition.IsWide by.now one.now other.now)) }
 {
-    let distance = distance_moved(by, &one.low);
-    if !is_within(other.low.constant, one.high.constant, distance) {
-        return false;
-    }
-    is_within(one.low.constant, other.high.constant, distance)
+    let distance = distance_moved(by, &one.low)?;
+    let is_first_within = is_within(other.low.constant, one.high.constant, distance)?;
+    let is_other_within = is_within(one.low.constant, other.high.constant, distance)?;
+    Some(is_first_within && is_other_within)
 }
 
 /// Whether a parameter separates two boxes in one dimension.
-fn separates_in(own: &[(u32, Range)], by: &(u32, Range), one: &Bounds, other: &Bounds) -> bool
-    requires { FitsStep by.now one.now other.now }
-    ensures { (IsTrue result) ↔ (definition.SeparatesIn own.now by.now one.now other.now) }
+fn separates_in(
+    own: &[(u32, Range)],
+    by: &(u32, Range),
+    one: &Bounds,
+    other: &Bounds,
+) -> Option<bool>
+    ensures { IfSome result (λ does. (IsTrue does) ↔ (definition.SeparatesIn own.now by.now one.now other.now)) }
 {
     if one.low.terms.coefficient(by.0) == 0 || !is_alone(own, by.0, &one.low) {
-        return false;
+        return Some(false);
     }
     if !are_parallel(one, other) {
-        return false;
+        return Some(false);
     }
     is_wide(by, one, other)
 }
 
-/// Whether two boxes are separated on a parameter of a map that has these. Takes no memory.
+/// Whether two boxes are separated on a parameter of a map that has these. Takes no memory; where
+/// a number does not fit 128 bits it answers that there is none.
 pub fn are_separated(
     own: &[(u32, Range)],
     by: &(u32, Range),
     one: &[Bounds],
     other: &[Bounds],
-) -> bool
-    requires { AreMeasurable by.now one.now other.now }
-    ensures { (IsTrue result) ↔ (definition.AreSeparated own.now by.now one.now other.now) }
+) -> Result<bool, NoMemory>
+    ensures { IfOk result (λ are. (IsTrue are) ↔ (definition.AreSeparated own.now by.now one.now other.now)) }
 {
     let mut left = one;
     let mut right = other;
     while let Some((first, firsts)) = left.split_first() {
         let Some((second, seconds)) = right.split_first() else {
-            return false;
+            return Ok(false);
         };
-        if separates_in(own, by, first, second) {
-            return true;
+        if separates_in(own, by, first, second).ok_or(NoMemory)? {
+            return Ok(true);
         }
         left = firsts;
         right = seconds;
     }
-    false
+    Ok(false)
 }

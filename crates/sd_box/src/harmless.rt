@@ -1,13 +1,12 @@
 //! Boxes that share no element at two points of a map.
 ghost use Rattle.std.specs.Prelude.{◌≡◌, ◌↔◌, ◌⊎◌, IfOk, IsTrue};
-ghost use Rattle.std.specs.List.{All};
-ghost use Rattle.sd_range.specs.Arithmetic.{affine_difference, IsRepresentable};
+ghost use Rattle.sd_range.specs.Arithmetic.{affine_difference};
 ghost use Rattle.sd_box.specs.Apart as definition;
 ghost use Rattle.sd_box.specs.Box as boxes;
-ghost use Rattle.sd_box.specs.Fits.{AreComparable, AreMeasurable, AreTold, FitsGreatest, FitsReplaced, FitsSingle};
 
 use crate::apart::{are_disjoint, are_separated};
 use crate::bounds::Bounds;
+use crate::fitting::difference_of;
 use crate::replacing::{greatest, replaced};
 use sd_list::NoMemory;
 use sd_range::{Affine, Range};
@@ -20,11 +19,9 @@ fn is_near(
     parameter: &(u32, Range),
     end: &Affine,
 ) -> Result<bool, NoMemory>
-    requires gap { IsRepresentable (affine_difference end.now parameter.now.1.begin) }
-    requires fits { FitsGreatest around.now (affine_difference end.now parameter.now.1.begin) }
     ensures { IfOk result (λ is. (IsTrue is) ↔ (definition.IsBelow (boxes.greatest around.now (affine_difference end.now parameter.now.1.begin)) parameter.now.1.step)) }
 {
-    let length = end.minus(alloc, &parameter.1.begin)?;
+    let length = difference_of(alloc, end, &parameter.1.begin)?;
     let length = greatest(alloc, around, &length)?;
     Ok(length.terms.as_slice().is_empty() && length.constant < parameter.1.step)
 }
@@ -35,7 +32,6 @@ pub fn is_single(
     around: &[(u32, Range)],
     parameter: &(u32, Range),
 ) -> Result<bool, NoMemory>
-    requires { FitsSingle around.now parameter.now }
     ensures { IfOk result (λ is. (IsTrue is) ↔ (definition.IsSingle around.now parameter.now)) }
 {
     for end in parameter.1.ends.as_slice() {
@@ -54,9 +50,6 @@ pub fn are_apart(
     one: &[Bounds],
     other: &[Bounds],
 ) -> Result<bool, NoMemory>
-    requires one { All (FitsReplaced own.now) one.now }
-    requires other { All (FitsReplaced own.now) other.now }
-    requires comparable { AreComparable around.now (boxes.replaced own.now one.now) (boxes.replaced own.now other.now) }
     ensures { IfOk result (λ are. (IsTrue are) ↔ (definition.AreApart around.now own.now one.now other.now)) }
 {
     let one = replaced(alloc, own, one)?;
@@ -73,11 +66,9 @@ fn is_settled(
     one: &[Bounds],
     other: &[Bounds],
 ) -> Result<bool, NoMemory>
-    requires measurable { AreMeasurable by.now one.now other.now }
-    requires single { FitsSingle around.now by.now }
     ensures { IfOk result (λ is. (IsTrue is) ↔ (definition.IsSingle around.now by.now ⊎ definition.AreSeparated own.now by.now one.now other.now)) }
 {
-    if are_separated(own, by, one, other) {
+    if are_separated(own, by, one, other)? {
         return Ok(true);
     }
     is_single(alloc, around, by)
@@ -91,7 +82,6 @@ fn are_all_separated(
     one: &[Bounds],
     other: &[Bounds],
 ) -> Result<bool, NoMemory>
-    requires { AreTold around.now own.now one.now other.now }
     ensures { IfOk result (λ are. (IsTrue are) ↔ (definition.AreAllSeparated around.now own.now one.now other.now)) }
 {
     for by in own {
@@ -110,7 +100,6 @@ pub fn are_harmless(
     one: &[Bounds],
     other: &[Bounds],
 ) -> Result<bool, NoMemory>
-    requires { AreTold around.now own.now one.now other.now }
     ensures { IfOk result (λ are. (IsTrue are) ↔ (definition.AreHarmless around.now own.now one.now other.now)) }
 {
     if are_all_separated(alloc, around, own, one, other)? {

@@ -4,11 +4,13 @@
 //! `specs/Box.antt` has the box of a subset and the replacing of map parameters in it, `Apart.antt`
 //! when boxes are apart or separated, `Hull.antt` the hull of boxes, `InForce.antt` parameters with
 //! values; by `laws` bounds hold at each point, harmless boxes share no index, and a hull has what
-//! its boxes have. Want of memory is the one refusal; what fits 128 bits is `Fits.antt`.
+//! its boxes have. Nothing is asked of expressions; want of memory is the one refusal, and a number
+//! that may not fit 128 bits comes to it too.
 #![tactic(auto)]
 
 mod apart;
 mod bounds;
+mod fitting;
 mod harmless;
 mod joining;
 mod laws;

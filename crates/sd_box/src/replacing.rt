@@ -1,33 +1,30 @@
 //! Parameters replaced in bounds.
 ghost use Rattle.std.specs.Prelude.{◌≡◌, IfOk};
-ghost use Rattle.std.specs.List.{All};
-ghost use Rattle.sd_range.specs.Arithmetic.{substituted, IsRepresentable};
+ghost use Rattle.sd_range.specs.Arithmetic.{substituted};
 ghost use Rattle.sd_box.specs.Box as definition;
-ghost use Rattle.sd_box.specs.Fits.{FitsLeast, FitsGreatest, FitsReplaced};
 
 use crate::bounds::Bounds;
+use crate::fitting::with_in_place;
 use sd_list::{NoMemory, Sequence};
 use sd_range::{Affine, Range};
 use std::alloc::Global;
 
 /// A parameter replaced by the last end of its range.
 fn with_end(alloc: Global, parameter: &(u32, Range), a: &Affine) -> Result<Affine, NoMemory>
-    requires { IsRepresentable (substituted parameter.now.0 (definition.last_end parameter.now.1) a.now) }
     ensures { IfOk result (λ bound. bound ≡ substituted parameter.now.0 (definition.last_end parameter.now.1) a.now) }
 {
     match parameter.1.ends.as_slice().last() {
-        Some(end) => a.substituted(alloc, parameter.0, end),
-        None => a.substituted(alloc, parameter.0, &Affine::constant(alloc, 0)),
+        Some(end) => with_in_place(alloc, parameter.0, end, a),
+        None => with_in_place(alloc, parameter.0, &Affine::constant(alloc, 0), a),
     }
 }
 
 /// A parameter replaced in a lower bound.
 fn with_least(alloc: Global, parameter: &(u32, Range), a: &Affine) -> Result<Affine, NoMemory>
-    requires { IsRepresentable (definition.with_least parameter.now a.now) }
     ensures { IfOk result (λ bound. bound ≡ definition.with_least parameter.now a.now) }
 {
     if 0 < a.terms.coefficient(parameter.0) {
-        a.substituted(alloc, parameter.0, &parameter.1.begin)
+        with_in_place(alloc, parameter.0, &parameter.1.begin, a)
     } else {
         with_end(alloc, parameter, a)
     }
@@ -35,19 +32,17 @@ fn with_least(alloc: Global, parameter: &(u32, Range), a: &Affine) -> Result<Aff
 
 /// A parameter replaced in an upper bound.
 fn with_greatest(alloc: Global, parameter: &(u32, Range), a: &Affine) -> Result<Affine, NoMemory>
-    requires { IsRepresentable (definition.with_greatest parameter.now a.now) }
     ensures { IfOk result (λ bound. bound ≡ definition.with_greatest parameter.now a.now) }
 {
     if 0 < a.terms.coefficient(parameter.0) {
         with_end(alloc, parameter, a)
     } else {
-        a.substituted(alloc, parameter.0, &parameter.1.begin)
+        with_in_place(alloc, parameter.0, &parameter.1.begin, a)
     }
 }
 
 /// An expression with parameters, the outermost first, replaced as in a lower bound.
 pub fn least(alloc: Global, parameters: &[(u32, Range)], a: &Affine) -> Result<Affine, NoMemory>
-    requires { FitsLeast parameters.now a.now }
     ensures { IfOk result (λ bound. bound ≡ definition.least parameters.now a.now) }
 {
     let mut bound = a.copy_of(alloc)?;
@@ -61,7 +56,6 @@ pub fn least(alloc: Global, parameters: &[(u32, Range)], a: &Affine) -> Result<A
 
 /// An expression with parameters, the outermost first, replaced as in an upper bound.
 pub fn greatest(alloc: Global, parameters: &[(u32, Range)], a: &Affine) -> Result<Affine, NoMemory>
-    requires { FitsGreatest parameters.now a.now }
     ensures { IfOk result (λ bound. bound ≡ definition.greatest parameters.now a.now) }
 {
     let mut bound = a.copy_of(alloc)?;
@@ -79,7 +73,6 @@ pub fn replaced(
     parameters: &[(u32, Range)],
     bounds: &[Bounds],
 ) -> Result<Sequence<Bounds>, NoMemory>
-    requires { All (FitsReplaced parameters.now) bounds.now }
     ensures { IfOk result (λ all. all ≡ definition.replaced parameters.now bounds.now) }
 {
     let mut all = Vec::with_capacity(alloc, bounds.len())?;

@@ -1,6 +1,5 @@
 use Rattle.std.proofs.Common.{length}
 use Rattle.sd_box.specs.Apart as definition
-use Rattle.sd_box.specs.Fits.{AreComparable}
 use Rattle.sd_box.proofs.apart.are_disjoint.Given as goal
 
 -- the boxes are disjoint where they are so in a dimension that is left
@@ -8,7 +7,6 @@ abbrev pub invariant-loop-first : goal.invariant-loop-first
 invariant-loop-first l = record {
   given : definition.AreDisjoint l.around l.left l.right → definition.AreDisjoint l.around l.one l.other;
   left_so : definition.AreDisjoint l.around l.one l.other → definition.AreDisjoint l.around l.left l.right;
-  comparable : AreComparable l.around l.left l.right;
 }
 
 -- the dimensions that are left

@@ -1,6 +1,5 @@
 use Rattle.std.proofs.Common.{length}
 use Rattle.sd_box.specs.Apart as definition
-use Rattle.sd_box.specs.Fits.{AreMeasurable}
 use Rattle.sd_box.proofs.apart.are_separated.Given as goal
 
 -- the boxes are separated where they are so in a dimension that is left
@@ -8,7 +7,6 @@ abbrev pub invariant-loop-first : goal.invariant-loop-first
 invariant-loop-first l = record {
   given : definition.AreSeparated l.own l.by l.left l.right → definition.AreSeparated l.own l.by l.one l.other;
   left_so : definition.AreSeparated l.own l.by l.one l.other → definition.AreSeparated l.own l.by l.left l.right;
-  measurable : AreMeasurable l.by l.left l.right;
 }
 
 -- the dimensions that are left

@@ -1,14 +1,10 @@
 use Rattle.std.proofs.Common.{◌≡◌, length}
 use Rattle.sd_box.specs.Box as definition
-use Rattle.sd_box.specs.Fits.{FitsGreatest}
 use Rattle.sd_box.proofs.replacing.greatest.Given as goal
 
 -- with those that are left replaced too it is the whole bound
 abbrev pub invariant-loop-parameter : goal.invariant-loop-parameter
-invariant-loop-parameter l = record {
-  same : definition.greatest l.left l.bound ≡ definition.greatest l.parameters l.a;
-  fits : FitsGreatest l.left l.bound;
-}
+invariant-loop-parameter l = definition.greatest l.left l.bound ≡ definition.greatest l.parameters l.a
 
 -- the parameters that are left
 abbrev pub decreases-loop-parameter : goal.decreases-loop-parameter

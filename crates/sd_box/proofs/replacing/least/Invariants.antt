@@ -1,14 +1,10 @@
 use Rattle.std.proofs.Common.{◌≡◌, length}
 use Rattle.sd_box.specs.Box as definition
-use Rattle.sd_box.specs.Fits.{FitsLeast}
 use Rattle.sd_box.proofs.replacing.least.Given as goal
 
 -- with those that are left replaced too it is the whole bound
 abbrev pub invariant-loop-parameter : goal.invariant-loop-parameter
-invariant-loop-parameter l = record {
-  same : definition.least l.left l.bound ≡ definition.least l.parameters l.a;
-  fits : FitsLeast l.left l.bound;
-}
+invariant-loop-parameter l = definition.least l.left l.bound ≡ definition.least l.parameters l.a
 
 -- the parameters that are left
 abbrev pub decreases-loop-parameter : goal.decreases-loop-parameter
