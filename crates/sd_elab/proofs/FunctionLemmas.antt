@@ -1,5 +1,5 @@
 -- Graphs of one program, and of several.
-use Rattle.std.proofs.Common.{◌≡◌, ◌∙◌, ℕ, suc, ◌+◌, ◌<◌, List, [], ◌∷◌, ◌++◌, length, map, drop, slice_index_or, refl, ap, sym, subst, arith, add-one, drop-cons, bytes_eq}
+use Rattle.std.proofs.Common.{◌≡◌, ◌∙◌, ℕ, ◌+◌, List, [], ◌∷◌, ◌++◌, length, map, reverse, refl, ap, sym, subst, arith, bytes_eq}
 use Rattle.std.specs.List.{AllByRecursion, IsDistinct}
 use Rattle.sd_lex.specs.PlainTree.{FunctionTree}
 use Rattle.sd_lex.specs.TreeFold.{function_of}
@@ -16,14 +16,20 @@ use Rattle.sd_program.specs.Small.{IsSmall}
 use Rattle.sd_program.specs.DeclaredNames.{container_names}
 use Rattle.sd_containers.specs.Declarations.{Containers, containers_of_function, variable_names_all}
 use Rattle.sd_items.specs.Graphs.{no_graph, graph_named}
-use Rattle.sd_elab.specs.BuildingOf.{nothing_made}
+use Rattle.sd_states.specs.BuildingOf.{nothing_made}
 use Rattle.sd_elab.specs.Elaborable.{IsElaborable, AreElaborable}
+use Rattle.std.proofs.lemmas.List.{reverse-append, reverse-reverse}
+use Rattle.sd_nodes.specs.Names.{noted}
+use Rattle.sd_lex.specs.PlainTree.{Block}
+use Rattle.sd_needed.specs.Needed.{called_in, needed_from}
+use Rattle.sd_needed.proofs.NeededLemmas.{among_new, each_among, needed_holds, made_of, needed_suffice}
+use Rattle.sd_elab.proofs.AgreeLemmas.{same_graph}
 use Rattle.sd_elab.specs.Elaboration.{start_of, states_of_function, function_graph, graphs_with, latest}
-use Rattle.sd_elab.specs.Standing.{Standing, behind_all, state_behind}
-use Rattle.sd_elab.specs.States.{chained_all}
-use Rattle.sd_elab.specs.Threaded.{Threaded, closed, threaded_all}
-use Rattle.sd_elab.proofs.StandingLemmas.{all_behind_block}
-use Rattle.sd_elab.proofs.ThreadedLemmas.{all_chained}
+use Rattle.sd_states.specs.Standing.{Standing, behind_all, state_behind}
+use Rattle.sd_states.specs.States.{chained_all}
+use Rattle.sd_states.specs.Threaded.{Threaded, closed, threaded_all}
+use Rattle.sd_states.proofs.StandingLemmas.{all_behind_block}
+use Rattle.sd_states.proofs.ThreadedLemmas.{all_chained}
 
 -- the graphs of programs and one more
 pub graphs_grown : (symbols : List Name) (before : Named GraphTree) (functions : List FunctionTree) (last : FunctionTree) →
@@ -32,22 +38,16 @@ graphs_grown symbols before [] last = refl
 graphs_grown symbols before (function ∷ functions) last =
     graphs_grown symbols ((function.name, function_graph symbols (graph_named before) function) ∷ before) functions last
 
--- one program more
+-- one program more, the last of those that are left
 pub graphs_more : (symbols : List Name) (before after : Named GraphTree) (all rest : List FunctionTree) (function : FunctionTree) (name : Name) (tree : GraphTree) →
-    all ≡ function ∷ rest → name ≡ function.name → tree ≡ function_graph symbols (graph_named before) function → after ≡ (name, tree) ∷ before →
-    graphs_with symbols after rest ≡ graphs_with symbols before all
+    all ≡ rest ++ function ∷ [] → name ≡ function.name → tree ≡ function_graph symbols (graph_named before) function → after ≡ (name, tree) ∷ before →
+    graphs_with symbols after (reverse rest) ≡ graphs_with symbols before (reverse all)
 graphs_more symbols before after all rest function name tree more named made pushed =
-    ap (λ (graphs : Named GraphTree). graphs_with symbols graphs rest)
+    ap (λ (graphs : Named GraphTree). graphs_with symbols graphs (reverse rest))
     (pushed
     ∙ ap (λ (n : Name). (n, tree) ∷ before) named
     ∙ ap (λ (g : GraphTree). (function.name, g) ∷ before) made)
-    ∙ ap (graphs_with symbols before) (sym more)
-
-pub functions_more : (functions : List Function) (i : ℕ) (function : Function) → i < length functions → function ≡ slice_index_or functions i function →
-    map function_of (drop i functions) ≡ function_of function ∷ map function_of (drop (i + 1) functions)
-functions_more functions i function below is =
-    rw (add-one, drop-cons functions i function below)
-    (ap (λ (first : Function). function_of first ∷ map function_of (drop (suc i) functions)) (sym is))
+    ∙ ap (graphs_with symbols before) (sym (ap reverse more ∙ reverse-append rest (function ∷ [])))
 
 -- what is made of a block that begins with nothing, and is closed without an exit
 pub states_made : (symbols : List Name) (graphs : Name → GraphTree) (function : FunctionTree) (at : Standing) (begun made whole : Threaded) →
@@ -75,19 +75,31 @@ elaborable_all (function ∷ functions) affine small different =
     (record { affine = affine.0; small = small.0; different = different.0 }, elaborable_all functions affine.1 small.1 different.1)
 
 -- the last program, and those before it
-all_before : (above : List Function) (last : Function) → AreElaborable (map function_of (above ++ last ∷ [])) → AreElaborable (map function_of above)
-all_before [] last all = all.1
-all_before (function ∷ functions) last all = (all.0, all_before functions last all.1)
+all_before : (rest : List FunctionTree) (last : FunctionTree) → AreElaborable (rest ++ last ∷ []) → AreElaborable rest
+all_before [] last all = tt
+all_before (function ∷ rest) last all = (all.0, all_before rest last all.1)
 
-last_of_all : (above : List Function) (last : Function) → AreElaborable (map function_of (above ++ last ∷ [])) → IsElaborable (function_of last)
+last_of_all : (rest : List FunctionTree) (last : FunctionTree) → AreElaborable (rest ++ last ∷ []) → IsElaborable last
 last_of_all [] last all = all.0
-last_of_all (function ∷ functions) last all = last_of_all functions last all.1
+last_of_all (function ∷ rest) last all = last_of_all rest last all.1
 
-pub elaborable_before : (functions above : List Function) (last : Function) → functions ≡ above ++ last ∷ [] → AreElaborable (map function_of functions) → AreElaborable (map function_of above)
-elaborable_before functions above last split all = all_before above last (subst (λ (listed : List Function). AreElaborable (map function_of listed)) split all)
+pub elaborable_before : (functions rest : List FunctionTree) (last : FunctionTree) → functions ≡ rest ++ last ∷ [] → AreElaborable functions → AreElaborable rest
+elaborable_before functions rest last split all = all_before rest last (subst AreElaborable split all)
 
-pub elaborable_last : (functions above : List Function) (last : Function) → functions ≡ above ++ last ∷ [] → AreElaborable (map function_of functions) → IsElaborable (function_of last)
-elaborable_last functions above last split all = last_of_all above last (subst (λ (listed : List Function). AreElaborable (map function_of listed)) split all)
+pub elaborable_last : (functions rest : List FunctionTree) (last : FunctionTree) → functions ≡ rest ++ last ∷ [] → AreElaborable functions → IsElaborable last
+elaborable_last functions rest last split all = last_of_all rest last (subst AreElaborable split all)
+
+all_with : (rest : List FunctionTree) (last : FunctionTree) → AreElaborable rest → IsElaborable last → AreElaborable (rest ++ last ∷ [])
+all_with [] last all holds = (holds, tt)
+all_with (function ∷ rest) last all holds = (all.0, all_with rest last all.1 holds)
+
+all_reversed : (functions : List FunctionTree) → AreElaborable functions → AreElaborable (reverse functions)
+all_reversed [] all = tt
+all_reversed (function ∷ rest) all = subst AreElaborable (sym (reverse-append (function ∷ []) rest)) (all_with (reverse rest) function (all_reversed rest all.1) all.0)
+
+-- those before it that are needed
+pub elaborable_needed : (needed above : List FunctionTree) (names : List Name) → needed ≡ needed_from names (reverse above) → AreElaborable above → AreElaborable needed
+elaborable_needed needed above names chosen all = subst AreElaborable (sym chosen) (needed_holds IsElaborable names (reverse above) (all_reversed above all))
 
 graph_of_last : (symbols : List Name) (functions above : List Function) (last : Function) → functions ≡ above ++ last ∷ [] →
     latest (graphs_with symbols [] (map function_of functions)) ≡ function_graph symbols (graph_named (graphs_with symbols [] (map function_of above))) (function_of last)
@@ -95,14 +107,41 @@ graph_of_last symbols functions above last split =
     ap (λ (all : List FunctionTree). latest (graphs_with symbols [] all)) (ap (map function_of) split ∙ map_grown function_of above last)
     ∙ ap latest (graphs_grown symbols [] (map function_of above) (function_of last))
 
-pub graph_of_source : (symbols first second : List Name) (functions above : List Function) (last : Function) (graphs : Named GraphTree) (tree : GraphTree) →
-    first ≡ symbols → second ≡ symbols → functions ≡ above ++ last ∷ [] → graphs ≡ graphs_with first [] (map function_of above) →
+-- the graphs of programs, the latest first
+graphs_of_latest : (symbols : List Name) (functions : List FunctionTree) → graphs_with symbols [] (reverse functions) ≡ made_of GraphTree no_graph (function_graph symbols) functions
+graphs_of_latest symbols [] = refl
+graphs_of_latest symbols (function ∷ before) =
+    ap (graphs_with symbols []) (reverse-append (function ∷ []) before)
+    ∙ graphs_grown symbols [] (reverse before) function
+    ∙ ap (λ (graphs : Named GraphTree). (function.name, function_graph symbols (graph_named graphs) function) ∷ graphs) (graphs_of_latest symbols before)
+
+-- a program that calls those before it has the same graph where only those are there that it needs
+graph_of_needed : (symbols : List Name) (above : List FunctionTree) (last : FunctionTree) →
+    function_graph symbols (graph_named (graphs_with symbols [] (reverse (needed_from (noted [] (called_in last.body)) (reverse above))))) last ≡ function_graph symbols (graph_named (graphs_with symbols [] above)) last
+graph_of_needed symbols above last =
+    let called : List Name = called_in last.body in
+    let needed : List FunctionTree = needed_from (noted [] called) (reverse above) in
+    let made : List FunctionTree → Named GraphTree = made_of GraphTree no_graph (function_graph symbols) in
+    ap (λ (graphs : Named GraphTree). function_graph symbols (graph_named graphs) last) (graphs_of_latest symbols needed)
+    ∙ same_graph (graph_named (made needed)) (graph_named (made (reverse above))) symbols last
+    (each_among (λ name. graph_named (made needed) name ≡ graph_named (made (reverse above)) name) called
+    (λ name call.
+    needed_suffice GraphTree no_graph (function_graph symbols) (λ first second function. same_graph first second symbols function) (noted [] called) (reverse above) name (among_new [] called name call)))
+    ∙ ap (λ (graphs : Named GraphTree). function_graph symbols (graph_named graphs) last) (sym (graphs_of_latest symbols (reverse above)))
+    ∙ ap (λ (functions : List FunctionTree). function_graph symbols (graph_named (graphs_with symbols [] functions)) last) (reverse-reverse above)
+
+pub graph_of_source : (symbols first second : List Name) (functions above : List Function) (last : Function) (needed : List FunctionTree) (body : Block) (graphs : Named GraphTree) (tree : GraphTree) →
+    first ≡ symbols → second ≡ symbols → functions ≡ above ++ last ∷ [] → body ≡ (function_of last).body →
+    needed ≡ needed_from (noted [] (called_in body)) (reverse (map function_of above)) → graphs ≡ graphs_with first [] (reverse needed) →
     tree ≡ function_graph second (graph_named graphs) (function_of last) → tree ≡ latest (graphs_with symbols [] (map function_of functions))
-graph_of_source symbols first second functions above last graphs tree same same_too split made is =
+graph_of_source symbols first second functions above last needed body graphs tree same same_too split last_body chosen made is =
     is
     ∙ ap (λ (names : List Name). function_graph names (graph_named graphs) (function_of last)) same_too
     ∙ ap (λ (g : Named GraphTree). function_graph symbols (graph_named g) (function_of last)) made
-    ∙ ap (λ (names : List Name). function_graph symbols (graph_named (graphs_with names [] (map function_of above))) (function_of last)) same
+    ∙ ap (λ (names : List Name). function_graph symbols (graph_named (graphs_with names [] (reverse needed))) (function_of last)) same
+    ∙ ap (λ (chosen : List FunctionTree). function_graph symbols (graph_named (graphs_with symbols [] (reverse chosen))) (function_of last)) chosen
+    ∙ ap (λ (block : Block). function_graph symbols (graph_named (graphs_with symbols [] (reverse (needed_from (noted [] (called_in block)) (reverse (map function_of above)))))) (function_of last)) last_body
+    ∙ graph_of_needed symbols (map function_of above) (function_of last)
     ∙ sym (graph_of_last symbols functions above last split)
 
 pub graph_of_none : (symbols : List Name) (functions : List Function) → length functions ≡ 0 → latest (graphs_with symbols [] (map function_of functions)) ≡ no_graph

@@ -1,8 +1,3 @@
-pub mod BlockLemmas
-pub mod BuildingLemmas
-pub mod CountLemmas
+pub mod AgreeLemmas
 pub mod FunctionLemmas
-pub mod StandingLemmas
-pub mod StatementTrees
-pub mod ThreadedLemmas
 pub mod examples

@@ -9,8 +9,8 @@ use Rattle.sd_in_force.specs.Names.{with_numbered}
 use Rattle.sd_task.specs.Table.{Table}
 use Rattle.sd_program.specs.Declared.{containers_in_all}
 use Rattle.sd_containers.specs.Declarations.{variable_names_all, containers_of_function}
-use Rattle.sd_elab.specs.Standing.{Standing}
-use Rattle.sd_elab.specs.States.{chained_all}
+use Rattle.sd_states.specs.Standing.{Standing}
+use Rattle.sd_states.specs.States.{chained_all}
 
 -- the arguments are in force, the first with this number
 abbrev pub arguments_in_force : Block → (next : ℕ) → Named ℕ → Named ℕ

@@ -6,18 +6,17 @@ ghost use Rattle.sd_items.specs.GraphsByNumber.{graphs_of};
 ghost use Rattle.sd_lex.specs.TreeFold.{function_of, block_of};
 ghost use Rattle.sd_in_force.specs.SmallExtents.{HaveSmallExtents};
 ghost use Rattle.sd_task.specs.TableOf.{table_of};
-ghost use Rattle.sd_elab.specs.BuildingOf.{threaded_of, standing_of, HasSmallContainers, nothing_made};
+ghost use Rattle.sd_states.specs.BuildingOf.{threaded_of, standing_of, HasSmallContainers, nothing_made};
 ghost use Rattle.sd_elab.specs.Elaborable.{IsElaborable};
 ghost use Rattle.sd_elab.specs.Elaboration as definition;
 
-use crate::building::Building;
-use crate::thread::thread_all;
 use sd_containers::{containers_of_function, variable_names};
 use sd_graph::Sdfg;
 use sd_in_force::{Scope, more};
 use sd_items::{Graphs, Numbers, count_containers};
 use sd_lex::{Function, Statement};
 use sd_list::NoMemory;
+use sd_states::{Building, thread_all};
 use sd_task::Names;
 use std::alloc::Global;
 

@@ -1,4 +1,4 @@
-ghost use Rattle.std.specs.Prelude.{◌≡◌, [], map, string_bytes, IfOk};
+ghost use Rattle.std.specs.Prelude.{◌≡◌, [], map, reverse, string_bytes, IfOk};
 ghost use Rattle.sd_graph.specs.TreeFold.{graph_tree};
 ghost use Rattle.sd_items.specs.GraphsByNumber.{graphs_of};
 ghost use Rattle.sd_lex.specs.TreeFold.{function_of, program_of};
@@ -11,19 +11,21 @@ use sd_graph::Sdfg;
 use sd_items::{Graphs, empty_graph};
 use sd_lex::{Function, Program};
 use sd_list::NoMemory;
+use sd_needed::needed;
 use std::alloc::Global;
 
-/// The graphs of programs, each of which calls those before it.
-fn graphs_above(
+/// The graphs of programs, the latest of them first, each of which calls those behind it.
+fn graphs_of_programs(
     alloc: Global,
     symbols: &[String],
-    functions: &[Function],
+    functions: Vec<&Function>,
 ) -> Result<Graphs, NoMemory>
-    requires { AreElaborable (map function_of functions.now) }
-    ensures { IfOk result (λ graphs. graphs_of graphs ≡ definition.graphs_with (map string_bytes symbols.now) [] (map function_of functions.now)) }
+    requires { AreElaborable (map (λ function. function_of function.now) functions.items) }
+    ensures { IfOk result (λ graphs. graphs_of graphs ≡ definition.graphs_with (map string_bytes symbols.now) [] (reverse (map (λ function. function_of function.now) functions.entry.items))) }
 {
     let mut graphs = Graphs::new(alloc);
-    for function in functions {
+    let mut left = functions;
+    while let Some(function) = left.pop() {
         let name = function.name.as_str().to_string(alloc)?;
         let graph = function_graph(alloc, symbols, &graphs, function)?;
         graphs.push(name, graph)?;
@@ -33,14 +35,16 @@ fn graphs_above(
 
 /// The graph of a source: that of its last program, whose calls are of the programs before it.
 ///
-/// A source without a program has a graph with nothing in it.
+/// A source without a program has a graph with nothing in it. Of the programs before the last one only
+/// those are made into graphs that it calls, or that one of these calls. A call holds a copy of a graph;
+/// at most eight calls stand in a chain, so no part of a graph is copied more than eight times.
 ///
 /// Names and graphs are looked up by hash. The states of a block are counted once for each loop and
 /// branch about it, the containers of a block once for each scope about it, and a free name for the
 /// element of a tasklet is the first of `x$1`, `x$2` and so on that is free. A program that was read has
 /// at most 256 states and 256 containers, so each of these is bounded by a number, and the work is
-/// linear in the graphs of all programs of the source, called or not.
-#[tactic(auto, using(crate::proofs::FunctionLemmas::elaborable_all, crate::proofs::FunctionLemmas::elaborable_before, crate::proofs::FunctionLemmas::graph_of_none))]
+/// linear in the source and the graph that is made of it.
+#[tactic(auto, using(crate::proofs::FunctionLemmas::elaborable_all, crate::proofs::FunctionLemmas::graph_of_none))]
 pub fn elaborate(alloc: Global, program: &Program) -> Result<Sdfg, NoMemory>
     requires well_formed { IsWellFormed (program_of program.now) }
     ensures graph { IfOk result (λ graph. graph_tree graph ≡ definition.graph_of (program_of program.now)) }
@@ -48,7 +52,8 @@ pub fn elaborate(alloc: Global, program: &Program) -> Result<Sdfg, NoMemory>
     match program.functions.split_last() {
         None => Ok(empty_graph(alloc)),
         Some((last, above)) => {
-            let graphs = graphs_above(alloc, &program.symbols, above)?;
+            let needed = needed(alloc, above, &last.body)?;
+            let graphs = graphs_of_programs(alloc, &program.symbols, needed)?;
             function_graph(alloc, &program.symbols, &graphs, last)
         }
     }

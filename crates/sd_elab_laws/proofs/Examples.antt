@@ -2,7 +2,7 @@
 use Rattle.std.proofs.Common.{inl, inr, pos, List, [], ◌∷◌, refl, sym}
 use Rattle.sd_graph.specs.PlainTree.{no_item, ExitTree, StateTrees, no_state, and_state}
 use Rattle.sd_graph.proofs.Among.{false_not_true}
-use Rattle.sd_elab.specs.Exits.{plainly, setting, back_to}
+use Rattle.sd_states.specs.Exits.{plainly, setting, back_to}
 use Rattle.sd_elab_laws.specs.LoopShape.{HasLoopShape}
 use Rattle.sd_elab_laws.specs.EnteredLoops.{HasEnteredLoops}
 

@@ -6,8 +6,8 @@ use Rattle.sd_graph.specs.TreeParts.{count_states, exits_at}
 use Rattle.sd_graph.specs.LoopScope.{leads_within}
 use Rattle.sd_graph.proofs.Among.{nat_eq_same}
 use Rattle.sd_program.specs.Names.{Name}
-use Rattle.sd_elab.specs.Exits.{plainly, if_holds}
-use Rattle.sd_elab.specs.Standing.{Standing}
+use Rattle.sd_states.specs.Exits.{plainly, if_holds}
+use Rattle.sd_states.specs.Standing.{Standing}
 use Rattle.sd_elab_laws.specs.EnteredLoops.{IsEnteredAtBegin, ClosesLoop}
 use Rattle.sd_elab_laws.proofs.StateRanges.{split}
 

@@ -13,9 +13,9 @@ use Rattle.sd_program.specs.IsAffine.{IsAffine}
 use Rattle.sd_program.specs.Limits.{IsStep, HasSteps}
 use Rattle.sd_program.specs.Every.{Every, EveryIn}
 use Rattle.sd_items.specs.Counts.{variables_in, variables_in_all}
-use Rattle.sd_elab.specs.Exits.{plainly, back_to, stepped_on}
-use Rattle.sd_elab.specs.Standing.{Standing, behind, behind_all, state_behind, with_loop_variable}
-use Rattle.sd_elab.specs.States.{chained, chained_all, chained_other}
+use Rattle.sd_states.specs.Exits.{plainly, back_to, stepped_on}
+use Rattle.sd_states.specs.Standing.{Standing, behind, behind_all, state_behind, with_loop_variable}
+use Rattle.sd_states.specs.States.{chained, chained_all, chained_other}
 use Rattle.sd_elab_laws.specs.LoopShape.{IsStepOf, BeginsLoop, SetLoopVariables}
 use Rattle.sd_elab_laws.proofs.StateLists.{HasStates, first_of_two, second_of_two}
 use Rattle.sd_elab_laws.proofs.StateCounts.{branch_behind, all_counted}

@@ -6,9 +6,9 @@ use Rattle.sd_graph.specs.TreeFold.{PlainState}
 use Rattle.sd_program.specs.Names.{Name}
 use Rattle.sd_program.specs.Declared.{states_in, states_in_all, states_in_other}
 use Rattle.sd_items.specs.Items.{items_with}
-use Rattle.sd_elab.specs.Exits.{plainly, back_to, stepped_on}
-use Rattle.sd_elab.specs.Standing.{Standing, behind, behind_all, state_behind, with_loop_variable}
-use Rattle.sd_elab.specs.States.{chained, chained_all, chained_other}
+use Rattle.sd_states.specs.Exits.{plainly, back_to, stepped_on}
+use Rattle.sd_states.specs.Standing.{Standing, behind, behind_all, state_behind, with_loop_variable}
+use Rattle.sd_states.specs.States.{chained, chained_all, chained_other}
 
 -- there is a state behind both blocks of an `if`
 pub some_other : (other : Block) → 1 ≤ states_in_other other

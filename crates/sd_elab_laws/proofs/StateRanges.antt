@@ -10,9 +10,9 @@ use Rattle.sd_program.specs.Names.{Name}
 use Rattle.sd_program.specs.Declared.{states_in, states_in_all, states_in_other}
 use Rattle.sd_in_force.specs.Ranges.{affine_or}
 use Rattle.sd_task.specs.ElementCode.{guard_of, below}
-use Rattle.sd_elab.specs.Exits.{plainly, setting, if_holds, back_to, stepped_on}
-use Rattle.sd_elab.specs.Standing.{Standing, behind, behind_all, state_behind, with_loop_variable}
-use Rattle.sd_elab.specs.States.{chained, chained_all, chained_other}
+use Rattle.sd_states.specs.Exits.{plainly, setting, if_holds, back_to, stepped_on}
+use Rattle.sd_states.specs.Standing.{Standing, behind, behind_all, state_behind, with_loop_variable}
+use Rattle.sd_states.specs.States.{chained, chained_all, chained_other}
 use Rattle.sd_elab_laws.proofs.StateLists.{HasStates, first_of_two, second_of_two}
 use Rattle.sd_elab_laws.proofs.StateCounts.{some_other, branch_behind, all_counted}
 

@@ -23,9 +23,9 @@ use Rattle.sd_items.specs.Graphs.{no_graph, graph_named}
 use Rattle.sd_items.specs.Items.{items_with}
 use Rattle.sd_containers.specs.Declarations.{Containers, containers_with, containers_with_all, containers_of_function}
 use Rattle.sd_program.specs.DeclaredNames.{container_names}
-use Rattle.sd_elab.specs.Exits.{plainly, back_to, stepped_on}
-use Rattle.sd_elab.specs.Standing.{Standing, behind, behind_all, state_behind, with_loop_variable}
-use Rattle.sd_elab.specs.States.{chained, chained_all, chained_other}
+use Rattle.sd_states.specs.Exits.{plainly, back_to, stepped_on}
+use Rattle.sd_states.specs.Standing.{Standing, behind, behind_all, state_behind, with_loop_variable}
+use Rattle.sd_states.specs.States.{chained, chained_all, chained_other}
 use Rattle.sd_elab.specs.Elaboration.{function_graph, graphs_with, latest, graph_of, start_of, arguments_in_force}
 use Rattle.sd_elab_laws.proofs.ContainersMade.{holds_here, Begins, begins_itself, first_begins, made_at, counted, all_made}
 use Rattle.sd_elab_laws.proofs.NamesKnown.{AreKnown, none_known, one_more_known, affine_knows, links_in_force}

@@ -12,9 +12,9 @@ use Rattle.sd_items.specs.Counts.{variables_in}
 use Rattle.sd_items.specs.NamesBehind.{table_behind}
 use Rattle.sd_items.specs.Graphs.{no_graph, graph_named}
 use Rattle.sd_items.specs.Items.{items_with, items_of_body}
-use Rattle.sd_elab.specs.Exits.{plainly}
-use Rattle.sd_elab.specs.Standing.{Standing, behind, behind_all, state_behind, with_loop_variable}
-use Rattle.sd_elab.specs.States.{chained, chained_all, chained_other}
+use Rattle.sd_states.specs.Exits.{plainly}
+use Rattle.sd_states.specs.Standing.{Standing, behind, behind_all, state_behind, with_loop_variable}
+use Rattle.sd_states.specs.States.{chained, chained_all, chained_other}
 use Rattle.sd_elab.specs.Elaboration.{function_graph, start_of, states_of_function, graphs_with, latest}
 use Rattle.sd_elab_laws.specs.Throughout.{KindThroughout, ItemsThroughout, StatesThroughout, Throughout}
 

@@ -32,7 +32,7 @@ among_noted known (first ∷ names) name = grind (arith, among_noted (with_name 
 among_known : (known names : List Name) (name : Name) → is_among known name ≡ true → is_among (noted known names) name ≡ true
 among_known known names name there = grind (arith, among_noted known names name, there)
 
-among_new : (known names : List Name) (name : Name) → is_among names name ≡ true → is_among (noted known names) name ≡ true
+pub among_new : (known names : List Name) (name : Name) → is_among names name ≡ true → is_among (noted known names) name ≡ true
 among_new known names name there = grind (arith, among_noted known names name, there)
 
 -- ---- what holds of each of several names

@@ -3,9 +3,9 @@ use Rattle.sd_graph.specs.TreeFold.{exit_tree}
 use Rattle.sd_items.specs.Graphs.{graph_named}
 use Rattle.sd_items.specs.GraphsByNumber.{graphs_of}
 use Rattle.sd_lex.specs.TreeFold.{function_of, block_of}
-use Rattle.sd_elab.specs.BuildingOf.{threaded_of, standing_of}
-use Rattle.sd_elab.specs.Standing.{behind_all}
-use Rattle.sd_elab.specs.Threaded.{closed, threaded_all}
+use Rattle.sd_states.specs.BuildingOf.{threaded_of, standing_of}
+use Rattle.sd_states.specs.Standing.{behind_all}
+use Rattle.sd_states.specs.Threaded.{closed, threaded_all}
 use Rattle.sd_elab.proofs.FunctionLemmas.{states_made, containers_kept}
 use Rattle.sd_elab.proofs.function.built.Goals as goal
 

@@ -11,9 +11,9 @@ use Rattle.sd_graph.proofs.TreeLemmas.{state_rolled, map_grown}
 use Rattle.sd_lex.specs.TreeFold.{block_of}
 use Rattle.sd_lex.specs.declared.syntax.statement.Statement.{Statement}
 use Rattle.sd_program.specs.Declared.{states_in_all}
-use Rattle.sd_elab.specs.Exits.{plainly}
-use Rattle.sd_elab.specs.Standing.{Standing, state_behind}
-use Rattle.sd_elab.specs.Threaded.{Threaded, closed, join_of, else_begun, in_else}
+use Rattle.sd_states.specs.Exits.{plainly}
+use Rattle.sd_states.specs.Standing.{Standing, state_behind}
+use Rattle.sd_states.specs.Threaded.{Threaded, closed, join_of, else_begun, in_else}
 
 -- one more state
 pub states_closed : (states : List State) (state : State-F ItemKind Item Sdfg State) →

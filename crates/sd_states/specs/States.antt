@@ -8,9 +8,9 @@ use Rattle.sd_program.specs.Names.{Name}
 use Rattle.sd_in_force.specs.Ranges.{affine_or}
 use Rattle.sd_task.specs.ElementCode.{guard_of, below}
 use Rattle.sd_items.specs.Items.{items_with}
-use Rattle.sd_elab.specs.Exits.{plainly, setting, if_holds, back_to, stepped_on}
+use Rattle.sd_states.specs.Exits.{plainly, setting, if_holds, back_to, stepped_on}
 use Rattle.sd_program.specs.Declared.{states_in, states_in_all}
-use Rattle.sd_elab.specs.Standing.{Standing, behind, behind_all, state_behind, with_loop_variable}
+use Rattle.sd_states.specs.Standing.{Standing, behind, behind_all, state_behind, with_loop_variable}
 
 -- calls are of these graphs
 module _ (graphs : Name → GraphTree) where

@@ -9,10 +9,10 @@ use Rattle.sd_items.specs.Counts.{variables_in}
 use Rattle.sd_in_force.specs.SmallExtents.{HaveSmallExtents}
 use Rattle.sd_in_force.specs.Stack.{without_newest}
 use Rattle.sd_task.specs.Table.{with_container}
-use Rattle.sd_elab.specs.Standing.{Standing}
-use Rattle.sd_elab.specs.Threaded.{Threaded}
+use Rattle.sd_states.specs.Standing.{Standing}
+use Rattle.sd_states.specs.Threaded.{Threaded}
 use Rattle.sd_task.specs.TableOf.{table_of}
-use Rattle.sd_elab.specs.declared.building.Building.{Building}
+use Rattle.sd_states.specs.declared.building.Building.{Building}
 
 abbrev pub threaded_of : Building → Threaded
 threaded_of building = record { finished = map state_tree building.finished.items; items = item_trees building.items.items }

@@ -8,9 +8,9 @@ use Rattle.sd_items.specs.Counts.{variables_in_all}
 use Rattle.sd_items.specs.NamesBehind.{table_behind_state, table_behind_all}
 use Rattle.sd_in_force.specs.Stack.{without_newest}
 use Rattle.sd_task.specs.Table.{Table}
-use Rattle.sd_elab.specs.Standing.{Standing, behind, behind_all, state_behind, with_loop_variable}
-use Rattle.sd_elab.specs.BuildingOf.{without_loop_variable}
-use Rattle.sd_elab.specs.Threaded.{in_else}
+use Rattle.sd_states.specs.Standing.{Standing, behind, behind_all, state_behind, with_loop_variable}
+use Rattle.sd_states.specs.BuildingOf.{without_loop_variable}
+use Rattle.sd_states.specs.Threaded.{in_else}
 
 -- ---- tables
 

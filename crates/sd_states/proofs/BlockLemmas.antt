@@ -9,9 +9,9 @@ use Rattle.sd_program.specs.Declared.{states_in, states_in_all, containers_in, c
 use Rattle.sd_program.specs.IsAffine.{IsAffine}
 use Rattle.sd_program.specs.Names.{Name}
 use Rattle.sd_items.specs.Counts.{variables_in, variables_in_all}
-use Rattle.sd_elab.specs.Standing.{Standing, behind, behind_all}
-use Rattle.sd_elab.specs.Threaded.{Threaded, threaded, threaded_all}
-use Rattle.sd_elab.proofs.StandingLemmas.{same_standing, in_two_blocks}
+use Rattle.sd_states.specs.Standing.{Standing, behind, behind_all}
+use Rattle.sd_states.specs.Threaded.{Threaded, threaded, threaded_all}
+use Rattle.sd_states.proofs.StandingLemmas.{same_standing, in_two_blocks}
 
 -- the statements from one on
 pub block_more : (body : List Statement) (i : ℕ) (statement : Statement) → i < length body → statement ≡ slice_index_or body i statement →

@@ -6,10 +6,10 @@ use Rattle.sd_program.specs.Bounds.{EachBound}
 use Rattle.sd_program.specs.Every.{EveryIn}
 use Rattle.sd_program.specs.IsAffine.{IsAffine}
 use Rattle.sd_program.specs.Small.{IsSmall}
-use Rattle.sd_elab.specs.BuildingOf.{threaded_of, standing_of, HasSmallContainers}
-use Rattle.sd_elab.specs.Standing.{behind_all}
-use Rattle.sd_elab.specs.Threaded.{threaded_all}
-use Rattle.sd_elab.proofs.thread.+thread.Given as goal
+use Rattle.sd_states.specs.BuildingOf.{threaded_of, standing_of, HasSmallContainers}
+use Rattle.sd_states.specs.Standing.{behind_all}
+use Rattle.sd_states.specs.Threaded.{threaded_all}
+use Rattle.sd_states.proofs.thread.+thread.Given as goal
 
 -- from here on the same as from the begin
 abbrev pub invariant-thread_all-loop-statement : goal.invariant-thread_all-loop-statement

@@ -6,9 +6,9 @@ ghost use Rattle.sd_program.specs.Bounds.{EachBound};
 ghost use Rattle.sd_program.specs.Every.{Every, EveryIn};
 ghost use Rattle.sd_program.specs.IsAffine.{IsAffine};
 ghost use Rattle.sd_program.specs.Small.{IsSmall};
-ghost use Rattle.sd_elab.specs.BuildingOf.{threaded_of, standing_of, HasSmallContainers};
-ghost use Rattle.sd_elab.specs.Standing as definition;
-ghost use Rattle.sd_elab.specs.Threaded as states;
+ghost use Rattle.sd_states.specs.BuildingOf.{threaded_of, standing_of, HasSmallContainers};
+ghost use Rattle.sd_states.specs.Standing as definition;
+ghost use Rattle.sd_states.specs.Threaded as states;
 
 use crate::building::Building;
 use sd_items::Graphs;
@@ -77,7 +77,7 @@ fn thread(
 
 /// Adds the states of several statements.
 #[cycle(thread)]
-pub(crate) fn thread_all(
+pub fn thread_all(
     alloc: Global,
     graphs: &Graphs,
     building: &mut Building,

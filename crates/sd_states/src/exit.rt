@@ -1,6 +1,6 @@
 ghost use Rattle.std.specs.Prelude.{◌≡◌, [], ◌∷◌, IfOk};
 ghost use Rattle.sd_graph.specs.TreeFold.{exit_tree, guard_tree};
-ghost use Rattle.sd_elab.specs.Exits as definition;
+ghost use Rattle.sd_states.specs.Exits as definition;
 
 use sd_graph::{Exit, Guard};
 use sd_list::{NoMemory, Sequence};

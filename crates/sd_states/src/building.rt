@@ -11,11 +11,10 @@ ghost use Rattle.sd_items.specs.GraphsByNumber.{graphs_of};
 ghost use Rattle.sd_items.specs.Items.{items_with};
 ghost use Rattle.sd_task.specs.ElementCode.{guard_of, below};
 ghost use Rattle.sd_in_force.specs.Ranges.{affine_or};
-ghost use Rattle.sd_task.specs.TableOf.{table_of};
-ghost use Rattle.sd_elab.specs.BuildingOf.{threaded_of, standing_of, HasSmallContainers, argument_passed, declared, item_behind, without_loop_variable};
-ghost use Rattle.sd_elab.specs.Exits as exits;
-ghost use Rattle.sd_elab.specs.Standing.{state_behind, with_loop_variable};
-ghost use Rattle.sd_elab.specs.Threaded.{closed, holding, to_block, join_of, in_else, else_begun};
+ghost use Rattle.sd_states.specs.BuildingOf.{threaded_of, standing_of, HasSmallContainers, argument_passed, declared, item_behind, without_loop_variable};
+ghost use Rattle.sd_states.specs.Exits as exits;
+ghost use Rattle.sd_states.specs.Standing.{state_behind, with_loop_variable};
+ghost use Rattle.sd_states.specs.Threaded.{closed, holding, to_block, join_of, in_else, else_begun};
 
 use crate::count::states_in_all;
 use crate::exit::{back_to, if_holds, plainly, setting, step_back};
@@ -31,17 +30,17 @@ use std::alloc::Global;
 ///
 /// `state` and `numbers` are the numbers that come next.
 #[derive(Drop)]
-pub(crate) struct Building {
-    pub(crate) finished: Vec<State>,
-    pub(crate) items: Vec<Item>,
-    pub(crate) state: u32,
-    pub(crate) numbers: Numbers,
-    pub(crate) names: Names,
+pub struct Building {
+    pub finished: Vec<State>,
+    pub items: Vec<Item>,
+    pub state: u32,
+    pub numbers: Numbers,
+    pub names: Names,
 }
 
 impl Building {
     /// The current state has these exits; the next one has no item.
-    pub(crate) fn close(&mut self, alloc: Global, exits: Vec<Exit>) -> Result<(), NoMemory>
+    pub fn close(&mut self, alloc: Global, exits: Vec<Exit>) -> Result<(), NoMemory>
         ensures threaded { OnOk result (threaded_of self.new ≡ closed (threaded_of self.old) (map exit_tree exits.items)) }
         ensures standing { OnOk result (standing_of self.new ≡ state_behind (standing_of self.old)) }
     {

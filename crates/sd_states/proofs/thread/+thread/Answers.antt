@@ -8,12 +8,12 @@ use Rattle.sd_program.specs.Bounds.{EachBound}
 use Rattle.sd_program.specs.Every.{Every}
 use Rattle.sd_program.specs.IsAffine.{IsAffine}
 use Rattle.sd_program.specs.Small.{IsSmall}
-use Rattle.sd_elab.specs.BuildingOf.{threaded_of, standing_of}
-use Rattle.sd_elab.specs.Standing.{behind}
-use Rattle.sd_elab.proofs.BlockLemmas.{block_more, threaded_more, behind_more, affine_subscripts}
-use Rattle.sd_elab.proofs.StandingLemmas.{for_behind}
-use Rattle.sd_elab.proofs.StatementTrees.{for_tree}
-use Rattle.sd_elab.proofs.thread.+thread.Goals as goal
+use Rattle.sd_states.specs.BuildingOf.{threaded_of, standing_of}
+use Rattle.sd_states.specs.Standing.{behind}
+use Rattle.sd_states.proofs.BlockLemmas.{block_more, threaded_more, behind_more, affine_subscripts}
+use Rattle.sd_states.proofs.StandingLemmas.{for_behind}
+use Rattle.sd_states.proofs.StatementTrees.{for_tree}
+use Rattle.sd_states.proofs.thread.+thread.Goals as goal
 
 -- the end of a `for` loop
 pub thread-loop_to-requires : goal.thread-loop_to-requires

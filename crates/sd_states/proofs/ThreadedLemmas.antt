@@ -8,10 +8,10 @@ use Rattle.sd_program.specs.Names.{Name}
 use Rattle.sd_program.specs.Declared.{states_in, states_in_all}
 use Rattle.sd_in_force.specs.Ranges.{affine_or}
 use Rattle.sd_task.specs.ElementCode.{guard_of, below}
-use Rattle.sd_elab.specs.Exits.{plainly, setting, back_to, stepped_on}
-use Rattle.sd_elab.specs.Standing.{Standing, behind, behind_all, state_behind, with_loop_variable}
-use Rattle.sd_elab.specs.States.{chained, chained_all, chained_other}
-use Rattle.sd_elab.specs.Threaded.{Threaded, closed, to_block, join_of, in_else, else_begun, threaded, threaded_all}
+use Rattle.sd_states.specs.Exits.{plainly, setting, back_to, stepped_on}
+use Rattle.sd_states.specs.Standing.{Standing, behind, behind_all, state_behind, with_loop_variable}
+use Rattle.sd_states.specs.States.{chained, chained_all, chained_other}
+use Rattle.sd_states.specs.Threaded.{Threaded, closed, to_block, join_of, in_else, else_begun, threaded, threaded_all}
 
 -- what was made so far, then one member more and the rest
 grouped : (before : List PlainState) (state : PlainState) (rest : List PlainState) → (before ++ state ∷ []) ++ rest ≡ before ++ state ∷ rest

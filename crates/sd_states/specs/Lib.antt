@@ -1,0 +1,5 @@
+pub mod Exits
+pub mod Standing
+pub mod States
+pub mod Threaded
+pub mod BuildingOf
