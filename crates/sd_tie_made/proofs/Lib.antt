@@ -1,0 +1,2 @@
+pub mod StatesFound
+pub mod MadeTied
