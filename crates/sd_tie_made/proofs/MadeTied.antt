@@ -1,25 +1,21 @@
 -- The states of statements stand as they are made.
-use Rattle.std.proofs.Common.{◌≡◌, ◌∙◌, ℕ, suc, ◌+◌, List, [], ◌∷◌, ◌++◌, length, Option, ℤ, false, refl, ap, sym, subst, arith}
-use Rattle.std.specs.Bool.{⊤}
-use Rattle.sd_lex.specs.PlainTree.{Expression, StatementTree, argument_array, local_array, local_stream, assign, copy, reduce, map_scope, tasklet, consume_scope, call, for_loop, while_loop, branch, input, output, set, set_at, tasklet_branch, Block, no_statement, and_statement}
-use Rattle.sd_range.specs.Arithmetic.{affine_zero}
+use Rattle.std.proofs.Common.{◌≡◌, ◌∙◌, ℕ, ◌+◌, List, [], ◌∷◌, ◌++◌, Option, ℤ, false, refl, subst, arith}
+use Rattle.sd_lex.specs.PlainTree.{Expression, StatementTree, argument_array, local_array, local_stream, for_loop, while_loop, branch, Block, no_statement, and_statement}
 use Rattle.sd_graph.specs.PlainTree.{StateTrees, ItemTrees, no_item, ExitTree, GraphTree}
 use Rattle.sd_graph.specs.TreeFold.{PlainState}
 use Rattle.sd_graph.specs.TreeParts.{items_at, exits_at}
 use Rattle.sd_program.specs.Names.{Name}
-use Rattle.sd_program.specs.Declared.{states_in, states_in_all, states_in_other}
-use Rattle.sd_in_force.specs.Ranges.{affine_or}
+use Rattle.sd_program.specs.Declared.{states_in, states_in_all}
 use Rattle.sd_items.specs.Items.{items_with}
-use Rattle.sd_elab.specs.Exits.{plainly, setting, back_to, stepped_on}
+use Rattle.sd_elab.specs.Exits.{plainly, back_to, stepped_on}
 use Rattle.sd_elab.specs.Standing.{Standing, behind, behind_all, state_behind, with_loop_variable}
-use Rattle.sd_elab.specs.States.{chained, chained_all, chained_other}
+use Rattle.sd_elab.specs.States.{chained, chained_all}
 use Rattle.sd_elab_laws.proofs.StateCounts.{all_counted}
-use Rattle.sd_tie_states.specs.Made.{IsMade, AreMade, IsOtherMade}
-use Rattle.sd_tie_made.specs.Shown.{ShowsOne, ShowsAll, ShowsOther}
-use Rattle.sd_tie_made.proofs.StatesFound.{IsState, Has, has_first, has_second, BeginsWith, Begins, one_begins, all_begins, begin_items}
+use Rattle.sd_tie_states.specs.Made.{IsMade, AreMade}
+use Rattle.sd_tie_made.specs.Shown.{ShowsOne, ShowsAll}
+use Rattle.sd_tie_made.proofs.StatesFound.{Has, has_first, has_second, Begins, all_begins, begin_items}
 
 module _ (graphs : Name → GraphTree) (states : StateTrees) (shows : ℕ → List ℕ) where
-
   -- what a statement makes from a current state on, and what stands behind it
   abbrev OneMade : StatementTree → Type 0
   OneMade first =
@@ -55,13 +51,25 @@ module _ (graphs : Name → GraphTree) (states : StateTrees) (shows : ℕ → Li
       let in_body : Has states inside.state A = has_first states (at.state + 1 + 1) A (rest no_item) h.1.1 in
       let made = all inside no_item back loops (at.state + 1) in_body s.2 refl in
       let after : Has states (at.state + (2 + states_in_all body + 1)) (rest no_item) =
-          subst (λ number. Has states number (rest no_item)) (omega (arith, all_counted graphs body inside no_item back)) (has_second states (at.state + 1 + 1) A (rest no_item) h.1.1) in
-      let last : m + 1 ≡ at.state + (2 + states_in_all body + 1) = omega arith in
-      (m, last,
-      (at.state, at.state + 1, made.0, (h.0 n e).1, ((h.1.0 at.state refl).0, s.0), (h.1.0 at.state refl).1,
-      (begin_items states (at.state + 1 + 1) no_item A (all_begins graphs body inside no_item back) in_body (at.state + 1) refl, s.1), made.2, made.3,
-      (begin_items states (at.state + (2 + states_in_all body + 1)) no_item (rest no_item) (begins no_item) after m last, s.3)),
-      no_item, after)
+      subst (λ number. Has states number (rest no_item)) (omega (arith, all_counted graphs body inside no_item back)) (has_second states (at.state + 1 + 1) A (rest no_item) h.1.1) in
+      let last : m + 1 ≡ at.state + (2 + states_in_all body + 1) = omega arith in (
+        m,
+        last,
+        (
+          at.state,
+          at.state + 1,
+          made.0,
+          (h.0 n e).1,
+          ((h.1.0 at.state refl).0, s.0),
+          (h.1.0 at.state refl).1,
+          (begin_items states (at.state + 1 + 1) no_item A (all_begins graphs body inside no_item back) in_body (at.state + 1) refl, s.1),
+          made.2,
+          made.3,
+          (begin_items states (at.state + (2 + states_in_all body + 1)) no_item (rest no_item) (begins no_item) after m last, s.3),
+        ),
+        no_item,
+        after,
+      )
 
   for_made : (line : ℕ) (name : Name) (begin : Option Expression) (end : Expression) (step : Option ℤ) (body : Block) → AllMade body → OneMade (for_loop line name begin end step body)
   for_made line name begin end step body all at items rest loops n begins h s e =
@@ -72,13 +80,25 @@ module _ (graphs : Name → GraphTree) (states : StateTrees) (shows : ℕ → Li
       let in_body : Has states inside.state A = has_first states (at.state + 1 + 1) A (rest no_item) h.1.1 in
       let made = all inside no_item back (loops ++ at.variable ∷ []) (at.state + 1) in_body s.2 refl in
       let after : Has states (at.state + (2 + states_in_all body + 1)) (rest no_item) =
-          subst (λ number. Has states number (rest no_item)) (omega (arith, all_counted graphs body inside no_item back)) (has_second states (at.state + 1 + 1) A (rest no_item) h.1.1) in
-      let last : m + 1 ≡ at.state + (2 + states_in_all body + 1) = omega arith in
-      (m, last,
-      (at.state, at.state + 1, made.0, (h.0 n e).1, ((h.1.0 at.state refl).0, s.0), (h.1.0 at.state refl).1,
-      (begin_items states (at.state + 1 + 1) no_item A (all_begins graphs body inside no_item back) in_body (at.state + 1) refl, s.1), made.2, made.3,
-      (begin_items states (at.state + (2 + states_in_all body + 1)) no_item (rest no_item) (begins no_item) after m last, s.3)),
-      no_item, after)
+      subst (λ number. Has states number (rest no_item)) (omega (arith, all_counted graphs body inside no_item back)) (has_second states (at.state + 1 + 1) A (rest no_item) h.1.1) in
+      let last : m + 1 ≡ at.state + (2 + states_in_all body + 1) = omega arith in (
+        m,
+        last,
+        (
+          at.state,
+          at.state + 1,
+          made.0,
+          (h.0 n e).1,
+          ((h.1.0 at.state refl).0, s.0),
+          (h.1.0 at.state refl).1,
+          (begin_items states (at.state + 1 + 1) no_item A (all_begins graphs body inside no_item back) in_body (at.state + 1) refl, s.1),
+          made.2,
+          made.3,
+          (begin_items states (at.state + (2 + states_in_all body + 1)) no_item (rest no_item) (begins no_item) after m last, s.3),
+        ),
+        no_item,
+        after,
+      )
 
   -- an `if` without `else`
   if_made : (line : ℕ) (when : Expression) (body : Block) → AllMade body → OneMade (branch line when body no_statement)
@@ -89,13 +109,27 @@ module _ (graphs : Name → GraphTree) (states : StateTrees) (shows : ℕ → Li
       let in_body : Has states inner.state A = has_first states (at.state + 1) A (rest no_item) h.1 in
       let made = all inner no_item (plainly join ∷ []) loops at.state in_body s.1 refl in
       let after : Has states (at.state + (1 + states_in_all body + 1)) (rest no_item) =
-          subst (λ number. Has states number (rest no_item)) (omega (arith, all_counted graphs body inner no_item (plainly join ∷ []))) (has_second states (at.state + 1) A (rest no_item) h.1) in
+      subst (λ number. Has states number (rest no_item)) (omega (arith, all_counted graphs body inner no_item (plainly join ∷ []))) (has_second states (at.state + 1) A (rest no_item) h.1) in
       let last : join + 1 ≡ at.state + (1 + states_in_all body + 1) = omega arith in
-      let idle : items_at states join ≡ no_item = begin_items states (at.state + (1 + states_in_all body + 1)) no_item (rest no_item) (begins no_item) after join last in
-      (join, last,
-      (at.state, made.0, join, 0, (h.0 n e).1, (begin_items states (at.state + 1) no_item A (all_begins graphs body inner no_item (plainly join ∷ [])) in_body at.state refl, s.0), made.2, made.3,
-      (idle, s.2), refl, (idle, s.2)),
-      no_item, after)
+      let idle : items_at states join ≡ no_item = begin_items states (at.state + (1 + states_in_all body + 1)) no_item (rest no_item) (begins no_item) after join last in (
+        join,
+        last,
+        (
+          at.state,
+          made.0,
+          join,
+          0,
+          (h.0 n e).1,
+          (begin_items states (at.state + 1) no_item A (all_begins graphs body inner no_item (plainly join ∷ [])) in_body at.state refl, s.0),
+          made.2,
+          made.3,
+          (idle, s.2),
+          refl,
+          (idle, s.2),
+        ),
+        no_item,
+        after,
+      )
 
   -- an `if` with an `else`
   if_else_made : (line : ℕ) (when : Expression) (body : Block) (first : StatementTree) (others : Block) → AllMade body → AllMade (and_statement first others) → OneMade (branch line when body (and_statement first others))
@@ -110,18 +144,30 @@ module _ (graphs : Name → GraphTree) (states : StateTrees) (shows : ℕ → Li
       let in_body : Has states inner.state A = has_first states (at.state + 1) A (B ++ rest no_item) h.1 in
       let made = all_body inner no_item (plainly join ∷ []) loops at.state in_body s.1 refl in
       let behind_body : Has states (second + 1) (B ++ rest no_item) =
-          subst (λ number. Has states number (B ++ rest no_item)) (omega (arith, all_counted graphs body inner no_item (plainly join ∷ []))) (has_second states (at.state + 1) A (B ++ rest no_item) h.1) in
+      subst (λ number. Has states number (B ++ rest no_item)) (omega (arith, all_counted graphs body inner no_item (plainly join ∷ []))) (has_second states (at.state + 1) A (B ++ rest no_item) h.1) in
       let in_other : Has states outer.state B = has_first states (second + 1) B (rest no_item) behind_body in
       let made_other = all_other outer no_item (plainly join ∷ []) loops second in_other s.2.1 refl in
       let after : Has states (at.state + (1 + states_in_all body + (1 + states_in_all other + 1))) (rest no_item) =
-          subst (λ number. Has states number (rest no_item)) (omega (arith, all_counted graphs other outer no_item (plainly join ∷ []))) (has_second states (second + 1) B (rest no_item) behind_body) in
-      let last : join + 1 ≡ at.state + (1 + states_in_all body + (1 + states_in_all other + 1)) = omega arith in
-      (join, last,
-      (at.state, made.0, second, made_other.0, (h.0 n e).1, (begin_items states (at.state + 1) no_item A (all_begins graphs body inner no_item (plainly join ∷ [])) in_body at.state refl, s.0), made.2, made.3,
-      (begin_items states (second + 1) no_item B (all_begins graphs other outer no_item (plainly join ∷ [])) in_other second refl, s.2.0),
-      (made_other.2.0, made_other.2.1, made_other.2.2, made_other.3),
-      (begin_items states (at.state + (1 + states_in_all body + (1 + states_in_all other + 1))) no_item (rest no_item) (begins no_item) after join last, s.2.2)),
-      no_item, after)
+      subst (λ number. Has states number (rest no_item)) (omega (arith, all_counted graphs other outer no_item (plainly join ∷ []))) (has_second states (second + 1) B (rest no_item) behind_body) in
+      let last : join + 1 ≡ at.state + (1 + states_in_all body + (1 + states_in_all other + 1)) = omega arith in (
+        join,
+        last,
+        (
+          at.state,
+          made.0,
+          second,
+          made_other.0,
+          (h.0 n e).1,
+          (begin_items states (at.state + 1) no_item A (all_begins graphs body inner no_item (plainly join ∷ [])) in_body at.state refl, s.0),
+          made.2,
+          made.3,
+          (begin_items states (second + 1) no_item B (all_begins graphs other outer no_item (plainly join ∷ [])) in_other second refl, s.2.0),
+          (made_other.2.0, made_other.2.1, made_other.2.2, made_other.3),
+          (begin_items states (at.state + (1 + states_in_all body + (1 + states_in_all other + 1))) no_item (rest no_item) (begins no_item) after join last, s.2.2),
+        ),
+        no_item,
+        after,
+      )
 
   both_made : (first : StatementTree) (rest : Block) → OneMade first → AllMade rest → AllMade (and_statement first rest)
   both_made first rest one all at items exits loops n h s e =

@@ -1,15 +1,13 @@
 -- The states of a graph, state by state.
-use Rattle.std.proofs.Common.{◌≡◌, ◌∙◌, ℕ, zero, suc, ◌+◌, List, [], ◌∷◌, ◌++◌, length, refl, ap, sym, subst, arith, length-append}
+use Rattle.std.proofs.Common.{◌≡◌, ℕ, zero, suc, ◌+◌, List, [], ◌∷◌, ◌++◌, length, refl, subst, arith}
 use Rattle.std.specs.Bool.{⊤}
-use Rattle.sd_lex.specs.PlainTree.{StatementTree, argument_array, local_array, local_stream, assign, copy, reduce, map_scope, tasklet, consume_scope, call, for_loop, while_loop, branch, input, output, set, set_at, tasklet_branch, Block, no_statement, and_statement}
-use Rattle.sd_graph.specs.PlainTree.{StateTrees, ItemTrees, no_item, ExitTree, GraphTree}
+use Rattle.sd_lex.specs.PlainTree.{StatementTree, argument_array, local_array, local_stream, for_loop, while_loop, branch, Block, no_statement, and_statement}
+use Rattle.sd_graph.specs.PlainTree.{StateTrees, ItemTrees, ExitTree, GraphTree}
 use Rattle.sd_graph.specs.TreeFold.{PlainState, states_listed}
 use Rattle.sd_graph.specs.TreeParts.{items_at, exits_at}
 use Rattle.sd_program.specs.Names.{Name}
-use Rattle.sd_program.specs.Declared.{states_in, states_in_all, states_in_other}
-use Rattle.sd_elab.specs.Exits.{plainly, back_to, stepped_on}
-use Rattle.sd_elab.specs.Standing.{Standing, behind, behind_all, state_behind, with_loop_variable}
-use Rattle.sd_elab.specs.States.{chained, chained_all, chained_other}
+use Rattle.sd_elab.specs.Standing.{Standing, behind}
+use Rattle.sd_elab.specs.States.{chained, chained_all}
 
 -- the state of this number has these items and transitions
 abbrev pub IsState : StateTrees → ℕ → PlainState → Type 0

@@ -15,6 +15,6 @@ pub fn the_states_of_a_block_stand_as_they_are_made()
     ensures { (symbols : List Name) (graphs : Name → GraphTree) (function : FunctionTree) (shows : ℕ → List ℕ)
         → ShowsAll shows function.body 1 (start_of symbols function).variable []
         → (last : ℕ) × AreMade graphs (states_listed (states_of_function symbols graphs function)) shows function.body
-            (start_of symbols function).table (start_of symbols function).container (start_of symbols function).variable [] 0 last
-            × (exits_at (states_listed (states_of_function symbols graphs function)) last ≡ []) }
+        (start_of symbols function).table (start_of symbols function).container (start_of symbols function).variable [] 0 last
+        × (exits_at (states_listed (states_of_function symbols graphs function)) last ≡ []) }
 {}

@@ -63,8 +63,7 @@ use Rattle.sd_tie_states.specs.Made.{IsMade, AreMade, IsOtherMade}
 use Rattle.sd_tie_states.proofs.Courses.{comes_step, comes_then, comes_stop, state_items, assigned_values, there, run_from, Ends, state_does, takes_exit, set_ends, plain_ends, marked_ends, marked_spent, Passed, true_ends, false_ends, fault_ends}
 
 module _ (sizes : List ℤ) (graphs : Name → GraphTree) (callable : Place → StatementTree → Type 0) (calls : Calls) (all : List Declaration) (calls_follow : CallsDo sizes graphs callable calls)
-  (containers : Containers) (names : List Name) (states : StateTrees) (reach : ℕ → Reach) (around : List Frame) (first_own : ℕ) (owns : (n : ℕ) → first_own ≤ n → reach n ≡ own_reach containers n) where
-
+    (containers : Containers) (names : List Name) (states : StateTrees) (reach : ℕ → Reach) (around : List Frame) (first_own : ℕ) (owns : (n : ℕ) → first_own ≤ n → reach n ≡ own_reach containers n) where
   abbrev at : List ℕ → Values → Context
   at loops values = here sizes containers names states reach around loops values
 
@@ -89,7 +88,8 @@ module _ (sizes : List ℤ) (graphs : Name → GraphTree) (callable : Place → 
             variables = h.stands.tied.variables ∙ made_below v (variable_value (sized sizes values)) (variable_value (sized sizes other)) (λ n b. sym (sized_agree sizes v other values same n b)) table.variables h.stands.variables_below;
             shown = h.stands.tied.shown ∙ sym (named_agree names v other values same loops h.loops_below);
             around = h.stands.tied.around;
-            extents = h.stands.extents other };
+            extents = h.stands.extents other;
+          };
           numbered = h.stands.numbered;
           containers = h.stands.containers;
           extents = h.stands.extents;
@@ -97,18 +97,29 @@ module _ (sizes : List ℤ) (graphs : Name → GraphTree) (callable : Place → 
           bare = h.stands.bare;
           containers_below = h.stands.containers_below;
           variables_below = h.stands.variables_below;
-          sizes_below = h.stands.sizes_below };
+          sizes_below = h.stands.sizes_below;
+        };
         loops_below = h.loops_below;
-        own = h.own }
+        own = h.own;
+      }
 
   standing_wider : (known : Named Holder) (c v more : ℕ) (loops : List ℕ) (table : Table) (told : Setting) (values : Values) → Standing known c v loops table told values → Standing known c (v + more) loops table told values
   standing_wider known c v more loops table told values h =
       record {
         stands = record {
-          tied = h.stands.tied; numbered = h.stands.numbered; containers = h.stands.containers; extents = h.stands.extents; declared = h.stands.declared; bare = h.stands.bare;
-          containers_below = h.stands.containers_below; variables_below = below_more v (v + more) table.variables (omega arith) h.stands.variables_below; sizes_below = omega (arith, h.stands.sizes_below) };
+          tied = h.stands.tied;
+          numbered = h.stands.numbered;
+          containers = h.stands.containers;
+          extents = h.stands.extents;
+          declared = h.stands.declared;
+          bare = h.stands.bare;
+          containers_below = h.stands.containers_below;
+          variables_below = below_more v (v + more) table.variables (omega arith) h.stands.variables_below;
+          sizes_below = omega (arith, h.stands.sizes_below);
+        };
         loops_below = all_more v (v + more) loops (omega arith) h.loops_below;
-        own = h.own }
+        own = h.own;
+      }
 
   standing_declared : (known : Named Holder) (c v : ℕ) (loops : List ℕ) (table : Table) (told : Setting) (values : Values) (name : Name) (holder : Holder) → Standing known c v loops table told values →
       Standing ((name, holder) ∷ known) (c + 1) v loops (tables.with_container name c table) (settings.with_container name (own_held all c) told) values
@@ -122,10 +133,19 @@ module _ (sizes : List ℤ) (graphs : Name → GraphTree) (callable : Place → 
   standing_more known c v more loops table told values h =
       record {
         stands = record {
-          tied = h.stands.tied; numbered = h.stands.numbered; containers = h.stands.containers; extents = h.stands.extents; declared = h.stands.declared; bare = h.stands.bare;
-          containers_below = below_more c (c + more) table.containers (omega arith) h.stands.containers_below; variables_below = h.stands.variables_below; sizes_below = h.stands.sizes_below };
+          tied = h.stands.tied;
+          numbered = h.stands.numbered;
+          containers = h.stands.containers;
+          extents = h.stands.extents;
+          declared = h.stands.declared;
+          bare = h.stands.bare;
+          containers_below = below_more c (c + more) table.containers (omega arith) h.stands.containers_below;
+          variables_below = h.stands.variables_below;
+          sizes_below = h.stands.sizes_below;
+        };
         loops_below = h.loops_below;
-        own = omega (arith, h.own) }
+        own = omega (arith, h.own);
+      }
 
   not_here : (statement : StatementTree) (place : Place) → place.around ≡ program → StandsIn place.around statement → StandsIn program statement
   not_here statement place e h = subst (λ kind. StandsIn kind statement) e h
@@ -177,7 +197,8 @@ module _ (sizes : List ℤ) (graphs : Name → GraphTree) (callable : Place → 
             variables = (λ i. (name, sym (other_value sizes other v k.stands.sizes_below ∙ g) i) ∷ k.stands.tied.variables i);
             shown = (λ i. k.stands.tied.shown i ++ (sym e i, sym g i) ∷ []) ∙ sym (map-append (λ variable. (slice_index_or names variable [], variable_value other variable)) loops (v ∷ []));
             around = k.stands.tied.around;
-            extents = k.stands.tied.extents };
+            extents = k.stands.tied.extents;
+          };
           numbered = k.stands.numbered;
           containers = k.stands.containers;
           extents = k.stands.extents;
@@ -185,9 +206,11 @@ module _ (sizes : List ℤ) (graphs : Name → GraphTree) (callable : Place → 
           bare = k.stands.bare;
           containers_below = k.stands.containers_below;
           variables_below = (omega arith, below_more v (v + 1) table.variables (omega arith) k.stands.variables_below);
-          sizes_below = omega (arith, k.stands.sizes_below) };
+          sizes_below = omega (arith, k.stands.sizes_below);
+        };
         loops_below = all_last v loops k.loops_below;
-        own = k.own }
+        own = k.own;
+      }
 
   -- ---- how a run goes
 
@@ -252,10 +275,13 @@ module _ (sizes : List ℤ) (graphs : Name → GraphTree) (callable : Place → 
 
   item_ends : (c n v : ℕ) (values : Values) (memories : Memories) (turns : ℕ) → exits_at states c ≡ plainly n ∷ [] → (o : Outcome graph_place.Place Reached) →
       Follows (λ m. doing m n values memories turns) o → GoesOn c n v values memories turns o
-  item_ends c n v values memories turns w (Done now) h =
-      (values, (λ x b. refl), (λ o g.
-      comes_step (run c values memories turns) _ (λ e m. takes_exit sizes containers names states reach around c values memories turns (plainly n ∷ []) w e m) o
-      (comes_then (λ m. doing m n values memories turns) (λ e m memories turns. run n values memories turns e m) now o h g)))
+  item_ends c n v values memories turns w (Done now) h = (
+    values,
+    (λ x b. refl),
+    (λ o g.
+        comes_step (run c values memories turns) _ (λ e m. takes_exit sizes containers names states reach around c values memories turns (plainly n ∷ []) w e m) o
+        (comes_then (λ m. doing m n values memories turns) (λ e m memories turns. run n values memories turns e m) now o h g)),
+  )
   item_ends c n v values memories turns w (Faulted fault) h =
       comes_step (run c values memories turns) _ (λ e m. takes_exit sizes containers names states reach around c values memories turns (plainly n ∷ []) w e m) (Faulted fault)
       (comes_stop (λ m. doing m n values memories turns) (λ e m memories turns. run n values memories turns e m) (Faulted fault) tt h)
@@ -283,7 +309,7 @@ module _ (sizes : List ℤ) (graphs : Name → GraphTree) (callable : Place → 
       (memories : Memories) (turns : ℕ) (o : Outcome graph_place.Place Reached) → says_item calls all first false c told most memories turns ≡ Some o → GoesOn from to v values memories turns o
   item_goes first most place c v loops from to table told values standing naming elements fits scoped made memories turns o h =
       let f = item_follows sizes graphs callable calls all calls_follow first false most place c v table told (at loops values) standing.stands scoped naming elements fits no_item reached
-          (λ memories turns o g. at-once (reached memories turns) o g) memories turns o (ends-with-nothing (says_item calls all first false c told most memories turns) ∙ h) in
+      (λ memories turns o g. at-once (reached memories turns) o g) memories turns o (ends-with-nothing (says_item calls all first false c told most memories turns) ∙ h) in
       item_ends from to v values memories turns made.0 o (f.0, λ j. does_is to values loops (items_with graphs first false table c v no_item) made.1 made.2 (f.0 + j) memories turns ∙ f.1 j)
 
   -- the loop variables that show stay the same
@@ -356,13 +382,13 @@ module _ (sizes : List ℤ) (graphs : Name → GraphTree) (callable : Place → 
       let other_names = subst (λ k. StandsAt [] names (variables_named_all other) (v + k)) (name_count_all body) (names_rest names (variables_named_all body) (variables_named_all other) v naming) in
       let behind_body : Setting = said.behind_all all body c told in
       let first : (o : Outcome graph_place.Place Reached) → says_block calls all body c told most memories turns ≡ Some o → GoesOn made.0 to v values memories turns o =
-          λ o g. goes_on made.0 made.1 to v values memories turns o (plain_to made.1 to made.7 made.10.0)
-          (body_go place c v loops made.0 made.1 table told values e standing body_names elements.0 fits.1.0 made.6 made.5.1 memories turns o g) in
+      λ o g. goes_on made.0 made.1 to v values memories turns o (plain_to made.1 to made.7 made.10.0)
+      (body_go place c v loops made.0 made.1 table told values e standing body_names elements.0 fits.1.0 made.6 made.5.1 memories turns o g) in
       let second : (o : Outcome graph_place.Place Reached) → says_block calls all other (c + containers_in_all body) behind_body most memories turns ≡ Some o → GoesOn made.2 to v values memories turns o =
-          λ o g. goes_less made.2 to v (v + variables_in_all body) values memories turns o (omega arith)
-          (other_goes other most other_go (past_all body place) (c + containers_in_all body) (v + variables_in_all body) loops made.2 made.3 to (table_behind_all body c table) behind_body values e
-          (standing_wider (past_all body place).containers (c + containers_in_all body) v (variables_in_all body) loops _ _ values (standing_all body place e fits.1.0 c v loops table told values standing))
-          other_names elements.1 fits.1.1 made.9 made.8.1 made.10.0 memories turns o g) in
+      λ o g. goes_less made.2 to v (v + variables_in_all body) values memories turns o (omega arith)
+      (other_goes other most other_go (past_all body place) (c + containers_in_all body) (v + variables_in_all body) loops made.2 made.3 to (table_behind_all body c table) behind_body values e
+      (standing_wider (past_all body place).containers (c + containers_in_all body) v (variables_in_all body) loops _ _ values (standing_all body place e fits.1.0 c v loops table told values standing))
+      other_names elements.1 fits.1.1 made.9 made.8.1 made.10.0 memories turns o g) in
       branch_goes from made.0 made.2 to v (guard_of table line when) values memories turns
       (says_block calls all body c told most memories turns) (says_block calls all other (c + containers_in_all body) behind_body most memories turns) made.4 made.5.0 made.8.0 first second
       (tested told line when memories) (passed_tied place.containers c v loops table told values standing from showing line when fits.0.known fits.0.affine memories) o h
@@ -371,14 +397,13 @@ module _ (sizes : List ℤ) (graphs : Name → GraphTree) (callable : Place → 
 
   -- from the end of a loop's first state on
   module _ (k h e f v w : ℕ) (v≤w : v ≤ w) (guard : GuardTree) (assigned : List (ℕ × Affine)) (step : ℤ) (test : ℤ → Memories → Result Bool (Fault graph_place.Place)) (block : ℤ → Memories → ℕ → Coming graph_place.Place)
-    (Good : ℤ → Values → Type 0)
-    (exits_k : exits_at states k ≡ if_holds guard h ∷ plainly f ∷ []) (exits_e : exits_at states e ≡ back_to k assigned ∷ [])
-    (idle_k : items_at states k ≡ no_item) (idle_h : items_at states h ≡ no_item) (idle_f : items_at states f ≡ no_item)
-    (asked : (value : ℤ) (values : Values) → Good value values → (memories : Memories) → Passed sizes containers names states reach around k guard values memories ≡ test value memories)
-    (inside : (value : ℤ) (values : Values) → Good value values → (memories : Memories) (turns : ℕ) (o : Outcome graph_place.Place Reached) → block value memories turns ≡ Some o → GoesOn h e w values memories turns o)
-    (next : (value : ℤ) (values after : Values) → Good value values → Agree w after values → Good (value +ℤ step) (assigned_values sizes assigned after))
-    (kept : (values : Values) → Agree v (assigned_values sizes assigned values) values) where
-
+      (Good : ℤ → Values → Type 0)
+      (exits_k : exits_at states k ≡ if_holds guard h ∷ plainly f ∷ []) (exits_e : exits_at states e ≡ back_to k assigned ∷ [])
+      (idle_k : items_at states k ≡ no_item) (idle_h : items_at states h ≡ no_item) (idle_f : items_at states f ≡ no_item)
+      (asked : (value : ℤ) (values : Values) → Good value values → (memories : Memories) → Passed sizes containers names states reach around k guard values memories ≡ test value memories)
+      (inside : (value : ℤ) (values : Values) → Good value values → (memories : Memories) (turns : ℕ) (o : Outcome graph_place.Place Reached) → block value memories turns ≡ Some o → GoesOn h e w values memories turns o)
+      (next : (value : ℤ) (values after : Values) → Good value values → Agree w after values → Good (value +ℤ step) (assigned_values sizes assigned after))
+      (kept : (values : Values) → Agree v (assigned_values sizes assigned values) values) where
     round_goes : (most : ℕ) (value : ℤ) (values : Values) (memories : Memories) (turns : ℕ) →
         ((value : ℤ) (values : Values) → Good value values → (memories : Memories) (turns : ℕ) (o : Outcome graph_place.Place Reached) → rounds most test block step value memories turns ≡ Some o → GoesOn k f v values memories turns o) →
         Good value values → (after : Values) → Agree w after values → (memories : Memories) (turns : ℕ) (o : Outcome graph_place.Place Reached) →
@@ -420,14 +445,14 @@ module _ (sizes : List ℤ) (graphs : Name → GraphTree) (callable : Place → 
       let assigned : List (ℕ × Affine) = (v, stepped_on v step) ∷ [] in
       let put_agree : (x : ℤ) (other : Values) → Agree v (with_variable v x other) other = λ x other m b. variable_kept v m x other (λ same. omega (arith, b, same)) in
       let begins : variable_value first v ≡ exact_or (pos 0) told.variables begin =
-          variable_set v (affine_value (sized sizes values) start) values
-          ∙ affine_or_exact (sized sizes values) table.variables affine_zero (pos 0) (zero_value (sized sizes values)) begin fits.0.affine.0
-          ∙ ap (λ known. exact_or (pos 0) known begin) (sym standing.stands.tied.variables) in
+      variable_set v (affine_value (sized sizes values) start) values
+      ∙ affine_or_exact (sized sizes values) table.variables affine_zero (pos 0) (zero_value (sized sizes values)) begin fits.0.affine.0
+      ∙ ap (λ known. exact_or (pos 0) known begin) (sym standing.stands.tied.variables) in
       let stepped : (value : ℤ) (other after : Values) → variable_value other v ≡ value → Agree (v + 1) after other → variable_value (assigned_values sizes assigned after) v ≡ value +ℤ by_step =
-          λ value other after good same.
-          variable_set v (affine_value (sized sizes after) (stepped_on v step)) after
-          ∙ one_step (variable_value (sized sizes after) v) by_step
-          ∙ ap (λ now. now +ℤ by_step) (other_value sizes after v standing.stands.sizes_below ∙ same v (omega arith) ∙ good) in
+      λ value other after good same.
+      variable_set v (affine_value (sized sizes after) (stepped_on v step)) after
+      ∙ one_step (variable_value (sized sizes after) v) by_step
+      ∙ ap (λ now. now +ℤ by_step) (other_value sizes after v standing.stands.sizes_below ∙ same v (omega arith) ∙ good) in
       goes_from from made.0 to v values first memories memories turns turns o (put_agree (affine_value (sized sizes values) start) values)
       (λ o g. set_ends sizes containers names states reach around from made.0 v start made.3 made.4.0 values memories turns o g)
       (rounds_go made.0 made.1 made.2 to v (v + 1) (omega arith) (below inside line name end) assigned by_step

@@ -26,21 +26,25 @@ use Rattle.sd_tie_states.specs.Course.{Comes, here, loops_at, does, ways_at, on_
 -- ---- two bounds
 
 pub comes_step : (run more : ℕ → ℕ → Coming Place) → ((e m : ℕ) → run (suc e) m ≡ more e m) → (o : Outcome Place Reached) → Comes more o → Comes run o
-comes_step run more same o h =
-    (suc h.0, λ i j.
-    (let e : suc h.0 + i ≡ suc (h.0 + i) = omega arith in
-    let f : suc h.0 + j ≡ h.0 + suc j = omega arith in
-    ap (λ n. run n (suc h.0 + j)) e ∙ same (h.0 + i) (suc h.0 + j) ∙ ap (more (h.0 + i)) f ∙ h.1 i (suc j)))
+comes_step run more same o h = (
+  suc h.0,
+  λ i j.
+      (let e : suc h.0 + i ≡ suc (h.0 + i) = omega arith in
+      let f : suc h.0 + j ≡ h.0 + suc j = omega arith in
+      ap (λ n. run n (suc h.0 + j)) e ∙ same (h.0 + i) (suc h.0 + j) ∙ ap (more (h.0 + i)) f ∙ h.1 i (suc j)),
+)
 
 pub comes_then : (first : ℕ → Coming Place) (next : ℕ → ℕ → Memories → ℕ → Coming Place) (now : Reached) (o : Outcome Place Reached) → Follows first (Done now) →
     Comes (λ e m. next e m now.memories now.turns) o → Comes (λ e m. and_then (first m) (next e m)) o
-comes_then first next now o f h =
-    (f.0 + h.0, λ i j.
-    (let e : (f.0 + h.0) + j ≡ f.0 + (h.0 + j) = omega arith in
-    let e' : (f.0 + h.0) + j ≡ h.0 + (f.0 + j) = omega arith in
-    let e'' : (f.0 + h.0) + i ≡ h.0 + (f.0 + i) = omega arith in
-    ap (λ x. and_then x (next ((f.0 + h.0) + i) ((f.0 + h.0) + j))) (ap first e ∙ f.1 (h.0 + j))
-    ∙ (λ k. next (e'' k) (e' k) now.memories now.turns) ∙ h.1 (f.0 + i) (f.0 + j)))
+comes_then first next now o f h = (
+  f.0 + h.0,
+  λ i j.
+      (let e : (f.0 + h.0) + j ≡ f.0 + (h.0 + j) = omega arith in
+      let e' : (f.0 + h.0) + j ≡ h.0 + (f.0 + j) = omega arith in
+      let e'' : (f.0 + h.0) + i ≡ h.0 + (f.0 + i) = omega arith in
+      ap (λ x. and_then x (next ((f.0 + h.0) + i) ((f.0 + h.0) + j))) (ap first e ∙ f.1 (h.0 + j))
+      ∙ (λ k. next (e'' k) (e' k) now.memories now.turns) ∙ h.1 (f.0 + i) (f.0 + j)),
+)
 
 abbrev Stops : Outcome Place Reached → Type 0
 Stops (Done now) = ⊥
@@ -127,7 +131,6 @@ module _ (sizes : List ℤ) (containers : Containers) (names : List Name) (state
   Passed k guard values memories = passed (Some (guard_of (at_sizes sizes (there k values)) guard)) memories
 
   module _ (k h f : ℕ) (guard : GuardTree) (w : exits_at states k ≡ if_holds guard h ∷ plainly f ∷ []) (values : Values) (memories : Memories) (turns : ℕ) where
-
     asked : (test : Result Bool (Fault Place)) → Passed k guard values memories ≡ test → (e m : ℕ) →
         run_from k values memories turns (suc e) m
         ≡ after_exit (or_later test (sized_exit sizes (there k values) (if_holds guard h)) (Ok (Some (sized_exit sizes (there k values) (plainly f))))) memories turns (λ exit turns. by exit memories turns e m)
