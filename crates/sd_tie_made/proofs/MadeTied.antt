@@ -7,9 +7,9 @@ use Rattle.sd_graph.specs.TreeParts.{items_at, exits_at}
 use Rattle.sd_program.specs.Names.{Name}
 use Rattle.sd_program.specs.Declared.{states_in, states_in_all}
 use Rattle.sd_items.specs.Items.{items_with}
-use Rattle.sd_elab.specs.Exits.{plainly, back_to, stepped_on}
-use Rattle.sd_elab.specs.Standing.{Standing, behind, behind_all, state_behind, with_loop_variable}
-use Rattle.sd_elab.specs.States.{chained, chained_all}
+use Rattle.sd_states.specs.Exits.{plainly, back_to, stepped_on}
+use Rattle.sd_states.specs.Standing.{Standing, behind, behind_all, state_behind, with_loop_variable}
+use Rattle.sd_states.specs.States.{chained, chained_all}
 use Rattle.sd_elab_laws.proofs.StateCounts.{all_counted}
 use Rattle.sd_tie_states.specs.Made.{IsMade, AreMade}
 use Rattle.sd_tie_made.specs.Shown.{ShowsOne, ShowsAll}

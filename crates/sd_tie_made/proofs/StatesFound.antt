@@ -6,8 +6,8 @@ use Rattle.sd_graph.specs.PlainTree.{StateTrees, ItemTrees, ExitTree, GraphTree}
 use Rattle.sd_graph.specs.TreeFold.{PlainState, states_listed}
 use Rattle.sd_graph.specs.TreeParts.{items_at, exits_at}
 use Rattle.sd_program.specs.Names.{Name}
-use Rattle.sd_elab.specs.Standing.{Standing, behind}
-use Rattle.sd_elab.specs.States.{chained, chained_all}
+use Rattle.sd_states.specs.Standing.{Standing, behind}
+use Rattle.sd_states.specs.States.{chained, chained_all}
 
 -- the state of this number has these items and transitions
 abbrev pub IsState : StateTrees → ℕ → PlainState → Type 0

@@ -4,7 +4,7 @@ ghost use Rattle.sd_graph.specs.PlainTree.{GraphTree, StateTrees};
 ghost use Rattle.sd_graph.specs.TreeFold.{states_listed};
 ghost use Rattle.sd_graph.specs.TreeParts.{exits_at};
 ghost use Rattle.sd_program.specs.Names.{Name};
-ghost use Rattle.sd_elab.specs.Standing.{Standing};
+ghost use Rattle.sd_states.specs.Standing.{Standing};
 ghost use Rattle.sd_elab.specs.Elaboration.{start_of, states_of_function};
 ghost use Rattle.sd_tie_states.specs.Made.{AreMade};
 ghost use Rattle.sd_tie_made.specs.Shown.{ShowsAll};

@@ -19,7 +19,7 @@ use Rattle.sd_graph.specs.declared.place.Place.{Place}
 use Rattle.sd_valid.specs.SizedValues.{sized}
 use Rattle.sd_valid.specs.SizedWork.{at_sizes, sized_items, sized_state, sized_exit}
 use Rattle.sd_program.specs.Names.{Name}
-use Rattle.sd_elab.specs.Exits.{plainly, setting, if_holds, back_to}
+use Rattle.sd_states.specs.Exits.{plainly, setting, if_holds, back_to}
 use Rattle.sd_tie_items.specs.Follows.{Follows}
 use Rattle.sd_tie_states.specs.Course.{Comes, here, loops_at, does, ways_at, on_from, EndsAt}
 

@@ -12,7 +12,7 @@ use Rattle.sd_task.specs.ElementCode.{guard_of, below}
 use Rattle.sd_items.specs.Counts.{variables_in, variables_in_all}
 use Rattle.sd_items.specs.NamesBehind.{table_behind_state, table_behind_all}
 use Rattle.sd_items.specs.Items.{items_with}
-use Rattle.sd_elab.specs.Exits.{plainly, setting, if_holds, back_to, stepped_on}
+use Rattle.sd_states.specs.Exits.{plainly, setting, if_holds, back_to, stepped_on}
 
 -- the graphs of the programs above, the states of a graph, and the loop variables that show in each
 module _ (graphs : Name → GraphTree) (states : StateTrees) (shows : ℕ → List ℕ) where
