@@ -1,6 +1,5 @@
 -- Values of variables that agree below a number, and what is affine.
 use Rattle.std.proofs.Common.{◌≡◌, ◌∙◌, ◌⊎◌, inl, inr, ℕ, suc, ◌<◌, ◌≤◌, ◌+◌, ℤ, List, [], ◌∷◌, ◌++◌, length, slice_index_or, refl, sym, subst, arith}
-use Rattle.std.specs.Bool.{⊤}
 use Rattle.sd_lex.specs.PlainTree.{Expression, number, named, element_at, one, two, choice}
 use Rattle.sd_range.specs.Affine.{variable_value}
 use Rattle.sd_work.specs.Exit.{Values}

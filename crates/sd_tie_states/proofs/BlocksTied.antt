@@ -1,9 +1,8 @@
 -- What the statements of a program say is what the states do that they make.
-use Rattle.std.proofs.Common.{◌≡◌, ◌∙◌, ◌⊎◌, inl, inr, ℕ, zero, suc, ◌<◌, ◌≤◌, ◌+◌, ℤ, pos, ◌+ℤ◌, ◌*ℤ◌, List, [], ◌∷◌, ◌++◌, length, map, Option, Some, None, unwrap_or, Result, Ok, Err, Bool, true, false, slice_index_or, refl, sym, ap, subst, arith}
-use Rattle.std.specs.Bool.{⊤}
+use Rattle.std.proofs.Common.{◌≡◌, ◌∙◌, ℕ, zero, suc, ◌≤◌, ◌+◌, ℤ, pos, ◌+ℤ◌, ◌*ℤ◌, List, [], ◌∷◌, ◌++◌, Option, Some, None, Result, Ok, Err, Bool, true, false, slice_index_or, refl, sym, ap, subst, arith}
 use Rattle.std.proofs.lemmas.Int.{ints}
 use Rattle.std.proofs.lemmas.List.{map-append}
-use Rattle.sd_lex.specs.PlainTree.{Expression, number, named, element_at, one, two, choice, StatementTree, argument_array, local_array, local_stream, assign, copy, reduce, map_scope, tasklet, consume_scope, call, for_loop, while_loop, branch, input, output, set, set_at, tasklet_branch, Block, no_statement, and_statement}
+use Rattle.sd_lex.specs.PlainTree.{Expression, named, two, StatementTree, argument_array, local_array, local_stream, assign, copy, reduce, map_scope, tasklet, consume_scope, call, for_loop, while_loop, branch, input, output, set, set_at, tasklet_branch, Block, no_statement, and_statement}
 use Rattle.sd_lex.specs.declared.syntax.operator.TwoSign.TheVariants.{Less}
 use Rattle.sd_range.specs.Affine.{affine_value, variable_value}
 use Rattle.sd_range.specs.Arithmetic.{affine_zero}
@@ -18,7 +17,7 @@ use Rattle.sd_work.specs.BigStep.{Reached, Coming, reached, and_then, spending, 
 use Rattle.sd_graph.specs.PlainTree.{StateTrees, ItemTrees, no_item, GraphTree, GuardTree}
 use Rattle.sd_graph.specs.TreeParts.{items_at, exits_at}
 use Rattle.sd_graph.specs.ContainerParts.{Containers}
-use Rattle.sd_graph.specs.Context.{Reach, Context, own_reach, named_values}
+use Rattle.sd_graph.specs.Context.{Reach, Context, own_reach}
 use Rattle.sd_graph.specs.Unfold as graph
 use Rattle.sd_graph.specs.declared.place.Frame.{Frame}
 use Rattle.sd_graph.specs.declared.place.Place as graph_place
@@ -29,7 +28,7 @@ use Rattle.sd_program.specs.Names.{Name, Named}
 use Rattle.sd_program.specs.Declared.{containers_in, containers_in_all}
 use Rattle.sd_program.specs.IsAffine.{IsAffine}
 use Rattle.sd_program.specs.Bounds.{EachSubscript}
-use Rattle.sd_program.specs.Place.{Holder, Place, program, behind, behind_all, past, past_all, in_loop, EveryAt, EveryFrom}
+use Rattle.sd_program.specs.Place.{Holder, Place, program, past, past_all, in_loop, EveryAt, EveryFrom}
 use Rattle.sd_program.specs.Known.{KnowsElements, StandsIn, StandsInScope}
 use Rattle.sd_in_force.specs.Ranges.{affine_or}
 use Rattle.sd_task.specs.Table as tables
@@ -38,7 +37,7 @@ use Rattle.sd_task.specs.ElementCode.{guard_of, below}
 use Rattle.sd_items.specs.Counts.{variables_in, variables_in_all}
 use Rattle.sd_items.specs.NamesBehind.{table_behind_state, table_behind_all}
 use Rattle.sd_items.specs.Items.{items_with}
-use Rattle.sd_states.specs.Exits.{plainly, setting, if_holds, back_to, stepped_on}
+use Rattle.sd_states.specs.Exits.{plainly, if_holds, back_to, stepped_on}
 use Rattle.sd_says.specs.Exact.{exact_or, step_or_one}
 use Rattle.sd_says.specs.Setting as settings
 use Rattle.sd_says.specs.Setting.{Setting}
@@ -51,16 +50,16 @@ use Rattle.sd_tie_elements.proofs.Affines.{zero_value, affine_or_exact}
 use Rattle.sd_tie_elements.proofs.Statements.{condition_tied}
 use Rattle.sd_tie_items.specs.Follows.{Follows}
 use Rattle.sd_tie_items.specs.CallsDo.{CallsDo}
-use Rattle.sd_tie_items.specs.Standing.{Fits, variables_named, variables_named_all, HasElements, HaveElements, StandsAt, Stands}
+use Rattle.sd_tie_items.specs.Standing.{Fits, variables_named, variables_named_all, HasElements, HaveElements, StandsAt}
 use Rattle.sd_tie_items.proofs.Following.{at-once, ends-with-nothing}
 use Rattle.sd_tie_items.proofs.Points.{made_below, below_more}
-use Rattle.sd_tie_items.proofs.Entering.{behind_declared, behind_other}
-use Rattle.sd_tie_items.proofs.ItemsTied.{stands_first, name_count, name_count_all, names_next, item_follows}
+use Rattle.sd_tie_items.proofs.Entering.{behind_declared}
+use Rattle.sd_tie_items.proofs.ItemsTied.{stands_first, name_count_all, names_next, item_follows}
 use Rattle.sd_tie_states.specs.Course.{Agree, here, loops_at, Goes}
 use Rattle.sd_tie_states.proofs.Agreeing.{all_more, all_last, named_agree, sized_agree, affine_knows, affine_subscripts, names_rest}
 use Rattle.sd_tie_states.specs.InProgram as in_program
 use Rattle.sd_tie_states.specs.Made.{IsMade, AreMade, IsOtherMade}
-use Rattle.sd_tie_states.proofs.Courses.{comes_step, comes_then, comes_stop, state_items, assigned_values, there, run_from, Ends, state_does, takes_exit, set_ends, plain_ends, marked_ends, marked_spent, Passed, true_ends, false_ends, fault_ends}
+use Rattle.sd_tie_states.proofs.Courses.{comes_step, comes_then, comes_stop, state_items, assigned_values, run_from, Ends, state_does, takes_exit, set_ends, plain_ends, marked_ends, marked_spent, Passed, true_ends, false_ends, fault_ends}
 
 module _ (sizes : List ℤ) (graphs : Name → GraphTree) (callable : Place → StatementTree → Type 0) (calls : Calls) (all : List Declaration) (calls_follow : CallsDo sizes graphs callable calls)
     (containers : Containers) (names : List Name) (states : StateTrees) (reach : ℕ → Reach) (around : List Frame) (first_own : ℕ) (owns : (n : ℕ) → first_own ≤ n → reach n ≡ own_reach containers n) where

@@ -1,5 +1,5 @@
 -- What a run comes to from the end of a state on, exit by exit.
-use Rattle.std.proofs.Common.{◌≡◌, ◌∙◌, ℕ, zero, suc, ◌+◌, ℤ, List, [], ◌∷◌, map, length, Some, None, Result, Ok, Err, Bool, true, false, refl, ap, arith}
+use Rattle.std.proofs.Common.{◌≡◌, ◌∙◌, ℕ, zero, suc, ◌+◌, ℤ, List, [], ◌∷◌, map, Some, Result, Ok, Err, Bool, true, false, refl, ap, arith}
 use Rattle.std.specs.Bool.{⊤}
 use Rattle.sd_range.specs.Affine.{affine_value}
 use Rattle.sd_range.specs.Variables.{with_variables}
@@ -8,8 +8,8 @@ use Rattle.sd_work.specs.Memory.{Memories}
 use Rattle.sd_work.specs.Move.{Fault}
 use Rattle.sd_work.specs.Exit.{Values, Exit, first_exit, or_later, passed}
 use Rattle.sd_work.specs.Step.{Outcome, Done, Faulted, Spent}
-use Rattle.sd_work.specs.BigStep.{Reached, Coming, reached, and_then, after_exit, big_step, big_parts, big_states}
-use Rattle.sd_graph.specs.PlainTree.{StateTrees, no_state, and_state, ItemTrees, no_item, GuardTree, ExitTree}
+use Rattle.sd_work.specs.BigStep.{Reached, Coming, reached, and_then, after_exit, big_step, big_parts}
+use Rattle.sd_graph.specs.PlainTree.{StateTrees, no_state, and_state, no_item, GuardTree, ExitTree}
 use Rattle.sd_graph.specs.TreeParts.{items_at, exits_at}
 use Rattle.sd_graph.specs.ContainerParts.{Containers}
 use Rattle.sd_graph.specs.Context.{Reach, Context}
@@ -21,7 +21,7 @@ use Rattle.sd_valid.specs.SizedWork.{at_sizes, sized_items, sized_state, sized_e
 use Rattle.sd_program.specs.Names.{Name}
 use Rattle.sd_states.specs.Exits.{plainly, setting, if_holds, back_to}
 use Rattle.sd_tie_items.specs.Follows.{Follows}
-use Rattle.sd_tie_states.specs.Course.{Comes, here, loops_at, does, ways_at, on_from, EndsAt}
+use Rattle.sd_tie_states.specs.Course.{Comes, here, loops_at, does, on_from, EndsAt}
 
 -- ---- two bounds
 

@@ -10,7 +10,7 @@ use Rattle.sd_graph.specs.TreeParts.{exits_at}
 use Rattle.sd_graph.specs.ContainerParts.{Containers}
 use Rattle.sd_graph.specs.LoopScope.{loops_in_force}
 use Rattle.sd_graph.specs.Context.{Reach, Context}
-use Rattle.sd_graph.specs.Unfold.{in_graph, at_state}
+use Rattle.sd_graph.specs.Unfold.{in_graph}
 use Rattle.sd_graph.specs.declared.place.Frame.{Frame}
 use Rattle.sd_graph.specs.declared.place.Place.{Place}
 use Rattle.sd_valid.specs.SizedWork.{sized_state, sized_exit}
