@@ -107,3 +107,6 @@ pub fn are_harmless(
     }
     are_apart(alloc, around, own, one, other)
 }
+
+#[cfg(test)]
+mod tests;
