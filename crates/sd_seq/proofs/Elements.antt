@@ -14,7 +14,7 @@ use Rattle.sd_machine.specs.Coming.{items_coming}
 use Rattle.sd_machine.specs.declared.end.End.{End}
 use Rattle.sd_machine.specs.declared.end.End.TheVariants.{Finished}
 use Rattle.sd_seq.specs.Taking.{element_term, takes_coming}
-use Rattle.sd_rows.proofs.Comes.{IsLeft, comes-then, comes-stop, stops, owned_ends}
+use Rattle.sd_row.proofs.Comes.{IsLeft, comes-then, comes-stop, stops, owned_ends}
 
 -- ---- the values that wait
 

@@ -15,7 +15,7 @@ use Rattle.sd_machine.specs.ComesTo.{IsEnd}
 use Rattle.sd_machine.specs.Coming.{kind_coming, items_coming}
 use Rattle.sd_machine.specs.declared.end.End.{End}
 use Rattle.sd_machine.specs.declared.end.End.TheVariants.{Finished}
-use Rattle.sd_rows.proofs.Comes.{IsLeft, left_more, left_stop}
+use Rattle.sd_row.proofs.Comes.{IsLeft, left_more, left_stop}
 
 -- an item of a list is the first of those from it on
 items_from : (items : List Item) (index : ℕ) (item : Item) → index < length items → item ≡ get_or items index item →

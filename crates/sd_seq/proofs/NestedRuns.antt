@@ -12,7 +12,7 @@ use Rattle.sd_graph.specs.Unfold.{unfold_graph, reach_inside, run_memory}
 use Rattle.sd_machine.specs.ComesTo.{ComesTo, outcome_of, IsEnd}
 use Rattle.sd_machine.specs.Coming.{kind_coming, graph_coming}
 use Rattle.sd_machine.specs.declared.end.End.{End}
-use Rattle.sd_rows.proofs.Comes.{owned_ends}
+use Rattle.sd_row.proofs.Comes.{owned_ends}
 
 nested_is : (inner : GraphTree) (reach : ℕ → Reach) (own : Memory) (around : List Frame) (most : ℕ) (memories : Memories) (turns : ℕ) →
     big_step (unfold_graph inner reach own around) most memories turns ≡ leaving (graph_coming inner reach around (record { memories = own ∷ memories; turns = turns }) most)

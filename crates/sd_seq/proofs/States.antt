@@ -19,7 +19,7 @@ use Rattle.sd_machine.specs.ComesTo.{ComesTo, outcome_of, IsEnd}
 use Rattle.sd_machine.specs.Coming.{items_coming, state_context, state_term, exits_of, from_state}
 use Rattle.sd_machine.specs.declared.end.End.{End}
 use Rattle.sd_machine.specs.declared.end.End.TheVariants.{Finished, Fault, OutOfTurns}
-use Rattle.sd_rows.proofs.Comes.{IsLeft, comes-then, comes-stop, stops}
+use Rattle.sd_row.proofs.Comes.{IsLeft, comes-then, comes-stop, stops}
 
 -- the work of a state is that of its items
 state_is : (states : StateTrees) (state : ℕ) (context : Context) (most : ℕ) (memories : Memories) (turns : ℕ) →

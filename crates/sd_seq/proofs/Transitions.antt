@@ -29,7 +29,7 @@ use Rattle.sd_machine.specs.declared.end.End.TheVariants.{Finished, Fault, OutOf
 use Rattle.sd_leaves.specs.Next.{IsNext}
 use Rattle.sd_leaves.specs.declared.exit.Next.{Next}
 use Rattle.sd_leaves.specs.declared.exit.Next.TheVariants.{Nowhere, By, Fault as Fault_of_exit}
-use Rattle.sd_rows.proofs.Comes.{IsLeft}
+use Rattle.sd_row.proofs.Comes.{IsLeft}
 use Rattle.sd_seq.proofs.States.{exits_of_graph, state_stop, exit_nowhere, exit_fault, exit_spent, exit_on, items_of_state_lead, measure, measure_falls}
 
 -- ---- states and exits of the code

@@ -13,7 +13,7 @@ use Rattle.sd_machine.specs.ComesTo.{IsEnd}
 use Rattle.sd_work.specs.BigStep.{Reached}
 use Rattle.sd_machine.specs.Coming.{kind_coming, map_coming, points_coming, state_context, from_state}
 use Rattle.sd_scope.specs.Standing.{context_of, opening_reach, IsInside}
-use Rattle.sd_rows.proofs.Comes.{IsLeft, as_finished}
+use Rattle.sd_row.proofs.Comes.{IsLeft, as_finished}
 use Rattle.sd_seq.proofs.Items.{item_more, item_stop, item_leads}
 use Rattle.sd_seq.proofs.ItemKinds.{map_kind, consume_kind}
 use Rattle.sd_rows.proofs.Points.{points_begin, point_first, point_ends, point_more, point_stop}

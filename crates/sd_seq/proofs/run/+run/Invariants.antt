@@ -4,7 +4,7 @@ use Rattle.sd_graph.specs.TreeParts.{containers_of}
 use Rattle.sd_machine.specs.Coming.{items_coming, map_coming, points_coming, from_state}
 use Rattle.sd_scope.specs.Standing.{context_of, opening_reach, IsInside}
 use Rattle.sd_seq.specs.Taking.{consume_coming, takes_coming}
-use Rattle.sd_rows.proofs.Comes.{IsLeft}
+use Rattle.sd_row.proofs.Comes.{IsLeft}
 use Rattle.sd_seq.proofs.States.{measure}
 use Rattle.sd_seq.proofs.run.+run.Given as goal
 
