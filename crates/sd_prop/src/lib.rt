@@ -1,0 +1,7 @@
+//! The accesses of a graph's scopes, and those of each scope as a whole.
+//!
+//! `specs/ItemNodes.antt` numbers a state's items by its nodes, `Accesses.antt` has the accesses of
+//! an item with the parameters of its scopes replaced, `Scopes.antt` the scopes of a graph in the
+//! order of their nodes, and `Joined.antt` one access for each container and mode of a scope, its
+//! box the hull of all.
+#![tactic(auto)]
