@@ -1,0 +1,9 @@
+pub mod Rows
+pub mod Views
+pub mod Edges
+pub mod Compatible
+pub mod Distinct
+pub mod Parts
+pub mod Accepting
+pub mod GraphSafe
+pub mod Whole
