@@ -6,7 +6,8 @@ ghost use Rattle.sd_work.specs.Residual.{Points, owning, idle, part_at};
 ghost use Rattle.sd_work.specs.Step.{Done};
 ghost use Rattle.sd_work.specs.Run.{Left, Run};
 ghost use Rattle.sd_confluence.specs.Safe.{TouchCompatibly, ArePartsSafe, IsPoolSafe, MayInterleave, pool_over};
-ghost use Rattle.sd_confluence.specs.Alike.{LeaveAlike};
+ghost use Rattle.sd_confluence.specs.Alike.{AreAlike, LeaveAlike};
+ghost use Rattle.sd_confluence.specs.Event.{Event, DoneWith, AreEventsAlike};
 ghost use Rattle.sd_range.specs.Points.{points, ranges_of};
 ghost use Rattle.sd_box.specs.Box.{Parameter};
 ghost use Rattle.sd_box.specs.InForce.{AreFresh};
@@ -75,4 +76,23 @@ pub fn an_accepted_graph_ends_alike()
         → IsGraphFit tree [] → IsGraphAccepted tree
         → Run (run_of tree memory) turns picks (Done left)
         → (end : Left) × Run (run_of tree memory) turns others (Done end) × LeaveAlike left end }
+{}
+
+/// Of two runs of such a pool, from memories that are alike and by any picks, the one is done where
+/// the other is. They leave alike memories and as many turns; from each stream they took, and into
+/// each they pushed, each value equally often.
+pub fn the_order_of_taking_of_an_accepted_scope_makes_no_difference()
+    ensures { (own other : Memory) (stream element : ℕ) (private : List ℕ) (body : ItemTrees) (path nodes : List ℕ) (context : Context)
+        (turns : ℕ) (picks others : List ℕ) (left : Left) (happened : List Event)
+        → ((number : ℕ) → context.reach number ≡ own_reach context.containers number)
+        → IsFit (consume_scope stream element private body) []
+        → AreScopesAccepted (scopes_itself (consume_scope stream element private body) context.containers path [] nodes)
+        → AreScopesAccepted (scopes_inside (consume_scope stream element private body) context.containers path [] nodes)
+        → AreAlike own other
+        → DoneWith (pool_over own stream (λ value. owning (element_memory context element private value)
+        (list_of (at_element context element private value) body (unfold_items body (at_element context element private value))))) turns picks left happened
+        → (end : Left) × (happened_there : List Event)
+        × DoneWith (pool_over other stream (λ value. owning (element_memory context element private value)
+        (list_of (at_element context element private value) body (unfold_items body (at_element context element private value))))) turns others end happened_there
+        × LeaveAlike left end × AreEventsAlike happened happened_there }
 {}

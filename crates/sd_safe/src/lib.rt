@@ -12,4 +12,5 @@ pub use laws::{
     an_accepted_consume_scope_may_interleave, an_accepted_graph_ends_alike,
     an_accepted_graph_may_interleave, elements_of_an_accepted_consume_scope_do_not_conflict,
     items_without_a_path_do_not_conflict, points_of_an_accepted_map_do_not_conflict,
+    the_order_of_taking_of_an_accepted_scope_makes_no_difference,
 };
