@@ -7,3 +7,4 @@ pub mod Parts
 pub mod Accepting
 pub mod GraphSafe
 pub mod Whole
+pub mod examples

@@ -14,7 +14,7 @@ use Rattle.sd_race.specs.Pairs.{IsGraphAccepted}
 use Rattle.sd_race.specs.Race.{IsRaceOf}
 
 -- A[i] = A[i + 4]: all that is read lies above all that is written
-a_shift_by_four_is_accepted : IsGraphAccepted (shift (pos 4))
+pub a_shift_by_four_is_accepted : IsGraphAccepted (shift (pos 4))
 a_shift_by_four_is_accepted = (
   (λ same conflict. cc, (λ same conflict. inl (inl (inl (record { constant = refl; above = omega (arith, ints) }))), (λ same conflict. own_elements_are_harmless, tt))),
   tt,
