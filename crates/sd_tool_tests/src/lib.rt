@@ -6,6 +6,8 @@ mod call;
 #[cfg(test)]
 mod devices;
 #[cfg(test)]
+mod listings;
+#[cfg(test)]
 mod rows;
 #[cfg(test)]
 mod sources;

@@ -332,10 +332,76 @@ run,a.py
 bad words
 ===
 INC
-print,a.py,a.json
+print
 {"N":3,"A":[1,2,3],"B":[0,0,0]}
 2
 bad words
+===
+INC
+print,a.py
+{"N":3,"A":[1,2,3],"B":[0,0,0]}
+2
+bad words
+===
+INC
+print,a.py,-a.json
+{"N":3,"A":[1,2,3],"B":[0,0,0]}
+2
+bad words
+===
+INC
+print,a.py,a.json,--turns,5
+{"N":3,"A":[1,2,3],"B":[0,0,0]}
+2
+bad words
+===
+INC
+print,a.py,a.json,a.json
+{"N":3,"A":[1,2,3],"B":[0,0,0]}
+2
+bad words
+===
+INC
+check,a.py,a.json
+{"N":3,"A":[1,2,3],"B":[0,0,0]}
+2
+bad words
+===
+INC
+Print,a.py,a.json
+{"N":3,"A":[1,2,3],"B":[0,0,0]}
+2
+bad words
+===
+INC
+print,b.py,a.json
+{"N":3,"A":[1,2,3],"B":[0,0,0]}
+9
+read fault b.py
+===
+INC
+print,a.py,b.json
+{"N":3,"A":[1,2,3],"B":[0,0,0]}
+9
+read fault b.json
+===
+SQUARE
+print,a.py,b.json
+{"N":3,"A":[1,2,3],"B":[0,0,0]}
+3
+source error 6 at line 7
+===
+INC
+print,a.py,a.json
+{"N":3,"A":[1,2,3],"B":[0,0]}
+4
+arrays error 19 B
+===
+INC
+print,a.py,a.json
+{"N":3,"A":[1,2,3]}
+4
+arrays error 17 B
 ===
 INC
 run,a.py,-a.json

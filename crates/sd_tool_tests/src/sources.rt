@@ -221,6 +221,16 @@ Number_of_elements = dace.symbol('Number_of_elements')
 def successors_of_all(numbers_given: dace.int64[Number_of_elements], results_found: dace.int64[Number_of_elements]):
     for current_index in dace.map[0:Number_of_elements]:
         results_found[current_index] = numbers_given[current_index] + 1
+=== ORDERED items in order, by a private array
+import dace
+@dace.program
+def ordered(A: dace.int64[17], B: dace.int64[9]):
+    for i in dace.map[0:8:2]:
+        T = dace.define_local([2], dtype=dace.int64)
+        T[0] = A[16 - 2*i]
+        B[i] = T[0]
+        T[0] = 5
+        B[i + 1] = T[0]
 === SYMBOLS no program
 import dace
 N = dace.symbol('N')
