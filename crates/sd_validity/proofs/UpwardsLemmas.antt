@@ -5,7 +5,7 @@ use Rattle.sd_graph.specs.PlainTree.{KindTree, task, map_scope, consume_scope, n
 use Rattle.sd_graph.specs.TreeParts.{states_of_graph, count_states, exits_at}
 use Rattle.sd_graph.specs.Upwards.{ExitsLeadUpwards, KindLeadsUpwards, ItemsLeadUpwards, StatesLeadUpwards, LeadsUpwards}
 use Rattle.sd_validity.specs.Places.{Place, Scopes, no_scopes, in_map, in_consume, item_place, state_place, graph_place, places_in, item_places, state_places, places_of, all_places}
-use Rattle.sd_validity.specs.Transitions.{leads_right, sets_loop_variable, are_transitions_right, agree, begins_at, begins_before, rule_3}
+use Rattle.sd_validity.specs.Transitions.{leads_right, is_exit_right, sets_loop_variable, are_transitions_right, agree, begins_at, begins_before, rule_3}
 use Rattle.sd_validity.specs.Failing.{Holds}
 use Rattle.sd_validity.proofs.HoldingLemmas.{both, parts, each_passes}
 
@@ -16,11 +16,12 @@ lead_up count state exit false back is =
     let split = both (nat_lt exit.to count) (nat_lt state exit.to) is in
     inr (grind (arith, split.1), grind (arith, split.0))
 
-exits_lead_up : (count state : ℕ) (exits : List ExitTree) → list_all (leads_right count state) exits ≡ true → ExitsLeadUpwards count state exits
-exits_lead_up count state [] is = tt
-exits_lead_up count state (exit ∷ exits) is =
-    let split = both (leads_right count state exit) (list_all (leads_right count state) exits) is in
-    (lead_up count state exit exit.back refl split.0, exits_lead_up count state exits split.1)
+exits_lead_up : (states : StateTrees) (state : ℕ) (exits : List ExitTree) → list_all (is_exit_right states state) exits ≡ true → ExitsLeadUpwards (count_states states) state exits
+exits_lead_up states state [] is = tt
+exits_lead_up states state (exit ∷ exits) is =
+    let split = both (is_exit_right states state exit) (list_all (is_exit_right states state) exits) is in
+    let own = both (leads_right (count_states states) state exit) (list_all (sets_loop_variable states state exit) exit.set) split.0 in
+    (lead_up (count_states states) state exit exit.back refl own.0, exits_lead_up states state exits split.1)
 
 abbrev transitions_pass : Place → Bool
 transitions_pass place = are_transitions_right (states_of_graph place.graph) place.state place.thing
@@ -33,9 +34,8 @@ state_leads_up (and_state items exits states) around number is zero =
     let place = state_place around number items exits in
     let first = both (transitions_pass place) (list_all transitions_pass (item_places items place no_scopes 0 ++ state_places states around (suc number))) is in
     let all = states_of_graph around.graph in
-    let own = both (list_all (leads_right (count_states all) number) exits) (list_all (λ (exit : ExitTree). list_all (sets_loop_variable all number exit) exit.set) exits) first.0 in
     let same : number ≡ number + 0 = omega arith in
-    subst (λ (state : ℕ). ExitsLeadUpwards (count_states all) state exits) same (exits_lead_up (count_states all) number exits own.0)
+    subst (λ (state : ℕ). ExitsLeadUpwards (count_states all) state exits) same (exits_lead_up all number exits first.0)
 state_leads_up (and_state items exits states) around number is (suc state) =
     let place = state_place around number items exits in
     let first = both (transitions_pass place) (list_all transitions_pass (item_places items place no_scopes 0 ++ state_places states around (suc number))) is in

@@ -1,8 +1,9 @@
 -- The names in the code of a tasklet or condition: connectors with their subscripts, locals where they are in force, and variables.
-use Rattle.std.specs.Prelude.{ℕ, suc, ◌-◌, nat_eq, nat_lt, List, [], ◌∷◌, length, Bool, true, false, not, ◌&&◌, Option, Some, None, slice_get}
+use Rattle.std.specs.Prelude.{ℕ, suc, ◌-◌, nat_eq, nat_lt, List, [], ◌∷◌, ◌++◌, length, Bool, true, false, not, ◌&&◌, Option, Some, None, slice_get, is_some}
 use Rattle.sd_graph.specs.PlainTree.{ValueTree, literal, variable, local, input, one, two, choice, ValueTrees, no_value, and_value, ActTree, set_local, assign, branch, ActTrees, no_act, and_act, TaskletTree}
 use Rattle.sd_graph.specs.Wiring.{has_number}
 use Rattle.sd_graph.specs.declared.tasklet.Port.{Port}
+use Rattle.sd_validity.specs.Compared.{given}
 
 -- how many expressions there are
 abbrev pub count_values : ValueTrees → ℕ
@@ -41,7 +42,7 @@ abbrev mutual
 
 -- the locals in force behind a statement, to the end of its block
 abbrev pub locals_behind : ActTree → List ℕ → List ℕ
-locals_behind (set_local number value) locals = number ∷ locals
+locals_behind (set_local number value) locals = locals ++ number ∷ []
 locals_behind (assign connector at value) locals = locals
 locals_behind (branch when body other) locals = locals
 
@@ -63,6 +64,5 @@ abbrev pub is_code_known : TaskletTree → Bool
 is_code_known code = are_acts_known code [] code.body
 
 -- the code is one assignment to its one output, a scalar
-abbrev pub is_one_value : TaskletTree → ActTrees → Bool
-is_one_value code (and_act (assign connector no_value value) no_act) = nat_eq (length code.outs) 1
-is_one_value code acts = false
+abbrev pub is_one_value : TaskletTree → Bool
+is_one_value code = nat_eq (length code.outs) 1 && is_some (given code.body)

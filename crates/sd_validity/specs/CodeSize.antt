@@ -8,11 +8,15 @@ abbrev mutual
   levels_of (literal number) = 0
   levels_of (variable place) = 0
   levels_of (local number) = 0
-  levels_of (input connector no_value) = 0
-  levels_of (input connector (and_value first rest)) = suc (max (levels_of first) (greatest_levels rest))
+  levels_of (input connector at) = subscript_levels at
   levels_of (one sign of) = suc (levels_of of)
   levels_of (two sign left right) = suc (max (levels_of left) (levels_of right))
   levels_of (choice value when other) = suc (max (levels_of value) (max (levels_of when) (levels_of other)))
+
+  -- those of an input with these subscripts
+  pub subscript_levels : ValueTrees → ℕ
+  subscript_levels no_value = 0
+  subscript_levels (and_value first rest) = suc (max (levels_of first) (greatest_levels rest))
 
   pub greatest_levels : ValueTrees → ℕ
   greatest_levels no_value = 0
@@ -40,6 +44,9 @@ abbrev mutual
   acts_lines no_act = 0
   acts_lines (and_act act acts) = act_lines act + acts_lines acts
 
+abbrev pub are_ports_few : TaskletTree → Bool
+are_ports_few code = nat_le (length code.ins + length code.outs) 64
+
 -- within the limits
 abbrev pub is_code_small : TaskletTree → Bool
-is_code_small code = nat_le (length code.ins + length code.outs) 64 && (nat_le (acts_lines code.body) 1024 && nat_le (acts_levels code.body) 64)
+is_code_small code = are_ports_few code && (nat_le (acts_lines code.body) 1024 && nat_le (acts_levels code.body) 64)

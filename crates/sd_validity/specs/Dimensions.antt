@@ -33,7 +33,7 @@ are_ports_linked (port ∷ ports) (link ∷ links) = nat_eq port.dims (length (l
 abbrev pub is_condition_sound : Option GuardTree → Bool
 is_condition_sound None = true
 is_condition_sound (Some guard) =
-    (are_ports_linked guard.code.ins guard.reads && list_all (λ link. is_empty (link_spans link)) guard.reads) && is_one_value guard.code guard.code.body
+    (are_ports_linked guard.code.ins guard.reads && list_all (λ link. is_empty (link_spans link)) guard.reads) && is_one_value guard.code
 
 -- code has links for its connectors
 abbrev pub is_code_linked : Thing → Bool

@@ -1,3 +1,5 @@
+pub mod GraphParts
+pub mod Compared
 pub mod Places
 pub mod Failing
 pub mod Parts
@@ -10,9 +12,7 @@ pub mod Shapes
 pub mod NestedLinks
 pub mod MovedShapes
 pub mod CodeSize
-pub mod NodeCounts
 pub mod Ranks
 pub mod SizesGone
 pub mod WithinLimits
 pub mod Valid
-pub mod PlaceOf

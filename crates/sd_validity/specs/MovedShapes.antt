@@ -1,8 +1,7 @@
 -- Rule 6: the two sides of a copy, and of a reduction, are two containers, and have the same shape.
-use Rattle.std.specs.Prelude.{ℕ, nat_eq, nat_lt, List, [], ◌∷◌, map, length, Bool, true, false, not, ◌&&◌, Option, Some, None}
+use Rattle.std.specs.Prelude.{ℕ, suc, nat_eq, nat_lt, List, [], ◌∷◌, ◌++◌, map, take, drop, length, Bool, true, false, not, ◌&&◌, Option, Some, None}
 use Rattle.std.specs.Ordering.{int_eq}
 use Rattle.sd_range.specs.declared.range.Range.{Range}
-use Rattle.sd_work.specs.Change.{without}
 use Rattle.sd_graph.specs.PlainTree.{task, map_scope, consume_scope, nested_graph, reduction, copy}
 use Rattle.sd_graph.specs.declared.link.Link.{Link}
 use Rattle.sd_validity.specs.Places.{Thing, whole, leaving, doing, Place}
@@ -33,7 +32,7 @@ is_axis (Some axis) spans = nat_lt axis (length spans)
 -- the ranges that a reduction leaves
 abbrev pub spans_left : Option ℕ → List Range → List Range
 spans_left None spans = []
-spans_left (Some axis) spans = without axis spans
+spans_left (Some axis) spans = take axis spans ++ drop (suc axis) spans
 
 -- a reduction: ranges of step 1, an axis that is one of them, and a target of the shape that is left, or of one value
 abbrev pub is_reduction_right : Option ℕ → (from to : Link) → Bool

@@ -10,7 +10,8 @@ use Rattle.sd_graph.specs.Wiring.{has_number}
 use Rattle.sd_graph.specs.InForce.{is_private}
 use Rattle.sd_graph.specs.LoopScope.{numbers_below}
 use Rattle.sd_graph.specs.declared.container.Container.{Container}
-use Rattle.sd_validity.specs.Places.{Thing, whole, leaving, doing, Place, param_numbers, variables_of}
+use Rattle.sd_validity.specs.GraphParts.{variables_of, symbols_in}
+use Rattle.sd_validity.specs.Places.{Thing, whole, leaving, doing, Place, param_numbers}
 use Rattle.sd_validity.specs.Parts.{is_empty, container_of, Tests, is_thing_passed}
 
 -- ---- containers
@@ -46,27 +47,30 @@ held_at (leaving items exits) = []
 held_at (doing kind) = held_by kind
 
 abbrev mutual
-  -- a scope of the graph makes the container its own
-  pub does_hold : KindTree → (number : ℕ) → Bool
-  does_hold (task code ins outs) number = false
-  does_hold (map_scope params private body) number = has_number private number || do_hold body number
-  does_hold (consume_scope stream element private body) number = has_number (element ∷ private) number || do_hold body number
-  does_hold (nested_graph inner links) number = false
-  does_hold (reduction resolution axis identity from to) number = false
-  does_hold (copy from to) number = false
+  -- those that the scopes among items make their own
+  pub held_in_kind : KindTree → List ℕ
+  held_in_kind (task code ins outs) = []
+  held_in_kind (map_scope params private body) = private ++ held_in body
+  held_in_kind (consume_scope stream element private body) = (element ∷ private) ++ held_in body
+  held_in_kind (nested_graph inner links) = []
+  held_in_kind (reduction resolution axis identity from to) = []
+  held_in_kind (copy from to) = []
 
-  pub do_hold : ItemTrees → (number : ℕ) → Bool
-  do_hold no_item number = false
-  do_hold (and_item line kind items) number = does_hold kind number || do_hold items number
+  pub held_in : ItemTrees → List ℕ
+  held_in no_item = []
+  held_in (and_item line kind items) = held_in_kind kind ++ held_in items
 
-abbrev pub is_held : StateTrees → (number : ℕ) → Bool
-is_held no_state number = false
-is_held (and_state items exits states) number = do_hold items number || is_held states number
+abbrev pub held_in_states : StateTrees → List ℕ
+held_in_states no_state = []
+held_in_states (and_state items exits states) = held_in items ++ held_in_states states
 
 -- each private container of a graph is that of a scope
+abbrev pub is_private_held : Containers → (held : List ℕ) → (number : ℕ) → Bool
+is_private_held containers held number = not (is_private (container_at containers number).kind) || has_number held number
+
 abbrev pub are_private_held : GraphTree → Bool
 are_private_held (graph name containers arguments variables symbols states) =
-    list_all (λ number. not (is_private (container_at containers number).kind) || is_held states number) (numbers_below (length containers))
+    list_all (is_private_held containers (held_in_states states)) (numbers_below (length containers))
 
 -- the one constant extent 1
 abbrev pub is_one : List Affine → Bool
@@ -90,9 +94,6 @@ are_own_private containers (doing (reduction resolution axis identity from to)) 
 are_own_private containers (doing (copy from to)) = true
 
 -- ---- variables
-
-abbrev pub symbols_in : GraphTree → ℕ
-symbols_in (graph name containers arguments variables symbols states) = symbols
 
 -- the graph has the variable
 abbrev pub is_there : GraphTree → (variable : ℕ) → Bool
@@ -134,7 +135,7 @@ numbers_at numbers places = flat_map (λ place. numbers place.thing) places
 -- each of the numbers is none of those, and they are there once
 abbrev pub are_new : (known : List ℕ) → List ℕ → Bool
 are_new known [] = true
-are_new known (number ∷ numbers) = not (has_number known number) && are_new (number ∷ known) numbers
+are_new known (number ∷ numbers) = not (has_number known number) && are_new (known ++ number ∷ []) numbers
 
 -- none of the numbers is one of those
 abbrev pub are_apart : (known : List ℕ) → List ℕ → Bool
@@ -164,11 +165,15 @@ names_tests place = record {
   code = λ code. list_all (is_variable_in_force place) code.variables;
 }
 
+-- what is given a value is there
+abbrev pub are_given_there : Place → Bool
+are_given_there place = list_all (is_there place.graph) (params_at place.thing) && list_all (is_there place.graph) (set_at place.thing)
+
 -- what is named is in force, and what is given a value is there
 abbrev pub are_names_in_force : Place → Bool
 are_names_in_force place =
     (is_thing_passed (names_tests place) place.thing && is_stream_in_force (containers_of place.graph) place.scopes.private place.thing)
-    && (list_all (is_there place.graph) (params_at place.thing) && list_all (is_there place.graph) (set_at place.thing))
+    && are_given_there place
 
 abbrev pub rule_1 : (before : List Place) → Place → Bool
 rule_1 before place =

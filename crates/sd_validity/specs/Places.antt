@@ -1,9 +1,12 @@
 -- The places of a graph at which its rules are asked, in their order.
-use Rattle.std.specs.Prelude.{ℕ, suc, List, [], ◌∷◌, ◌++◌, map, length}
+use Rattle.std.specs.Prelude.{ℕ, suc, List, [], ◌∷◌, ◌++◌, map, length, Bool}
 use Rattle.sd_range.specs.declared.range.Range.{Range}
 use Rattle.sd_graph.specs.PlainTree.{KindTree, task, map_scope, consume_scope, nested_graph, reduction, copy, ItemTrees, no_item, and_item, StateTrees, no_state, and_state, GraphTree, graph, ExitTree}
 use Rattle.sd_graph.specs.TreeParts.{states_of_graph}
 use Rattle.sd_graph.specs.LoopScope.{loops_in_force}
+use Rattle.sd_validity.specs.GraphParts.{variables_of}
+use Rattle.sd_loops.specs.About.{loops_about}
+use Rattle.sd_validity.specs.Ranks.{ranks_of}
 
 -- what stands at a place: a graph as a whole, a state's items with the transitions out of it, or an item
 pub data Thing : Type 0 where
@@ -21,14 +24,17 @@ abbrev pub no_scopes : Scopes
 no_scopes = record { count = 0; private = []; params = [] }
 
 -- A place: its path, in which an item stands by its number in its list, behind those of the scopes about it; the graph in which it stands,
--- with the path of that graph and the number of graphs about it; the state, with the loop variables in force in it; the scopes about it; and what stands there.
+-- with the path of that graph, the number of graphs about it, and which of its variables have a rank; the state, with the loop variables in force
+-- in it and the number of loops about it; the scopes about it; and what stands there.
 pub record Place : Type 0 where
   pub path : List ℕ
   pub graph : GraphTree
   pub graph_path : List ℕ
   pub depth : ℕ
+  pub ranks : List Bool
   pub state : ℕ
   pub loops : List ℕ
+  pub loop_count : ℕ
   pub scopes : Scopes
   pub thing : Thing
 
@@ -42,10 +48,6 @@ in_map scopes params private = record { count = suc scopes.count; private = priv
 abbrev pub in_consume : Scopes → (element : ℕ) → (private : List ℕ) → Scopes
 in_consume scopes element private = record { count = suc scopes.count; private = (element ∷ private) ++ scopes.private; params = scopes.params }
 
--- the names of a graph's variables
-abbrev pub variables_of : GraphTree → List (List ℕ)
-variables_of (graph name containers arguments variables symbols states) = variables
-
 -- the loop variables in force in a state
 abbrev pub loops_at : GraphTree → (state : ℕ) → List ℕ
 loops_at tree state = loops_in_force (states_of_graph tree) (length (variables_of tree)) state
@@ -56,12 +58,28 @@ further path number = path ++ number ∷ []
 
 -- the place of a graph as a whole
 abbrev pub graph_place : GraphTree → (path : List ℕ) → (depth : ℕ) → Place
-graph_place tree path depth = record { path = path; graph = tree; graph_path = path; depth = depth; state = 0; loops = []; scopes = no_scopes; thing = whole }
+graph_place tree path depth = record {
+  path = path;
+  graph = tree;
+  graph_path = path;
+  depth = depth;
+  ranks = ranks_of tree;
+  state = 0;
+  loops = [];
+  loop_count = 0;
+  scopes = no_scopes;
+  thing = whole;
+}
 
 -- of a state of it
 abbrev pub state_place : Place → (number : ℕ) → ItemTrees → List ExitTree → Place
-state_place around number items exits =
-    record around { path = further around.path number; state = number; loops = loops_at around.graph number; thing = leaving items exits }
+state_place around number items exits = record around {
+  path = further around.path number;
+  state = number;
+  loops = loops_at around.graph number;
+  loop_count = loops_about (states_of_graph around.graph) number;
+  thing = leaving items exits;
+}
 
 -- of an item of a list of it
 abbrev pub item_place : Place → (scopes : Scopes) → (number : ℕ) → KindTree → Place

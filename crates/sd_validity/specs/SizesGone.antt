@@ -5,9 +5,9 @@ use Rattle.sd_range.specs.declared.affine.Affine.{Affine}
 use Rattle.sd_graph.specs.PlainTree.{ValueTree, literal, variable, local, input, one, two, choice, ValueTrees, no_value, and_value, ActTree, set_local, assign, branch, ActTrees, no_act, and_act, TaskletTree, GraphTree}
 use Rattle.sd_graph.specs.TreeParts.{containers_of}
 use Rattle.sd_valid.specs.BoundCode.{names_symbol}
+use Rattle.sd_validity.specs.GraphParts.{symbols_in}
 use Rattle.sd_validity.specs.Places.{Thing, whole, leaving, doing, Place}
 use Rattle.sd_validity.specs.Parts.{is_empty, Tests, is_thing_passed}
-use Rattle.sd_validity.specs.NamesInForce.{symbols_in}
 
 -- an expression has no size symbol, which are the first variables
 abbrev pub is_free : (symbols : ℕ) → Affine → Bool

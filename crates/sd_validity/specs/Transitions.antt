@@ -1,18 +1,19 @@
 -- Rule 3: transitions lead to states that are there, and set the variables of `for` loops alone.
-use Rattle.std.specs.Prelude.{ℕ, nat_eq, nat_lt, ℤ, pos, int_le, List, [], ◌∷◌, map, Bool, true, false, not, ◌&&◌, ◌||◌, if◌then◌else◌, Option, Some, None, slice_get}
+use Rattle.std.specs.Prelude.{ℕ, nat_eq, nat_lt, ℤ, pos, int_le, List, [], ◌∷◌, ◌++◌, map, Bool, true, false, not, ◌&&◌, ◌||◌, if◌then◌else◌, Option, Some, None, slice_get}
 use Rattle.std.specs.List.{list_all, flat_map}
 use Rattle.std.specs.Ordering.{int_eq}
 use Rattle.sd_range.specs.declared.affine.Affine.{Affine}
-use Rattle.sd_graph.specs.PlainTree.{ValueTree, literal, variable, local, input, one, two, choice, no_value, assign, ActTrees, no_act, and_act, GuardTree, ExitTree, StateTrees}
+use Rattle.sd_graph.specs.PlainTree.{ValueTree, literal, variable, local, input, one, two, choice, GuardTree, ExitTree, StateTrees}
 use Rattle.sd_graph.specs.TreeParts.{states_of_graph, count_states, exits_at}
 use Rattle.sd_graph.specs.LoopScope.{leads_to}
 use Rattle.sd_graph.specs.declared.operator.OneSign.{OneSign}
 use Rattle.sd_graph.specs.declared.operator.OneSign.TheVariants.{Neg}
 use Rattle.sd_graph.specs.declared.operator.TwoSign.{TwoSign}
-use Rattle.sd_graph.specs.declared.operator.TwoSign.TheVariants.{Less, Add, Sub, Mul}
+use Rattle.sd_graph.specs.declared.operator.TwoSign.TheVariants.{Add, Sub, Mul}
 use Rattle.sd_validity.specs.Places.{Thing, whole, leaving, doing, Place}
 use Rattle.sd_validity.specs.Parts.{is_empty}
 use Rattle.sd_validity.specs.NamesInForce.{of_graph}
+use Rattle.sd_validity.specs.Compared.{Comparison, compared}
 
 -- ---- where transitions lead
 
@@ -59,20 +60,15 @@ abbrev pub is_number : Option ℕ → (number : ℕ) → Bool
 is_number None number = false
 is_number (Some other) number = nat_eq other number
 
--- the value is whether a variable is below an affine expression
-abbrev pub is_below : (variables : List ℕ) → (number : ℕ) → ValueTree → Bool
-is_below variables number (two Less (variable place) bound) = is_number (slice_get variables place) number && is_affine_value bound
-is_below variables number value = false
-
--- code that gives this value to its output
-abbrev pub gives_below : (variables : List ℕ) → (number : ℕ) → ActTrees → Bool
-gives_below variables number (and_act (assign connector no_value value) no_act) = is_below variables number value
-gives_below variables number acts = false
+-- what is compared is whether a variable is below an affine expression
+abbrev pub is_below : (variables : List ℕ) → (number : ℕ) → Option Comparison → Bool
+is_below variables number None = false
+is_below variables number (Some comparison) = is_number (slice_get variables comparison.place) number && is_affine_value comparison.bound
 
 -- a condition that reads nothing, and says that the variable is below an affine expression
 abbrev pub is_condition_below : (number : ℕ) → Option GuardTree → Bool
 is_condition_below number None = false
-is_condition_below number (Some guard) = is_empty guard.reads && gives_below guard.code.variables number guard.code.body
+is_condition_below number (Some guard) = is_empty guard.reads && is_below guard.code.variables number (compared guard.code.body)
 
 abbrev pub is_unconditional : Option GuardTree → Bool
 is_unconditional None = true
@@ -92,11 +88,14 @@ is_alone number (term ∷ terms) = (nat_eq term.0 number && int_eq term.1 (pos 1
 abbrev pub is_step_of : (number : ℕ) → Affine → Bool
 is_step_of number value = is_alone number value.terms && int_le (pos 1) value.constant
 
+-- a state is the begin, or no path leads from it to the end that does not come to the begin
+abbrev pub is_kept_out : StateTrees → (begin from end : ℕ) → Bool
+is_kept_out states begin from end = nat_eq from begin || not (leads_to states begin from end)
+
 -- Each path from state 0 to the end of a loop comes to the loop's begin, and leaves it for the last time by the first of its two transitions:
 -- neither from state 0 nor from where the second one leads is there a path to the end that does not come to the begin.
 abbrev pub is_entered_at_begin : StateTrees → (begin end : ℕ) → List ExitTree → Bool
-is_entered_at_begin states begin end (first ∷ second ∷ []) =
-    (nat_eq begin 0 || not (leads_to states begin 0 end)) && (nat_eq second.to begin || not (leads_to states begin second.to end))
+is_entered_at_begin states begin end (first ∷ second ∷ []) = is_kept_out states begin 0 end && is_kept_out states begin second.to end
 is_entered_at_begin states begin end exits = false
 
 -- A transition that sets a variable leads to the begin of the variable's loop; a marked one closes the loop, and adds a step.
@@ -107,10 +106,14 @@ sets_loop_variable states state exit assignment =
 
 -- ---- one begin
 
--- the variables that transitions set, each with the state to which its transition leads
+-- the variables that a transition sets, each with the state to which it leads
+abbrev pub begins_of : ExitTree → List (ℕ × ℕ)
+begins_of exit = map (λ assignment. (assignment.0, exit.to)) exit.set
+
+-- those of the transitions at a place
 abbrev pub begins_at : Thing → List (ℕ × ℕ)
 begins_at whole = []
-begins_at (leaving items exits) = flat_map (λ exit. map (λ assignment. (assignment.0, exit.to)) exit.set) exits
+begins_at (leaving items exits) = flat_map begins_of exits
 begins_at (doing kind) = []
 
 -- of one variable, and with another state
@@ -120,7 +123,7 @@ are_begins_agreed begin other = not (nat_eq begin.0 other.0) || nat_eq begin.1 o
 -- each agrees with those before it
 abbrev pub agree : (known : List (ℕ × ℕ)) → List (ℕ × ℕ) → Bool
 agree known [] = true
-agree known (begin ∷ begins) = list_all (are_begins_agreed begin) known && agree (begin ∷ known) begins
+agree known (begin ∷ begins) = list_all (are_begins_agreed begin) known && agree (known ++ begin ∷ []) begins
 
 -- those of the same graph before a place
 abbrev pub begins_before : (before : List Place) → Place → List (ℕ × ℕ)
@@ -128,13 +131,12 @@ begins_before before place = flat_map (λ other. begins_at other.thing) (of_grap
 
 -- ---- the rule
 
-abbrev pub are_exits_right : StateTrees → (state : ℕ) → List ExitTree → Bool
-are_exits_right states state exits =
-    list_all (leads_right (count_states states) state) exits && list_all (λ exit. list_all (sets_loop_variable states state exit) exit.set) exits
+abbrev pub is_exit_right : StateTrees → (state : ℕ) → ExitTree → Bool
+is_exit_right states state exit = leads_right (count_states states) state exit && list_all (sets_loop_variable states state exit) exit.set
 
 abbrev pub are_transitions_right : StateTrees → (state : ℕ) → Thing → Bool
 are_transitions_right states state whole = true
-are_transitions_right states state (leaving items exits) = are_exits_right states state exits
+are_transitions_right states state (leaving items exits) = list_all (is_exit_right states state) exits
 are_transitions_right states state (doing kind) = true
 
 abbrev pub rule_3 : (before : List Place) → Place → Bool

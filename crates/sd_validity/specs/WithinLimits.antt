@@ -1,26 +1,25 @@
 -- Rule 7: the limits.
-use Rattle.std.specs.Prelude.{ℕ, ◌+◌, ◌^◌, nat_eq, nat_lt, nat_le, pos, int_le, int_lt, unsigned_abs, List, [], ◌∷◌, map, length, Bool, true, false, not, ◌&&◌, ◌||◌, if◌then◌else◌, Option, Some, None, Result, Ok, Err, slice_index_or}
-use Rattle.std.specs.List.{list_all, list_any, filter, sum}
+use Rattle.std.specs.Prelude.{ℕ, ◌+◌, ◌^◌, nat_lt, nat_le, pos, int_le, int_lt, unsigned_abs, List, [], ◌∷◌, map, length, Bool, true, false, not, ◌&&◌, ◌||◌, if◌then◌else◌, Option, Some, None, Result, Ok, Err, slice_index_or}
+use Rattle.std.specs.List.{list_all, sum}
 use Rattle.sd_range.specs.Weight.{weight_of}
 use Rattle.sd_range.specs.Arithmetic.{affine_zero, affine_sum, affine_difference, affine_product}
 use Rattle.sd_range.specs.declared.affine.Affine.{Affine}
 use Rattle.sd_range.specs.declared.range.Range.{Range}
-use Rattle.sd_graph.specs.PlainTree.{ValueTree, literal, variable, local, input, one, two, choice, no_value, ActTrees, assign, no_act, and_act, KindTree, task, map_scope, consume_scope, nested_graph, reduction, copy, StateTrees, GraphTree, GuardTree, ExitTree}
-use Rattle.sd_graph.specs.TreeParts.{containers_of, states_of_graph, count_states, exits_at}
+use Rattle.sd_graph.specs.PlainTree.{ValueTree, literal, variable, local, input, one, two, choice, KindTree, task, map_scope, consume_scope, nested_graph, reduction, copy, GraphTree, GuardTree, ExitTree}
+use Rattle.sd_graph.specs.TreeParts.{containers_of, states_of_graph, count_states}
 use Rattle.sd_graph.specs.ContainerParts.{Containers, is_stream}
 use Rattle.sd_graph.specs.Wiring.{has_number}
-use Rattle.sd_graph.specs.LoopScope.{numbers_below, is_on_loop}
 use Rattle.sd_graph.specs.declared.container.Container.{Container}
 use Rattle.sd_graph.specs.declared.operator.TwoSign.{TwoSign}
-use Rattle.sd_graph.specs.declared.operator.TwoSign.TheVariants.{Less, Add, Sub, Mul}
+use Rattle.sd_graph.specs.declared.operator.TwoSign.TheVariants.{Add, Sub, Mul}
 use Rattle.sd_valid.specs.Limits.{elements_in, tally}
-use Rattle.sd_validity.specs.Places.{Thing, whole, leaving, doing, Place}
+use Rattle.sd_wire.specs.Listing.{nodes_of}
+use Rattle.sd_validity.specs.Places.{Thing, whole, leaving, doing, Place, param_numbers}
 use Rattle.sd_validity.specs.Parts.{is_empty, Tests, is_thing_passed}
-use Rattle.sd_validity.specs.NamesInForce.{params_at}
 use Rattle.sd_validity.specs.Transitions.{has_numbers_only}
-use Rattle.sd_validity.specs.NodeCounts.{state_nodes}
-use Rattle.sd_validity.specs.Ranks.{begun_at, namings, has_rank}
+use Rattle.sd_validity.specs.Ranks.{begun_at, is_ranked}
 use Rattle.sd_validity.specs.CodeSize.{is_code_small}
+use Rattle.sd_validity.specs.Compared.{Comparison, compared}
 
 -- from one number to another
 abbrev pub is_within : (least most : ℕ) → ℕ → Bool
@@ -63,15 +62,15 @@ is_value_small variables (two sign left right) =
     is_small (affine_of variables (two sign left right)) && (is_value_small variables left && is_value_small variables right)
 is_value_small variables (choice value when other) = true
 
--- a condition that one of these variables is below an end: the end is small
-abbrev pub is_end_small : (begun : List ℕ) → (variables : List ℕ) → ActTrees → Bool
-is_end_small begun variables (and_act (assign connector no_value (two Less (variable place) bound)) no_act) =
-    not (has_number begun (slice_index_or variables place 0)) || is_value_small variables bound
-is_end_small begun variables acts = true
+-- a comparison of one of these variables with an end: the end is small
+abbrev pub is_end_small : (begun : List ℕ) → (variables : List ℕ) → Option Comparison → Bool
+is_end_small begun variables None = true
+is_end_small begun variables (Some comparison) =
+    not (has_number begun (slice_index_or variables comparison.place 0)) || is_value_small variables comparison.bound
 
 abbrev pub is_condition_small : (begun : List ℕ) → Option GuardTree → Bool
 is_condition_small begun None = true
-is_condition_small begun (Some guard) = is_end_small begun guard.code.variables guard.code.body
+is_condition_small begun (Some guard) = is_end_small begun guard.code.variables (compared guard.code.body)
 
 -- ---- graphs
 
@@ -79,9 +78,13 @@ is_condition_small begun (Some guard) = is_end_small begun guard.code.variables 
 abbrev pub is_container_small : Container → Bool
 is_container_small container = if is_stream container.kind then is_empty container.extents else is_within 1 4 (length container.extents)
 
--- the elements of the containers of a graph
+-- the elements of containers
+abbrev pub elements_of : Containers → ℕ
+elements_of containers = sum (map (λ entry. elements_in entry.1) containers)
+
+-- those of a graph as a whole
 abbrev pub elements_at : GraphTree → Thing → ℕ
-elements_at tree whole = sum (map (λ entry. elements_in entry.1) (containers_of tree))
+elements_at tree whole = elements_of (containers_of tree)
 elements_at tree (leaving items exits) = 0
 elements_at tree (doing kind) = 0
 
@@ -106,54 +109,55 @@ is_graph_small tree depth before =
 -- the nodes of a state
 abbrev pub nodes_at : GraphTree → Thing → ℕ
 nodes_at tree whole = 0
-nodes_at tree (leaving items exits) = state_nodes (containers_of tree) items
+nodes_at tree (leaving items exits) = length (nodes_of (containers_of tree) items)
 nodes_at tree (doing kind) = 0
 
 -- 1,024 nodes, 65,536 with those of the states before; the ends of loops that begin there, and the ranks of their variables
-abbrev pub is_state_small : GraphTree → (state : ℕ) → (nodes before : ℕ) → List ExitTree → Bool
-is_state_small tree state nodes before exits =
+abbrev pub is_state_small : Place → (nodes before : ℕ) → List ExitTree → Bool
+is_state_small place nodes before exits =
     (nat_le nodes 1024 && nat_le (before + nodes) 65536)
-    && (list_all (λ exit. is_condition_small (begun_at (states_of_graph tree) state) exit.when) exits
-    && list_all (has_rank (namings (states_of_graph tree)) 7) (begun_at (states_of_graph tree) state))
+    && (list_all (λ exit. is_condition_small (begun_at (states_of_graph place.graph) place.state) exit.when) exits
+    && list_all (is_ranked place.ranks) (begun_at (states_of_graph place.graph) place.state))
 
 -- ---- items
 
--- a state is in a loop that begins at another
-abbrev pub is_in_loop : StateTrees → (state begin : ℕ) → Bool
-is_in_loop states state begin =
-    list_any (λ end. list_any (λ exit. exit.back && nat_eq exit.to begin) (exits_at states end) && is_on_loop states begin end state) (numbers_below (count_states states))
+-- a map has 1 to 8 parameters, which have a rank
+abbrev pub are_params_small : (ranks : List Bool) → List (ℕ × Range) → Bool
+are_params_small ranks params = is_within 1 8 (length params) && list_all (is_ranked ranks) (param_numbers params)
 
--- how many loops there are about a state
-abbrev pub loops_about : StateTrees → (state : ℕ) → ℕ
-loops_about states state = length (filter (is_in_loop states state) (numbers_below (count_states states)))
-
--- a map has 1 to 8 parameters
-abbrev pub has_few_params : KindTree → Bool
-has_few_params (task code ins outs) = true
-has_few_params (map_scope params private body) = is_within 1 8 (length params)
-has_few_params (consume_scope stream element private body) = true
-has_few_params (nested_graph inner links) = true
-has_few_params (reduction resolution axis identity from to) = true
-has_few_params (copy from to) = true
+abbrev pub has_small_params : (ranks : List Bool) → KindTree → Bool
+has_small_params ranks (task code ins outs) = true
+has_small_params ranks (map_scope params private body) = are_params_small ranks params
+has_small_params ranks (consume_scope stream element private body) = true
+has_small_params ranks (nested_graph inner links) = true
+has_small_params ranks (reduction resolution axis identity from to) = true
+has_small_params ranks (copy from to) = true
 
 -- at most 7 scopes and loops about it
-abbrev pub is_item_small : GraphTree → (state scopes : ℕ) → KindTree → Bool
-is_item_small tree state scopes kind =
-    nat_le (scopes + loops_about (states_of_graph tree) state) 7
-    && (has_few_params kind && list_all (has_rank (namings (states_of_graph tree)) 7) (params_at (doing kind)))
+abbrev pub is_item_small : Place → KindTree → Bool
+is_item_small place kind = nat_le (place.scopes.count + place.loop_count) 7 && has_small_params place.ranks kind
 
 -- ---- the rule
 
--- what is asked of a graph, a state or an item, behind these places
-abbrev pub is_thing_small : (before : List Place) → Place → Thing → Bool
-is_thing_small before place whole = is_graph_small place.graph place.depth (sum (map (λ other. elements_at other.graph other.thing) before))
-is_thing_small before place (leaving items exits) =
-    is_state_small place.graph place.state (nodes_at place.graph (leaving items exits)) (sum (map (λ other. nodes_at other.graph other.thing) before)) exits
-is_thing_small before place (doing kind) = is_item_small place.graph place.state place.scopes.count kind
+-- the elements, and the nodes, of these places
+abbrev pub elements_among : List Place → ℕ
+elements_among places = sum (map (λ other. elements_at other.graph other.thing) places)
+
+abbrev pub nodes_among : List Place → ℕ
+nodes_among places = sum (map (λ other. nodes_at other.graph other.thing) places)
+
+-- what is asked of a graph, a state or an item, behind places with so many elements and nodes
+abbrev pub is_thing_small : (elements nodes : ℕ) → Place → Thing → Bool
+is_thing_small elements nodes place whole = is_graph_small place.graph place.depth elements
+is_thing_small elements nodes place (leaving items exits) = is_state_small place (nodes_at place.graph (leaving items exits)) nodes exits
+is_thing_small elements nodes place (doing kind) = is_item_small place kind
 
 -- ranges, expressions and code are small
 abbrev pub limits_tests : Tests
 limits_tests = record { link = λ link. true; range = is_range_small; expression = is_small; code = is_code_small }
 
+abbrev pub is_place_small : (elements nodes : ℕ) → Place → Bool
+is_place_small elements nodes place = is_thing_small elements nodes place place.thing && is_thing_passed limits_tests place.thing
+
 abbrev pub rule_7 : (before : List Place) → Place → Bool
-rule_7 before place = is_thing_small before place place.thing && is_thing_passed limits_tests place.thing
+rule_7 before place = is_place_small (elements_among before) (nodes_among before) place

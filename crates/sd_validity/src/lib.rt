@@ -7,13 +7,7 @@
 //! By `laws` a valid graph is as the laws of `sd_graph` ask.
 #![tactic(auto)]
 
-mod container;
-mod failing;
 mod laws;
-mod place;
-mod places;
-mod streams;
-mod validate;
 
 pub use laws::{
     a_graph_is_valid_where_no_rule_fails, a_graph_with_its_names_names_what_is_in_force,
@@ -21,4 +15,3 @@ pub use laws::{
     a_graph_with_right_transitions_leads_upwards, a_valid_graph_is_as_its_laws_ask,
     the_place_that_is_told_is_the_first_that_fails,
 };
-pub use validate::misused_stream;

@@ -6,6 +6,7 @@ use Rattle.sd_range.specs.declared.subset.Dim.TheVariants.{Index, Span}
 use Rattle.sd_graph.specs.PlainTree.{literal, local, input, no_value, set_local, assign, branch, no_act, and_act, ExitTree, KindTree, task, map_scope, consume_scope, nested_graph, reduction, copy, ItemTrees, no_item, and_item, StateTrees, no_state, and_state, GraphTree, graph}
 use Rattle.sd_graph.specs.declared.container.Container.{Container}
 use Rattle.sd_graph.specs.declared.container.ContainerKind.TheVariants.{Argument, Transient, Private, Stream}
+use Rattle.sd_validity.specs.Ranks.{ranks_of}
 use Rattle.sd_validity.specs.Valid.{invalidity}
 use Rattle.sd_validity.proofs.examples.ExampleParts.{number, plus, range, span, container, link, code, giving, below, exit, one_item, writing}
 
@@ -75,6 +76,7 @@ abbrev behind_loop : ItemTrees
 behind_loop = and_item 3 push_item (and_item 4 consume_item (and_item 5 copy_item (and_item 6 nested_item (and_item 7 reduce_item no_item))))
 
 all_rules_hold : invalidity (looped (one_item map_item) behind_loop) ≡ None
+unfolding ranks_of
 all_rules_hold = refl
 
 -- ---- broken graphs: the rule and the path that are told
@@ -201,15 +203,19 @@ a_graph_without_a_state : invalidity (graph [] [] 0 [] 0 no_state) ≡ Some (7, 
 a_graph_without_a_state = refl
 
 a_map_without_parameters : told (map_scope [] [] no_item) ≡ at_item 7
+unfolding ranks_of
 a_map_without_parameters = refl
 
 a_range_that_does_not_rise : told (map_scope ((2, record (range (number (pos 0)) (number (pos 1))) { step = pos 0 }) ∷ []) [] no_item) ≡ at_item 7
+unfolding ranks_of
 a_range_that_does_not_rise = refl
 
 a_constant_too_wide : told (writing 0 (number (pos 2199023255552))) ≡ at_item 7
+unfolding ranks_of
 a_constant_too_wide = refl
 
 the_widest_constant : told (writing 0 (number (pos 2199023255551))) ≡ None
+unfolding ranks_of
 the_widest_constant = refl
 
 -- rule 8

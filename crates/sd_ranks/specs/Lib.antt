@@ -1,0 +1,3 @@
+pub mod ComparisonOf
+pub mod Listed
+pub mod Lowered

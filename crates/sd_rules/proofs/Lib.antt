@@ -1,0 +1,4 @@
+pub mod Below
+pub mod States
+pub mod PrivateHeld
+pub mod Pushed
