@@ -1,5 +1,5 @@
 -- Items behind others.
-use Rattle.std.proofs.Common.{◌≡◌, ◌∙◌, ℕ, ℤ, ◌+◌, Option, Bool, true, arith, List, [], ◌∷◌, ◌++◌, refl, ap, sym}
+use Rattle.std.proofs.Common.{◌≡◌, ◌∙◌, ℕ, ◌+◌, Bool, true, arith, List, [], ◌∷◌, ◌++◌, refl, ap, sym}
 use Rattle.sd_lex.specs.PlainTree.{StatementTree, argument_array, local_array, local_stream, assign, copy, reduce, map_scope, tasklet, consume_scope, call, for_loop, while_loop, branch, input, output, set, set_at, tasklet_branch, Block, no_statement, and_statement}
 use Rattle.sd_program.specs.Declared.{containers_in, containers_in_all}
 use Rattle.sd_program.specs.Names.{Name}
@@ -13,12 +13,10 @@ use Rattle.sd_graph.specs.declared.graph.ItemKind.{ItemKind}
 use Rattle.sd_graph.specs.declared.graph.ItemKind.TheFolds.{fold-roll-Item}
 use Rattle.sd_graph.specs.declared.graph.ItemKind.TheOpen.{Item-F}
 use Rattle.sd_graph.specs.declared.graph.ItemKind.TheViews.{roll-Item}
-use Rattle.sd_tasklet_item.specs.Item.{tasklet_item}
 use Rattle.sd_items.specs.Appended.{appended}
 use Rattle.sd_items.specs.Counts.{variables_in, variables_in_all}
 use Rattle.sd_items.specs.Items.{items_with, items_of_body}
 use Rattle.sd_items.specs.NamesBehind.{table_behind}
-use Rattle.sd_items.specs.Scopes.{consume_kind}
 
 -- an item that is closed
 item_rolled : (item : Item-F ItemKind Item Sdfg State) → item_tree (roll-Item item) ≡ (item.line, kind_tree item.kind)
@@ -81,20 +79,6 @@ module _ (graphs : Name → GraphTree) where
       ∙ one_more_made old new first rest before container variable made
       ∙ ap (λ block. appended old (items_of_body graphs block before container variable)) (sym left-is)
       ∙ all-is
-
-  -- the item of a tasklet
-  pub tasklet_made : (statement : StatementTree) (line : ℕ) (body : Block) (in_scope : Bool) (table : Table) (container variable : ℕ) (kind : KindTree) →
-      statement ≡ tasklet line body → kind ≡ tasklet_item table body →
-      and_item line kind no_item ≡ items_with graphs statement in_scope table container variable no_item
-  tasklet_made statement line body in_scope table container variable kind statement-is kind-is =
-      ap (λ kind. and_item line kind no_item) kind-is ∙ ap (λ statement. items_with graphs statement in_scope table container variable no_item) (sym statement-is)
-
-  -- the item of a consume scope
-  pub consume_made : (statement : StatementTree) (line : ℕ) (stream : Name) (size : ℤ) (name element : Name) (worker : Option Name) (body : Block) (in_scope : Bool) (table : Table) (container variable : ℕ) (kind : KindTree) →
-      statement ≡ consume_scope line stream size name element worker body → kind ≡ consume_kind graphs table line stream element body container variable →
-      and_item line kind no_item ≡ items_with graphs statement in_scope table container variable no_item
-  consume_made statement line stream size name element worker body in_scope table container variable kind statement-is kind-is =
-      ap (λ kind. and_item line kind no_item) kind-is ∙ ap (λ statement. items_with graphs statement in_scope table container variable no_item) (sym statement-is)
 
 -- one statement of a block counted
 pub containers_counted : (left rest : Block) (first : StatementTree) (number next total : ℕ) →

@@ -1,5 +1,5 @@
 -- Lists of names, and links of calls.
-use Rattle.std.proofs.Common.{◌≡◌, ◌∙◌, Result, Ok, Err, OnOk, List, [], ◌∷◌, ◌++◌, length, map, refl, ap, sym, arith}
+use Rattle.std.proofs.Common.{◌≡◌, ◌∙◌, List, [], ◌∷◌, ◌++◌, length, map, refl, ap, sym, arith}
 use Rattle.std.proofs.lemmas.List.{append-nil}
 
 pub map_length : {A B : Type 0} (f : A → B) (members : List A) → length (map f members) ≡ length members
@@ -9,8 +9,3 @@ map_length f (first ∷ members) = omega (arith, map_length f members)
 -- what was made is all where nothing is left
 pub all_made : {A : Type 0} (made all left : List A) → made ++ left ≡ all → left ≡ [] → made ≡ all
 all_made made all left whole none = sym (append-nil made) ∙ ap (λ rest. made ++ rest) (sym none) ∙ whole
-
--- what holds anyway holds where a call succeeds
-pub on_ok : {A E : Type 0} {P : Type 0} (result : Result A E) → P → OnOk result P
-on_ok (Ok value) holds = holds
-on_ok (Err error) holds = tt

@@ -5,3 +5,4 @@ pub mod Items
 pub mod Graphs
 pub mod GraphsByNumber
 pub mod Scopes
+pub mod Kinds

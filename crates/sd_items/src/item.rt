@@ -1,4 +1,4 @@
-ghost use Rattle.std.specs.Prelude.{◌≡◌, ◌+◌, ◌∷◌, length, map, string_bytes, IfOk, OnOk};
+ghost use Rattle.std.specs.Prelude.{◌≡◌, ◌+◌, ◌∷◌, length, map, option_map, string_bytes, IfOk, OnOk};
 ghost use Rattle.sd_lex.specs.TreeFold.{statement_of, block_of, dimensions_of};
 ghost use Rattle.sd_graph.specs.PlainTree as plain;
 ghost use Rattle.sd_graph.specs.TreeFold.{item_trees, kind_tree};
@@ -15,20 +15,20 @@ ghost use Rattle.sd_items.specs.Counts.{variables_in, variables_in_all};
 ghost use Rattle.sd_items.specs.Graphs.{graph_named};
 ghost use Rattle.sd_items.specs.GraphsByNumber.{graphs_of};
 ghost use Rattle.sd_items.specs.Items as definition;
+ghost use Rattle.sd_items.specs.Kinds as kinds;
 ghost use Rattle.sd_items.specs.Scopes as scopes;
 
-use crate::call::call;
 use crate::count::{containers_in, count_containers, count_names, count_variables, variables_in};
 use crate::declaration::{declare, own_containers};
 use crate::graphs::Graphs;
-use crate::simple::{copy, reduction};
+use crate::leaf::leaf_kind;
 use sd_graph::{Item, ItemKind, Link, Memlet};
 use sd_in_force::{more, number, parameters};
 use sd_lex::{Slot, Statement, has_connector};
 use sd_list::{NoMemory, Sequence, Text};
 use sd_range::{Dim, Subset};
-use sd_task::{Names, element_task};
-use sd_tasklet_item::{push_inputs, push_outputs, task_with, tasklet_item};
+use sd_task::Names;
+use sd_tasklet_item::{push_inputs, push_outputs, task_with};
 use std::alloc::Global;
 
 /// The numbers of the container and of the variable that come next.
@@ -38,11 +38,14 @@ pub struct Numbers {
     pub variable: u32,
 }
 
-/// One more item.
-fn push(items: &mut Vec<Item>, line: u32, kind: ItemKind) -> Result<(), NoMemory>
-    ensures { OnOk result (item_trees items.new.items ≡ appended (item_trees items.old.items) (plain.and_item line (kind_tree kind) plain.no_item)) }
+/// One more item, if there is one.
+#[tactic(auto, using(crate::proofs::ItemLemmas::nothing_behind))]
+fn push(items: &mut Vec<Item>, line: u32, kind: Option<ItemKind>) -> Result<(), NoMemory>
+    ensures { OnOk result (item_trees items.new.items ≡ appended (item_trees items.old.items) (kinds.item_if_any line (option_map kind_tree kind))) }
 {
-    items.push(Item { line, kind })?;
+    if let Some(kind) = kind {
+        items.push(Item { line, kind })?;
+    }
     Ok(())
 }
 
@@ -214,7 +217,7 @@ fn consumed_items(
     numbers.variable = more(numbers.variable, count_variables(body)?)?;
     let mut items = Vec::new(alloc);
     let kind = taking_task(alloc, names, element, container, body)?;
-    push(&mut items, line, kind)?;
+    push(&mut items, line, Some(kind))?;
     Ok(items)
 }
 
@@ -252,9 +255,51 @@ fn consume_scope(
     })
 }
 
+/// What the item of a statement is, if it has one. The numbers are then those that come next behind it.
+#[cycle(items)]
+fn item_kind(
+    alloc: Global,
+    graphs: &Graphs,
+    names: &mut Names,
+    numbers: &mut Numbers,
+    in_scope: bool,
+    statement: &Statement,
+) -> Result<Option<ItemKind>, NoMemory>
+    requires extents { HaveSmallExtents (table_of names.old).all }
+    requires small { Every (EachBound IsSmall) (statement_of statement.now) }
+    ensures kind { IfOk result (λ kind. option_map kind_tree kind ≡ kinds.kind_of (graph_named (graphs_of graphs.now)) (statement_of statement.now) in_scope (table_of names.old) numbers.old.container numbers.old.variable) }
+    ensures names { OnOk result (table_of names.new ≡ table_of names.old) }
+    ensures container { OnOk result (numbers.new.container ≡ numbers.old.container + containers_in (statement_of statement.now)) }
+    ensures variable { OnOk result (numbers.new.variable ≡ numbers.old.variable + variables_in (statement_of statement.now)) }
+{
+    match statement {
+        Statement::Map {
+            params,
+            ranges,
+            body,
+            ..
+        } => Ok(Some(map_scope(alloc, graphs, names, numbers, params, ranges, body)?)),
+        Statement::Consume {
+            line,
+            stream,
+            element,
+            body,
+            ..
+        } => {
+            let (stream, element) = (stream.as_str(), element.as_str());
+            let kind = consume_scope(alloc, graphs, names, numbers, *line, stream, element, body)?;
+            Ok(Some(kind))
+        }
+        _ => {
+            skip(numbers, statement)?;
+            leaf_kind(alloc, graphs, names, in_scope, statement)
+        }
+    }
+}
+
 /// Adds the item of a statement, if it has one. The numbers are then those that come next behind it.
 #[cycle(items)]
-#[tactic(auto, using(crate::proofs::ItemLemmas::nothing_behind))]
+#[tactic(auto, using(crate::proofs::KindLemmas::items_by_kind))]
 pub fn push_item(
     alloc: Global,
     graphs: &Graphs,
@@ -271,85 +316,11 @@ pub fn push_item(
     ensures container { OnOk result (numbers.new.container ≡ numbers.old.container + containers_in (statement_of statement.now)) }
     ensures variable { OnOk result (numbers.new.variable ≡ numbers.old.variable + variables_in (statement_of statement.now)) }
 {
-    match statement {
-        Statement::Assign {
-            line,
-            name,
-            at,
-            add,
-            value,
-        } => {
-            let kind = element_task(alloc, names, in_scope, name.as_str(), at, *add, value)?;
-            push(items, *line, kind)
-        }
-        Statement::Copy {
-            line,
-            to,
-            to_dims,
-            from,
-            from_dims,
-        } => {
-            let kind = copy(alloc, names, to.as_str(), to_dims, from.as_str(), from_dims)?;
-            push(items, *line, kind)
-        }
-        Statement::Reduce {
-            line,
-            lambda,
-            from,
-            to,
-            axis,
-            identity,
-        } => {
-            let (from, to) = (from.as_str(), to.as_str());
-            let kind = reduction(alloc, names, *lambda, from, to, *axis, *identity)?;
-            push(items, *line, kind)
-        }
-        Statement::Map {
-            line,
-            params,
-            ranges,
-            body,
-        } => {
-            let kind = map_scope(alloc, graphs, names, numbers, params, ranges, body)?;
-            push(items, *line, kind)
-        }
-        Statement::Tasklet { line, body } => {
-            push(items, *line, tasklet_item(alloc, names, body)?)
-        }
-        Statement::Consume {
-            line,
-            stream,
-            element,
-            body,
-            ..
-        } => {
-            let (stream, element) = (stream.as_str(), element.as_str());
-            let kind = consume_scope(alloc, graphs, names, numbers, *line, stream, element, body)?;
-            push(items, *line, kind)
-        }
-        Statement::Call {
-            line,
-            name,
-            arguments,
-        } => {
-            let kind = call(alloc, graphs, names, name.as_str(), arguments)?;
-            push(items, *line, kind)
-        }
-        Statement::Argument { .. }
-        | Statement::Local { .. }
-        | Statement::Stream { .. }
-        | Statement::For { .. }
-        | Statement::While { .. }
-        | Statement::If { .. }
-        | Statement::Input { .. }
-        | Statement::Output { .. }
-        | Statement::Set { .. }
-        | Statement::SetAt { .. }
-        | Statement::When { .. } => skip(numbers, statement),
-    }
+    let kind = item_kind(alloc, graphs, names, numbers, in_scope, statement)?;
+    push(items, statement.line(), kind)
 }
 
-/// Behind a statement that has no item.
+/// Behind a statement that is no scope with items of its own.
 fn skip(numbers: &mut Numbers, statement: &Statement) -> Result<(), NoMemory>
     ensures container { OnOk result (numbers.new.container ≡ numbers.old.container + containers_in (statement_of statement.now)) }
     ensures variable { OnOk result (numbers.new.variable ≡ numbers.old.variable + variables_in (statement_of statement.now)) }

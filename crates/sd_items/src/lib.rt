@@ -9,6 +9,7 @@ mod count;
 mod declaration;
 mod graphs;
 mod item;
+mod leaf;
 mod simple;
 
 pub use count::{count_containers, count_variables};

@@ -1,7 +1,12 @@
-use Rattle.std.proofs.Common.{◌∙◌, ap}
-use Rattle.sd_graph.specs.TreeFold.{item_trees}
+use Rattle.std.proofs.Common.{◌∙◌, ap, sym, option_map}
+use Rattle.sd_graph.specs.TreeFold.{item_trees, kind_tree}
+use Rattle.sd_items.specs.Appended.{appended}
+use Rattle.sd_items.specs.Kinds.{item_if_any}
 use Rattle.sd_items.proofs.ItemLemmas.{item_pushed}
 use Rattle.sd_items.proofs.item.push.Goals as goal
 
-pub returns : goal.returns
-returns c = ap item_trees c.in_ok-push.ensures.items ∙ item_pushed c.args.items.now.items record { line = c.args.line; kind = c.args.kind }
+pub returns-in_ok-push : goal.returns-in_ok-push
+returns-in_ok-push c =
+    ap item_trees c.in_ok-push.ensures.items
+    ∙ item_pushed c.args.items.now.items record { line = c.args.line; kind = c.in-Some.kind }
+    ∙ ap (λ kind. appended (item_trees c.args.items.now.items) (item_if_any c.args.line (option_map kind_tree kind))) (sym c.in-Some.is)
