@@ -39,16 +39,21 @@ taken (number ∷ numbers) (suc count) many there =
     let more : min (suc count) many ≡ suc (min count (length (map pos numbers))) = omega (arith, there) in
     rw more (ap (λ rest. pos number ∷ rest) (taken numbers count (length (map pos numbers)) refl))
 
--- an effect through the link of an output
-pub through_link : (context : Context) (inputs : Inputs) (ins outs : List Link) (effect : KeptEffect) (link : Link) (index : List ℤ) (room many : ℕ) →
-    length ins ≤ effect.connector → slice_get outs (effect.connector - length ins) ≡ Some link → index ≡ map pos effect.at → length index ≡ room →
-    many ≡ min (length (extents_of_connector inputs effect.connector)) room →
-    pending_through context link (record { connector = effect.connector; at = take many index; value = effect.value }) ≡ pending_told context inputs ins outs effect
-through_link context inputs ins outs effect link index room many output is index_is room_is many_is =
+-- an effect through a link
+pub at_place : (context : Context) (inputs : Inputs) (effect : KeptEffect) (link : Link) (index : List ℤ) (room many : ℕ) →
+    index ≡ map pos effect.at → length index ≡ room → many ≡ min (length (extents_of_connector inputs effect.connector)) room →
+    pending_through context link (record { connector = effect.connector; at = take many index; value = effect.value }) ≡ pending_through context link (told inputs effect)
+at_place context inputs effect link index room many index_is room_is many_is =
     let dimensions = length (extents_of_connector inputs effect.connector) in
-    let not_in : nat_lt effect.connector (length ins) ≡ false = grind (arith, nat_tests) in
     let at_told : take many index ≡ map pos (take dimensions effect.at) = ap (λ many. take many index) many_is
     ∙ ap (λ index. take (min dimensions room) index) index_is ∙ taken effect.at dimensions room (ap length (sym index_is) ∙ room_is) in
     ap (λ at. pending_through context link (record { connector = effect.connector; at = at; value = effect.value })) at_told
-    ∙ ap (λ link. pending_by context link (told inputs effect)) (sym is)
+
+-- it is the link of an output
+pub through_link : (context : Context) (inputs : Inputs) (ins outs : List Link) (effect : KeptEffect) (link : Link) →
+    length ins ≤ effect.connector → slice_get outs (effect.connector - length ins) ≡ Some link →
+    pending_through context link (told inputs effect) ≡ pending_told context inputs ins outs effect
+through_link context inputs ins outs effect link output is =
+    let not_in : nat_lt effect.connector (length ins) ≡ false = grind (arith, nat_tests) in
+    ap (λ link. pending_by context link (told inputs effect)) (sym is)
     ∙ ap (λ test. if test then pending_by context None (told inputs effect) else pending_by context (slice_get outs (effect.connector - length ins)) (told inputs effect)) (sym not_in)

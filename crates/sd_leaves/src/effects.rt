@@ -3,9 +3,10 @@ ghost use Rattle.std.specs.Prelude.{◌≡◌, ℕ, ◌∷◌, [], pos, map, len
 ghost use Rattle.sd_graph.specs.TreeFold.{graph_tree};
 ghost use Rattle.sd_graph.specs.TreeParts.{containers_of};
 ghost use Rattle.sd_graph.specs.ContainerParts.{container_at, is_stream as is_stream_kind};
-ghost use Rattle.sd_graph.specs.TaskletMeaning.{extents_of_connector};
+ghost use Rattle.sd_graph.specs.TaskletMeaning.{Inputs as InputsNow, extents_of_connector};
 ghost use Rattle.sd_graph.specs.Unfold.{pending_through};
 ghost use Rattle.sd_tasklet.specs.Given.{given};
+ghost use Rattle.sd_tasklet.specs.Kept.{told};
 ghost use Rattle.sd_scope.specs.Standing.{context_of};
 ghost use Rattle.sd_leaves.specs.Done.{IsDone, performing};
 ghost use Rattle.sd_leaves.specs.Given.{pending_told};
@@ -64,12 +65,30 @@ fn perform(
     let Some(link) = outs.get(connector - ins.len()) else {
         return Ok(Some(FaultKind::Subscript));
     };
+    let dimensions = dimensions_of(inputs, connector);
+    perform_effect(alloc, effect, dimensions, link, graph, base, scope, machine)
+}
+
+/// Performs an effect of a connector with so many dimensions through a link.
+pub fn perform_effect(
+    alloc: Global,
+    effect: Effect,
+    dimensions: usize,
+    link: &Link,
+    graph: &Sdfg,
+    base: &Base,
+    scope: &Scope,
+    machine: &mut Machine,
+) -> Result<Option<FaultKind>, NoMemory>
+    ensures { IfOk result (λ fault. (inputs : InputsNow) → dimensions ≡ length (extents_of_connector inputs effect.connector)
+        → IsDone (performing (pending_through (context_of (graph_tree graph.now) base.now scope.now) link.now (told inputs effect) ∷ [])) machine.old fault machine.new) }
+{
     let index = widened(effect.at);
-    let dimensions = dimensions_of(inputs, connector).min(index.len());
+    let count = dimensions.min(index.len());
     perform_through(
         alloc,
         link,
-        &index[..dimensions],
+        &index[..count],
         effect.value,
         graph,
         base,

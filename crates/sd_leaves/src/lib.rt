@@ -18,6 +18,7 @@ mod reduction;
 mod task;
 
 pub use copy::run_copy;
+pub use effects::perform_effect;
 pub use exit::{Next, next_exit};
 pub use reduction::run_reduction;
 pub use task::run_task;

@@ -1,10 +1,11 @@
-use Rattle.std.proofs.Common.{◌≡◌, ◌-◌, ℤ, ℕ, [], ◌∷◌, take, min, length, slice_get, Option, Some, ap, ◌∙◌, subst, rules, FitsSigned, w64}
-use Rattle.std.proofs.lemmas.Int.{to_z-of_z}
+use Rattle.std.proofs.Common.{◌≡◌, ◌-◌, ◌∷◌, [], slice_get, length, Option, Some, subst}
 use Rattle.sd_work.specs.declared.fault.FaultKind.{FaultKind}
 use Rattle.sd_work.specs.Leaf.{Pending}
 use Rattle.sd_graph.specs.TreeFold.{graph_tree}
+use Rattle.sd_graph.specs.TaskletMeaning.{Inputs, extents_of_connector}
 use Rattle.sd_graph.specs.Unfold.{pending_through}
 use Rattle.sd_tasklet.specs.Given.{given}
+use Rattle.sd_tasklet.specs.Kept.{told}
 use Rattle.sd_scope.specs.Standing.{context_of}
 use Rattle.sd_leaves.specs.Done.{IsDone, performing}
 use Rattle.sd_leaves.specs.Given.{pending_told}
@@ -18,15 +19,9 @@ returns c =
     let inputs = given c.args.inputs.now in
     let effect = c.args.effect in
     let link = c.in-Some.link.now in
-    let index = c.widened-index.result in
-    let many = c.min-dimensions.result in
     let number = effect.connector - length c.args.ins.now in
-    let fits : FitsSigned w64 effect.value = search rules in
-    let room : length index ≡ 4 = search rules in
     let there : slice_get c.args.outs.now number ≡ Some link = member_there c.args.outs.now number link c.in-Some.ensures.lookup.3.0 (c.in-Some.ensures.lookup.3.1 link) in
-    let same = through_link context inputs c.args.ins.now c.args.outs.now effect link index 4 many c.if-connector-ins.false there c.widened-index.ensures room
-    (c.min-dimensions.ensures ∙ ap (λ dimensions. min dimensions 4) c.dimensions_of.ensures) in
-    let through : ℤ → Pending = λ value. pending_through context link (record { connector = effect.connector; at = take many index; value = value }) in
-    let ends : Pending → Option FaultKind → Type 0 = λ todo fault. IsDone (performing (todo ∷ [])) c.args.machine.now fault c.perform_through.new.machine in
-    on_ok (λ fault. (connector : ℕ) → ends (pending_through context link (record { connector = connector; at = take many index; value = _ })) fault) (ends (pending_told context inputs c.args.ins.now c.args.outs.now effect)) c.perform_through.result
-    (λ fault done. subst (λ (todo : Pending). ends todo fault) (ap through (to_z-of_z w64 effect.value fits) ∙ same) (done effect.connector)) c.perform_through.ensures
+    let same = through_link context inputs c.args.ins.now c.args.outs.now effect link c.if-connector-ins.false there in
+    let ends : Pending → Option FaultKind → Type 0 = λ todo fault. IsDone (performing (todo ∷ [])) c.args.machine.now fault c.perform_effect.new.machine in
+    on_ok (λ fault. (inputs : Inputs) → c.dimensions_of-dimensions.result ≡ length (extents_of_connector inputs effect.connector) → ends (pending_through context link (told inputs effect)) fault) (ends (pending_told context inputs c.args.ins.now c.args.outs.now effect)) c.perform_effect.result
+    (λ fault done. subst (λ (todo : Pending). ends todo fault) same (done inputs c.dimensions_of-dimensions.ensures)) c.perform_effect.ensures
