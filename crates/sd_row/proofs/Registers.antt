@@ -10,12 +10,12 @@ use Rattle.sd_columns.specs.Columns.{registers_of, register_count, AreKept}
 use Rattle.sd_row.specs.declared.track.Track.{Track}
 use Rattle.sd_row.specs.declared.row.Write.{Write}
 
-behind_both : (first second third : List ℤ) → (first ++ second) ++ third ≡ first ++ (second ++ third)
+behind_both : {A : Type 0} (first second third : List A) → (first ++ second) ++ third ≡ first ++ (second ++ third)
 behind_both [] second third = refl
 behind_both (member ∷ first) second third = ap (λ rest. member ∷ rest) (behind_both first second third)
 
--- one register more is set, behind others
-pub one_more : {A : Type 0} (made : A → ℤ) (front values : List ℤ) (first number : ℕ) (members : List A) (member : A) (value : ℤ) → number < length members → first + number < length values →
+-- one more is set, behind others
+pub one_more : {A B : Type 0} (made : A → B) (front values : List B) (first number : ℕ) (members : List A) (member : A) (value : B) → number < length members → first + number < length values →
     member ≡ get_or members number member → value ≡ made member → take (first + number) values ≡ front ++ map made (take number members) →
     take (first + (number + 1)) (slice_set values (first + number) value) ≡ front ++ map made (take (number + 1) members)
 one_more made front values first number members member value within room is value_is so_far =

@@ -12,6 +12,7 @@ mod row_run;
 mod track;
 mod writing;
 
+pub use point::{load, set_variables};
 pub use row::{Row, Write};
 pub use row_run::{MOST_RUNS, RowEnd, run_row};
 pub use track::Track;
