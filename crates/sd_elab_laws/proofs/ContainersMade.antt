@@ -61,7 +61,7 @@ no_container_in (set_at line name at value) stands = refl
 no_container_in (tasklet_branch line when body other) stands = refl
 
 -- it declares no container
-no_containers : (body : Block) (place : Place) → place.around ≡ task → EveryFrom IsPlaced place body → containers_in_all body ≡ 0
+pub no_containers : (body : Block) (place : Place) → place.around ≡ task → EveryFrom IsPlaced place body → containers_in_all body ≡ 0
 no_containers no_statement place around placed = refl
 no_containers (and_statement first rest) place around placed =
     omega (arith, no_container_in first (stands_in_task place first around placed.0), no_containers rest (past first place) around placed.1)

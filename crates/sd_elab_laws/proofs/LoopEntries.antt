@@ -3,7 +3,7 @@ use Rattle.std.proofs.Common.{◌≡◌, ◌⊎◌, inl, inr, ℕ, zero, suc, �
 use Rattle.std.specs.List.{AllByRecursion, list_any}
 use Rattle.sd_graph.specs.PlainTree.{ExitTree, GuardTree, GraphTree, StateTrees}
 use Rattle.sd_graph.specs.TreeParts.{count_states, exits_at}
-use Rattle.sd_graph.specs.LoopScope.{leads_within}
+use Rattle.sd_graph.specs.LoopScope.{leads_within, leads_to}
 use Rattle.sd_graph.proofs.Among.{nat_eq_same}
 use Rattle.sd_program.specs.Names.{Name}
 use Rattle.sd_states.specs.Exits.{plainly, if_holds}
@@ -73,8 +73,17 @@ module _ (states : StateTrees) where
 
   -- ---- loops
 
+  -- a marked transition leads back to the begin of such a loop, to whose end no path leads from other states that does not come to the begin
+  abbrev pub ClosesLoopAlone : (state : ℕ) → ExitTree → Type 0
+  ClosesLoopAlone state exit =
+      exit.back ≡ true → IsEnteredAtBegin states exit.to state (exits_at states exit.to)
+      × ((exit.to ≤ state) × ((number : ℕ) → (number < exit.to) ⊎ (state < number) → leads_to states exit.to number state ≡ false))
+
+  pub closes_too : (state : ℕ) (exits : List ExitTree) → AllByRecursion (ClosesLoopAlone state) exits → AllByRecursion (ClosesLoop states state) exits
+  closes_too state exits all = all_more (ClosesLoopAlone state) (ClosesLoop states state) (λ exit closes marked. (closes marked).0) exits all
+
   -- a transition without a mark closes none
-  pub unmarked : (state : ℕ) (exit : ExitTree) → exit.back ≡ false → ClosesLoop states state exit
+  pub unmarked : (state : ℕ) (exit : ExitTree) → exit.back ≡ false → ClosesLoopAlone state exit
   unmarked state exit e marked = cc
 
   module _ (graphs : Name → GraphTree) where
@@ -107,10 +116,19 @@ module _ (states : StateTrees) where
     -- the marked transition from the end of a loop's block
     pub turn_closes : (at : Standing) (body : ℕ) (guard : GuardTree) (turn : ExitTree) → 0 < at.state → turn.to ≡ at.state →
         exits_at states at.state ≡ if_holds guard (at.state + 1) ∷ plainly (at.state + 1 + 1 + body) ∷ [] →
-        IsEntered at.state (at.state + 1 + 1 + body) → (number : ℕ) → number + 1 ≡ at.state + 1 + 1 + body → ClosesLoop states number turn
-    turn_closes at body guard turn above to head entered number last marked =
-        subst (λ begin. IsEnteredAtBegin states begin number (exits_at states begin)) (sym to)
-        (subst (IsEnteredAtBegin states at.state number) (sym head) (
-          inr (no_path at.state (at.state + 1 + 1 + body) number entered (omega (arith, last)) (omega (arith, last)) (count_states states) 0 (inl above)),
-          no_path at.state (at.state + 1 + 1 + body) number entered (omega (arith, last)) (omega (arith, last)) (count_states states) (at.state + 1 + 1 + body) (inr (omega arith)),
-        ))
+        IsEntered at.state (at.state + 1 + 1 + body) → (number : ℕ) → number + 1 ≡ at.state + 1 + 1 + body → ClosesLoopAlone number turn
+    turn_closes at body guard turn above to head entered number last marked = (
+      subst (λ begin. IsEnteredAtBegin states begin number (exits_at states begin)) (sym to)
+          (subst (IsEnteredAtBegin states at.state number) (sym head) (
+            inr (path_from 0 (inl above)),
+            path_from (at.state + 1 + 1 + body) (inr (omega arith)),
+          )),
+      (omega (arith, to, last), subst (λ begin. (from : ℕ) → (from < begin) ⊎ (number < from) → leads_to states begin from number ≡ false) (sym to) apart),
+    )
+      where
+        path_from : (from : ℕ) → (from < at.state) ⊎ (at.state + 1 + 1 + body ≤ from) → leads_to states at.state from number ≡ false
+        path_from from outside = no_path at.state (at.state + 1 + 1 + body) number entered (omega (arith, last)) (omega (arith, last)) (count_states states) from outside
+
+        apart : (from : ℕ) → (from < at.state) ⊎ (number < from) → leads_to states at.state from number ≡ false
+        apart from (inl lower) = path_from from (inl lower)
+        apart from (inr higher) = path_from from (inr (omega (arith, higher, last)))

@@ -15,17 +15,17 @@ use Rattle.sd_states.specs.Exits.{plainly, setting, if_holds, back_to, stepped_o
 use Rattle.sd_states.specs.Standing.{Standing, behind, behind_all, state_behind, with_loop_variable}
 use Rattle.sd_states.specs.States.{chained, chained_all}
 use Rattle.sd_elab.specs.Elaboration.{start_of, states_of_function, graph_of}
-use Rattle.sd_elab_laws.specs.EnteredLoops.{ClosesLoop, HasEnteredLoops, EntersLoopsAtBegins}
+use Rattle.sd_elab_laws.specs.EnteredLoops.{HasEnteredLoops, EntersLoopsAtBegins}
 use Rattle.sd_elab_laws.proofs.StateLists.{has_itself}
 use Rattle.sd_elab_laws.proofs.StateCounts.{all_counted}
 use Rattle.sd_elab_laws.proofs.StateRanges.{split, Has, loop_inside, else_states, behind_states, statement_within, block_within}
-use Rattle.sd_elab_laws.proofs.LoopEntries.{IsOut, all_out_more, IsEntered, unmarked, loop_entered, block_entered, turn_closes}
+use Rattle.sd_elab_laws.proofs.LoopEntries.{IsOut, all_out_more, IsEntered, ClosesLoopAlone, closes_too, unmarked, loop_entered, block_entered, turn_closes}
 use Rattle.sd_elab_laws.proofs.ThroughoutLemmas.{program_throughout}
 
 module _ (graphs : Name → GraphTree) (states : StateTrees) where
   -- the transitions of a state, those of this one
   abbrev Closed : (number : ℕ) → List ExitTree → Type 0
-  Closed number exits = AllByRecursion (ClosesLoop states number) exits
+  Closed number exits = AllByRecursion (ClosesLoopAlone states number) exits
 
   abbrev Leaves : (current high last : ℕ) → Type 0
   Leaves current high last = (number : ℕ) → number + 1 ≡ last → AllByRecursion (IsOut current high) (exits_at states number)
@@ -33,7 +33,7 @@ module _ (graphs : Name → GraphTree) (states : StateTrees) where
   one_closed : (at : Standing) (items : ItemTrees) (listed : List PlainState) → Has graphs states at.state ((items, plainly at.state ∷ []) ∷ listed) → (number : ℕ) →
       at.state ≤ number + 1 → number + 1 < at.state + 1 → Closed number (exits_at states number)
   one_closed at items listed has number from before =
-      subst (AllByRecursion (ClosesLoop states number)) (sym (has.0 number (omega (arith, from, before)))) (unmarked states number (plainly at.state) refl, tt)
+      subst (AllByRecursion (ClosesLoopAlone states number)) (sym (has.0 number (omega (arith, from, before)))) (unmarked states number (plainly at.state) refl, tt)
 
   -- ---- an `if`: its first block, of so many states, and what is behind it
 
@@ -129,9 +129,9 @@ module _ (graphs : Name → GraphTree) (states : StateTrees) where
       let head : exits_at states at.state ≡ if_holds guard (at.state + 1) ∷ plainly (at.state + 1 + 1 + states_in_all body) ∷ [] = has.1.0 at.state refl in
       let loop : IsEntered states at.state (at.state + 1 + 1 + states_in_all body) = loop_entered states graphs at current (states_in_all body) first e to (has.0 current e) entered leaves in
       elim (split (number + 1) (at.state + 1)) [
-        | inl here ↦ subst (AllByRecursion (ClosesLoop states number)) (sym (has.0 number (omega (arith, from, here)))) (unmarked states number first plain, tt)
+        | inl here ↦ subst (AllByRecursion (ClosesLoopAlone states number)) (sym (has.0 number (omega (arith, from, here)))) (unmarked states number first plain, tt)
         | inr later ↦ elim (split (number + 1) (at.state + 1 + 1)) [
-          | inl begin ↦ subst (AllByRecursion (ClosesLoop states number)) (sym (has.1.0 number (omega (arith, later, begin))))
+          | inl begin ↦ subst (AllByRecursion (ClosesLoopAlone states number)) (sym (has.1.0 number (omega (arith, later, begin))))
               (unmarked states number (if_holds guard (at.state + 1)) refl, (unmarked states number (plainly (at.state + 1 + 1 + states_in_all body)) refl, tt))
           | inr beyond ↦ block (block_entered states graphs at (states_in_all body) guard head loop) (inl (omega (arith, again)), tt)
               (λ number ends. (turn_closes states graphs at (states_in_all body) guard turn (omega (arith, e)) again head loop number ends, tt)) number beyond (omega (arith, before))
@@ -156,7 +156,7 @@ module _ (graphs : Name → GraphTree) (states : StateTrees) where
         let high : ℕ = at.state + (1 + states_in_all body + states_in_other other) in
         let last : made.0 + 1 ≡ high = omega (arith, made.2) in
         elim (split (number + 1) (at.state + 1)) [
-          | inl first ↦ subst (AllByRecursion (ClosesLoop states number)) (sym (has.0 number (omega (arith, from, first))))
+          | inl first ↦ subst (AllByRecursion (ClosesLoopAlone states number)) (sym (has.0 number (omega (arith, from, first))))
               (unmarked states number (if_holds guard at.state) refl, (unmarked states number (plainly middle.state) refl, tt))
           | inr later ↦ elim (split (number + 1) (middle.state + 1)) [
             | inl inside ↦ block_closed body (state_behind at) no_item (plainly made.0 ∷ []) at.state refl made.3
@@ -200,7 +200,7 @@ module _ (graphs : Name → GraphTree) (states : StateTrees) where
         ((number : ℕ) → number + 1 ≡ at.state + states_in_all block → Closed number exits) → (number : ℕ) →
         at.state ≤ number + 1 → number + 1 < at.state + states_in_all block + 1 → Closed number (exits_at states number)
     block_closed no_statement at items exits current e has entered out ends number from before =
-        subst (AllByRecursion (ClosesLoop states number)) (sym (has.0 number (omega (arith, from, before)))) (ends number (omega (arith, from, before)))
+        subst (AllByRecursion (ClosesLoopAlone states number)) (sym (has.0 number (omega (arith, from, before)))) (ends number (omega (arith, from, before)))
     block_closed (and_statement first rest) at items exits current e has entered out ends number from before =
         let made = behind_states graphs states first at items (λ items. chained_all graphs rest (behind first at) items exits) has in
         elim (split (number + 1) (at.state + states_in first)) [
@@ -224,8 +224,10 @@ none_past [] state past = refl
 none_past (first ∷ listed) zero past = absurd (omega (arith, past))
 none_past (first ∷ listed) (suc state) past = none_past listed state (omega (arith, past))
 
-function_enters : (symbols : List Name) (graphs : Name → GraphTree) (function : FunctionTree) → ⊤ → HasEnteredLoops (states_listed (states_of_function symbols graphs function))
-function_enters symbols graphs function any number =
+-- each transition of a function's states
+pub function_closes : (symbols : List Name) (graphs : Name → GraphTree) (function : FunctionTree) (number : ℕ) →
+    AllByRecursion (ClosesLoopAlone (states_listed (states_of_function symbols graphs function)) number) (exits_at (states_listed (states_of_function symbols graphs function)) number)
+function_closes symbols graphs function number =
     let listed : List PlainState = states_of_function symbols graphs function in
     let states : StateTrees = states_listed listed in
     let start : Standing = start_of symbols function in
@@ -233,12 +235,17 @@ function_enters symbols graphs function any number =
     let has : Has graphs states 1 listed = has_itself (exits_at states) 0 listed (λ state. ap (exits_at states) (zero-add state)) in
     elim (split number (states_in_all function.body + 1)) [
       | inl inside ↦ block_closed graphs states function.body start no_item [] 0 refl has (outside listed (states_in_all function.body) counted) tt (λ number ends. tt) number (omega arith) (omega (arith, inside))
-      | inr beyond ↦ subst (AllByRecursion (ClosesLoop states number)) (sym (none_past listed number (omega (arith, beyond, counted)))) tt
+      | inr beyond ↦ subst (AllByRecursion (ClosesLoopAlone states number)) (sym (none_past listed number (omega (arith, beyond, counted)))) tt
     ]
   where
     outside : (listed : List PlainState) (many : ℕ) → length listed ≡ many + 1 → IsEntered (states_listed listed) 0 (1 + many)
     outside listed many counted number (inl lower) = absurd (omega (arith, lower))
     outside listed many counted number (inr higher) = nothing_outside (exits_at (states_listed listed) number) 0 (1 + many) (none_past listed number (omega (arith, higher, counted)))
+
+function_enters : (symbols : List Name) (graphs : Name → GraphTree) (function : FunctionTree) → ⊤ → HasEnteredLoops (states_listed (states_of_function symbols graphs function))
+function_enters symbols graphs function any number =
+    let states : StateTrees = states_listed (states_of_function symbols graphs function) in
+    closes_too states number (exits_at states number) (function_closes symbols graphs function number)
 
 all_functions : (functions : List FunctionTree) → AllByRecursion (λ function. ⊤) functions
 all_functions [] = tt
