@@ -12,7 +12,7 @@ use Rattle.sd_states.specs.Standing.{Standing, behind, behind_all, state_behind,
 use Rattle.sd_states.specs.States.{chained, chained_all}
 use Rattle.sd_elab_laws.proofs.StateCounts.{all_counted}
 use Rattle.sd_tie_states.specs.Made.{IsMade, AreMade}
-use Rattle.sd_tie_made.specs.Shown.{ShowsOne, ShowsAll}
+use Rattle.sd_loops_shown.specs.Shown.{ShowsOne, ShowsAll}
 use Rattle.sd_tie_made.proofs.StatesFound.{Has, has_first, has_second, Begins, all_begins, begin_items}
 
 module _ (graphs : Name → GraphTree) (states : StateTrees) (shows : ℕ → List ℕ) where

@@ -7,7 +7,7 @@ ghost use Rattle.sd_program.specs.Names.{Name};
 ghost use Rattle.sd_states.specs.Standing.{Standing};
 ghost use Rattle.sd_elab.specs.Elaboration.{start_of, states_of_function};
 ghost use Rattle.sd_tie_states.specs.Made.{AreMade};
-ghost use Rattle.sd_tie_made.specs.Shown.{ShowsAll};
+ghost use Rattle.sd_loops_shown.specs.Shown.{ShowsAll};
 
 /// The states of a program stand as the statements of its block make them, from state 0 on, where the
 /// variables of the loops around them show in them; and there is no way out of the last one.
