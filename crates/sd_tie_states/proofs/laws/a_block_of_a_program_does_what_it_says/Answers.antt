@@ -1,7 +1,7 @@
-use Rattle.sd_program.specs.Calls.{IsCallable}
+use Rattle.sd_tie_items.specs.Called.{IsCalled}
 use Rattle.sd_tie_states.proofs.BlocksTied.{all_go}
 use Rattle.sd_tie_states.proofs.laws.a_block_of_a_program_does_what_it_says.Goals as goal
 
 pub returns : goal.returns
-returns c = λ sizes graphs calls all follow containers names states reach around first_own owns block most.
-    all_go sizes graphs IsCallable calls all follow containers names states reach around first_own owns block most
+returns c = λ sizes graphs above calls all follow containers names states reach around first_own owns block most.
+    all_go sizes graphs (IsCalled sizes graphs above) calls all follow containers names states reach around first_own owns block most
