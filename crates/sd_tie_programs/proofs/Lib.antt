@@ -1,0 +1,10 @@
+pub mod Lists
+pub mod CallsMade
+pub mod Fitting
+pub mod Sizes
+pub mod Declaring
+pub mod Elements
+pub mod Names
+pub mod Beginning
+pub mod Programs
+pub mod Calls
