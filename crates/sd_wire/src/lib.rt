@@ -1,4 +1,4 @@
-//! The nodes and edges of a graph's states.
+//! The nodes and edges of a graph's states, and what items do to which containers.
 //!
 //! Items are drawn one after another by the five rules of `specs/Drawing.antt`, and the edges are
 //! listed by source and target (`specs/Listing.antt`). Nothing is asked of the graph: a container
@@ -16,4 +16,7 @@ mod passing;
 mod uses;
 mod wiring;
 
+pub use mentioned::{has_number, joined_mode};
+pub use mode::{Use, UseMode, do_conflict, reduction_mode};
+pub use uses::{graph_uses, output_mode};
 pub use wiring::{wire, wire_items};

@@ -18,7 +18,7 @@ use sd_list::NoMemory;
 use std::alloc::Global;
 
 /// Whether a number is among these.
-pub(crate) fn has_number(numbers: &[u32], number: u32) -> bool
+pub fn has_number(numbers: &[u32], number: u32) -> bool
     ensures { result ≡ wiring.has_number numbers.now number }
 {
     for other in numbers {
@@ -115,7 +115,7 @@ fn conflicts(use_: &Use, others: &[Use]) -> bool
 }
 
 /// The modes on a container in one; `None` where there is none.
-pub(crate) fn joined_mode(uses: &[Use], container: u32) -> Option<UseMode>
+pub fn joined_mode(uses: &[Use], container: u32) -> Option<UseMode>
     ensures { option_map mode_of result ≡ modes.joined_mode (wiring.modes_on container uses.now) }
 {
     let mut joined = None;

@@ -52,13 +52,13 @@ impl Use {
         }
     }
 
-    pub(crate) fn container(&self) -> u32
+    pub fn container(&self) -> u32
         ensures { result ≡ self.now.container }
     {
         self.container
     }
 
-    pub(crate) fn mode(&self) -> UseMode
+    pub fn mode(&self) -> UseMode
         ensures { mode_of result ≡ self.now.mode }
     {
         self.mode
@@ -98,7 +98,7 @@ fn number_of(resolution: Resolution) -> u8
 }
 
 /// Whether two modes on one container conflict.
-pub(crate) fn do_conflict(first: UseMode, second: UseMode) -> bool
+pub fn do_conflict(first: UseMode, second: UseMode) -> bool
     ensures { result ≡ definition.do_conflict (mode_of first) (mode_of second) }
 {
     match (first, second) {
@@ -119,7 +119,7 @@ pub(crate) fn mode_by(resolution: Option<Resolution>) -> UseMode
 }
 
 /// The mode of a reduction on its target.
-pub(crate) fn reduction_mode(resolution: Resolution, identity: Option<i64>) -> UseMode
+pub fn reduction_mode(resolution: Resolution, identity: Option<i64>) -> UseMode
     ensures { mode_of result ≡ reduction_mode resolution identity }
 {
     match identity {

@@ -37,7 +37,7 @@ fn push_reads(links: &[Link], uses: &mut Vec<Use>) -> Result<(), NoMemory>
 }
 
 /// The mode of an output.
-fn output_mode(containers: &IndexMap<String, Container>, link: &Link) -> UseMode
+pub fn output_mode(containers: &IndexMap<String, Container>, link: &Link) -> UseMode
     ensures { mode_of result ≡ definition.output_mode (map named_container containers.now.entries) link.now }
 {
     if is_stream(containers, link.memlet.container) {
@@ -223,7 +223,7 @@ fn push_states(
 
 /// What a graph does.
 #[cycle(uses)]
-pub(crate) fn graph_uses(alloc: Global, graph: &Sdfg) -> Result<Vec<Use>, NoMemory>
+pub fn graph_uses(alloc: Global, graph: &Sdfg) -> Result<Vec<Use>, NoMemory>
     ensures { IfOk result (λ uses. uses.items ≡ definition.graph_uses (graph_tree graph.now)) }
 {
     let mut uses = Vec::new(alloc);
