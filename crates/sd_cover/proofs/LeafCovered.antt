@@ -22,11 +22,13 @@ use Rattle.sd_graph.specs.Context.{Reach, Context, reference_at, span_counts, in
 use Rattle.sd_graph.specs.Mode.{Mode, Read, Write, Push, mode_by}
 use Rattle.sd_graph.specs.Wiring.{reduction_mode}
 use Rattle.sd_num.specs.Wrapped.{wrapped}
-use Rattle.sd_range.specs.Affine.{variable_value}
+use Rattle.sd_range.specs.Affine.{affine_value, variable_value}
+use Rattle.sd_range.specs.declared.subset.Dim.{Dim}
+use Rattle.sd_range.specs.declared.subset.Dim.TheVariants.{Index, Span}
 use Rattle.sd_graph.specs.Unfold.{cut, meaning_at, pending_by, pending_of, target_place, reduction_pairs}
 use Rattle.std.specs.List.{zip, flat_map}
 use Rattle.sd_prop.specs.Accesses.{Access, access_of, output_access}
-use Rattle.sd_cover.specs.Fit.{IsNormalLink, HasTargetCounts}
+use Rattle.sd_cover.specs.Fit.{IsNormalDim, IsNormalLink, shape_counts, HasTargetCounts}
 use Rattle.sd_graph.proofs.EffectsInside.{IsInside, each_effect_inside}
 use Rattle.sd_cover.specs.Touched.{AllowsRead, AllowsWrite, IsAt, IsTouchOf, IsCovered}
 use Rattle.sd_cover.proofs.Indices.{index_at-in_box, begins-in_box, elements-in_box}
@@ -245,13 +247,30 @@ without-within axis (extent ∷ extents) [] within = absurd within
 without-within zero (extent ∷ extents) (number ∷ position) within = within.1
 without-within (suc axis) (extent ∷ extents) (number ∷ position) within = (within.0, without-within axis extents position within.1)
 
+-- a subset without a range has one index, whatever the place in it is
+no_span : (dims : List Dim) (values at : List ℤ) → span_counts dims values ≡ [] → index_at dims values at ≡ index_at dims values []
+no_span [] values at none = refl
+no_span (Index number ∷ dims) values at none = ap (λ index. affine_value values number ∷ index) (no_span dims values at none)
+no_span (Span r ∷ dims) values at none = cc
+
+-- a place in a shape lies in the box of links whose subset has that shape
+place-in_box : (dims : List Dim) (values at : List ℤ) (to left : List ℕ) → AllByRecursion IsNormalDim dims → span_counts dims values ≡ to → shape_counts to ≡ shape_counts left →
+    AllZip IsWithin left at → IsInBox values (box_of dims) (index_at dims values at)
+place-in_box dims values at [] left normal is same within =
+    subst (λ index. IsInBox values (box_of dims) index) (sym (no_span dims values at is)) (index_at-in_box dims values [] normal (subst (λ counts. AllZip IsWithin counts []) (sym is) tt))
+place-in_box dims values [] (count ∷ to) [] normal is same within =
+    begins-in_box dims values normal (subst (λ counts. AllByRecursion (λ count. count ≡ 1) counts) (sym (is ∙ same)) (refl, tt))
+place-in_box dims values (number ∷ at) (count ∷ to) [] normal is same within = absurd within
+place-in_box dims values at (count ∷ to) (other ∷ left) normal is same within =
+    index_at-in_box dims values at normal (subst (λ counts. AllZip IsWithin counts at) (sym (is ∙ same)) within)
+
 -- the target of a position lies in the target's box
 target-in_box : (axis : Option ℕ) (from to : Link) (values position : List ℤ) → IsNormalLink to → HasTargetCounts axis (span_counts from.memlet.subset.dims values) (span_counts to.memlet.subset.dims values) →
     AllZip IsWithin (span_counts from.memlet.subset.dims values) position → IsInBox values (box_of to.memlet.subset.dims) (index_at to.memlet.subset.dims values (target_place axis position))
 target-in_box None from to values position normal counts within = begins-in_box to.memlet.subset.dims values normal counts
 target-in_box (Some axis) from to values position normal counts within =
-    index_at-in_box to.memlet.subset.dims values (without axis position) normal
-    (subst (λ extents. AllZip IsWithin extents (without axis position)) (sym counts) (without-within axis (span_counts from.memlet.subset.dims values) position within))
+    place-in_box to.memlet.subset.dims values (without axis position) (span_counts to.memlet.subset.dims values) (without axis (span_counts from.memlet.subset.dims values)) normal refl counts
+    (without-within axis (span_counts from.memlet.subset.dims values) position within)
 
 -- what the pairs of a reduction touch
 reduced-covered : (context : Context) (node : ℕ) (resolution : Resolution) (axis : Option ℕ) (identity : Option ℤ) (from to : Link) (touch : Touch) → IsNormalLink from → IsNormalLink to →

@@ -62,10 +62,15 @@ IsArrayMode Take = ⊥
 abbrev pub AreArrays : List Link → List Use → Type 0
 AreArrays links uses = (use' : Use) (link : Link) → Contains uses use' → slice_get links use'.container ≡ Some link → IsArrayMode use'.mode
 
+-- the counts of a shape: without a range it is one value in one dimension
+abbrev pub shape_counts : List ℕ → List ℕ
+shape_counts [] = 1 ∷ []
+shape_counts (count ∷ counts) = count ∷ counts
+
 -- a reduction's target has as many values in each range as its source has in those without the axis; without an axis it has one
 abbrev pub HasTargetCounts : (axis : Option ℕ) → (from to : List ℕ) → Type 0
 HasTargetCounts None from to = AllByRecursion (λ count. count ≡ 1) to
-HasTargetCounts (Some axis) from to = to ≡ without axis from
+HasTargetCounts (Some axis) from to = shape_counts to ≡ shape_counts (without axis from)
 
 abbrev pub IsGuardFit : Option GuardTree → Type 0
 IsGuardFit None = ⊤
