@@ -1,0 +1,12 @@
+pub mod Members
+pub mod Extents
+pub mod Counts
+pub mod Shaped
+pub mod Ranged
+pub mod Sound
+pub mod Unaliased
+pub mod Single
+pub mod Fresh
+pub mod Right
+pub mod Around
+pub mod Fitting
