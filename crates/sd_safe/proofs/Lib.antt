@@ -7,4 +7,5 @@ pub mod Parts
 pub mod Accepting
 pub mod GraphSafe
 pub mod Whole
+pub mod Standing
 pub mod examples

@@ -1,1 +1,2 @@
 pub mod SafeGraphExamples
+pub mod ValidGraphExamples

@@ -4,7 +4,7 @@ ghost use Rattle.std.specs.Prelude.{◌≡◌, ◌<◌, ◌++◌, ◌∷◌, ℕ
 ghost use Rattle.sd_work.specs.Memory.{Memory};
 ghost use Rattle.sd_work.specs.Residual.{Points, owning, idle, part_at};
 ghost use Rattle.sd_work.specs.Step.{Done};
-ghost use Rattle.sd_work.specs.Run.{Left, Run};
+ghost use Rattle.sd_work.specs.Run.{Left, Run, Sequential};
 ghost use Rattle.sd_confluence.specs.Safe.{TouchCompatibly, ArePartsSafe, IsPoolSafe, MayInterleave, pool_over};
 ghost use Rattle.sd_confluence.specs.Alike.{AreAlike, LeaveAlike};
 ghost use Rattle.sd_confluence.specs.Event.{Event, DoneWith, AreEventsAlike};
@@ -12,14 +12,18 @@ ghost use Rattle.sd_range.specs.Points.{points, ranges_of};
 ghost use Rattle.sd_box.specs.Box.{Parameter};
 ghost use Rattle.sd_box.specs.InForce.{AreFresh};
 ghost use Rattle.sd_graph.specs.PlainTree.{ItemTrees, GraphTree, consume_scope};
+ghost use Rattle.sd_graph.specs.TreeParts.{containers_of};
 ghost use Rattle.sd_graph.specs.Wiring.{outside, item_uses, before};
 ghost use Rattle.sd_graph.specs.Context.{Context, own_reach, private_memory};
 ghost use Rattle.sd_graph.specs.Unfold.{at_point, at_element, element_memory, in_any_order, list_of, point_terms, unfold_items, run_of};
 ghost use Rattle.sd_prop.specs.Scopes as scopes;
 ghost use Rattle.sd_prop.specs.Scopes.{scope_of, scopes_itself, scopes_inside};
 ghost use Rattle.sd_race.specs.Pairs.{IsScopeAccepted, AreScopesAccepted, IsGraphAccepted};
+ghost use Rattle.sd_normal.specs.NormalForm.{IsGraphNormal};
+ghost use Rattle.sd_validity.specs.Valid.{IsValid};
 ghost use Rattle.sd_cover.specs.Fit.{IsFit, AreFit, IsGraphFit};
 ghost use Rattle.sd_safe.specs.Reached.{MayStand};
+ghost use Rattle.sd_safe.specs.Standing.{StandsInGraph};
 
 /// Items of a list that are not one before the other do not conflict.
 pub fn items_without_a_path_do_not_conflict()
@@ -78,6 +82,26 @@ pub fn an_accepted_graph_ends_alike()
         → (end : Left) × Run (run_of tree memory) turns others (Done end) × LeaveAlike left end }
 {}
 
+/// The run of a valid graph that is accepted may be done in any order. Each graph that a program holds
+/// has its expressions in normal form, by the types of its parts.
+pub fn a_valid_accepted_graph_may_interleave()
+    ensures { (tree : GraphTree) (memory : Memory)
+        → IsValid tree → IsGraphNormal tree → IsGraphAccepted tree → MayInterleave (run_of tree memory) }
+{}
+
+/// The run of a valid, accepted graph by any picks is done where the sequential run is, and the other
+/// way, with alike memories and as many turns: whatever the memory, the turns and the picks are.
+pub fn each_interleaving_of_a_valid_accepted_graph_ends_as_the_sequential_run()
+    ensures picked { (tree : GraphTree) (memory : Memory) (turns : ℕ) (picks : List ℕ) (left : Left)
+        → IsValid tree → IsGraphNormal tree → IsGraphAccepted tree
+        → Sequential (run_of tree memory) turns (Done left)
+        → (end : Left) × Run (run_of tree memory) turns picks (Done end) × LeaveAlike left end }
+    ensures sequential { (tree : GraphTree) (memory : Memory) (turns : ℕ) (picks : List ℕ) (left : Left)
+        → IsValid tree → IsGraphNormal tree → IsGraphAccepted tree
+        → Run (run_of tree memory) turns picks (Done left)
+        → (end : Left) × Sequential (run_of tree memory) turns (Done end) × LeaveAlike left end }
+{}
+
 /// Of two runs of such a pool, from memories that are alike and by any picks, the one is done where
 /// the other is. They leave alike memories and as many turns; from each stream they took, and into
 /// each they pushed, each value equally often.
@@ -88,6 +112,25 @@ pub fn the_order_of_taking_of_an_accepted_scope_makes_no_difference()
         → IsFit (consume_scope stream element private body) []
         → AreScopesAccepted (scopes_itself (consume_scope stream element private body) context.containers path [] nodes)
         → AreScopesAccepted (scopes_inside (consume_scope stream element private body) context.containers path [] nodes)
+        → AreAlike own other
+        → DoneWith (pool_over own stream (λ value. owning (element_memory context element private value)
+        (list_of (at_element context element private value) body (unfold_items body (at_element context element private value))))) turns picks left happened
+        → (end : Left) × (happened_there : List Event)
+        × DoneWith (pool_over other stream (λ value. owning (element_memory context element private value)
+        (list_of (at_element context element private value) body (unfold_items body (at_element context element private value))))) turns others end happened_there
+        × LeaveAlike left end × AreEventsAlike happened happened_there }
+{}
+
+/// Of two runs of a consume scope that stands in a list of a state of a valid, accepted graph, from
+/// memories of the graph's containers that are alike and by any picks, the one is done where the other
+/// is. They leave alike memories and as many turns, and took and pushed each value equally often.
+pub fn the_order_of_taking_in_a_valid_accepted_graph_makes_no_difference()
+    ensures { (tree : GraphTree) (own other : Memory) (stream element : ℕ) (private : List ℕ) (body : ItemTrees) (context : Context)
+        (turns : ℕ) (picks others : List ℕ) (left : Left) (happened : List Event)
+        → IsValid tree → IsGraphNormal tree → IsGraphAccepted tree
+        → StandsInGraph (consume_scope stream element private body) tree
+        → context.containers ≡ containers_of tree
+        → ((number : ℕ) → context.reach number ≡ own_reach context.containers number)
         → AreAlike own other
         → DoneWith (pool_over own stream (λ value. owning (element_memory context element private value)
         (list_of (at_element context element private value) body (unfold_items body (at_element context element private value))))) turns picks left happened

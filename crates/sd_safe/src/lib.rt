@@ -1,16 +1,20 @@
 //! An accepted graph is safe: its work may be done in any order.
 //!
-//! The premise beside acceptance is `IsGraphFit`, what of a graph's validity its boxes rest on. By
-//! `laws`, items without a path between them, points of an accepted map and elements of an accepted
-//! consume scope do not conflict; so of two runs of an accepted graph by any picks the one is done
-//! where the other is. `specs/Reached.antt` has where work may stand so.
+//! The premise beside acceptance is `IsGraphFit`, what of a graph's validity its boxes rest on; a valid
+//! graph has it (`sd_fit`). By `laws`, items without a path between them, points of an accepted map and
+//! elements of an accepted consume scope do not conflict; so the run of a valid, accepted graph by any
+//! picks is done where its sequential run is. `specs/Reached.antt` has where work may stand so,
+//! `Standing.antt` which items stand in a list of a state.
 #![tactic(auto)]
 
 mod laws;
 
 pub use laws::{
-    an_accepted_consume_scope_may_interleave, an_accepted_graph_ends_alike,
-    an_accepted_graph_may_interleave, elements_of_an_accepted_consume_scope_do_not_conflict,
-    items_without_a_path_do_not_conflict, points_of_an_accepted_map_do_not_conflict,
+    a_valid_accepted_graph_may_interleave, an_accepted_consume_scope_may_interleave,
+    an_accepted_graph_ends_alike, an_accepted_graph_may_interleave,
+    each_interleaving_of_a_valid_accepted_graph_ends_as_the_sequential_run,
+    elements_of_an_accepted_consume_scope_do_not_conflict, items_without_a_path_do_not_conflict,
+    points_of_an_accepted_map_do_not_conflict,
+    the_order_of_taking_in_a_valid_accepted_graph_makes_no_difference,
     the_order_of_taking_of_an_accepted_scope_makes_no_difference,
 };
