@@ -1,5 +1,5 @@
 -- Accesses of small graphs, computed: their nodes, boxes and scopes.
-use Rattle.std.proofs.Common.{◌≡◌, ℕ, ℤ, pos, neg_ℤ, List, [], ◌∷◌, Some, None, codes, refl}
+use Rattle.std.proofs.Common.{◌≡◌, ℕ, ℤ, pos, neg_ℤ, List, [], ◌∷◌, map, Some, None, codes, refl}
 use Rattle.sd_num.specs.declared.resolution.Resolution.{Resolution}
 use Rattle.sd_num.specs.declared.resolution.Resolution.TheVariants.{Sum, Or}
 use Rattle.sd_range.specs.declared.affine.Affine.{Affine}
@@ -10,7 +10,7 @@ use Rattle.sd_graph.specs.Mode.{Mode, Read, Write, Resolve, Push}
 use Rattle.sd_graph.specs.declared.container.ContainerKind.TheVariants.{Argument, Private, Stream}
 use Rattle.sd_graph.proofs.examples.ExampleParts.{constant, affine, of_variable, from_to, link_of, code_of, container_of}
 use Rattle.sd_prop.specs.Accesses.{Access}
-use Rattle.sd_prop.specs.Scopes.{accesses_at}
+use Rattle.sd_prop.specs.Scopes.{Scope, all_scopes, accesses_at}
 use Rattle.sd_prop.specs.Joined.{annotated}
 
 abbrev pub access_by : (node container : ℕ) → Mode → Box → Access
@@ -63,6 +63,14 @@ scopes_in_a_scope =
     and_item 16 (task any_code (link_of (codes "_in1") 0 (Index (shifted (neg_ℤ (pos 1))) ∷ Index (constant (pos 0)) ∷ []) None ∷ link_of (codes "_in2") 1 (Index (shifted (neg_ℤ (pos 2))) ∷ Index (of_variable 2) ∷ []) None ∷ [])
     (link_of (codes "_out") 1 (Index (shifted (neg_ℤ (pos 2))) ∷ Index (of_variable 2) ∷ []) None ∷ [])) (
     and_item 17 (task any_code [] (link_of (codes "o") 0 (Index (constant (pos 3)) ∷ Index (constant (pos 0)) ∷ []) (Some Or) ∷ [])) no_item))) no_item))) no_item) [] no_state)
+
+-- a scope goes before those in it, and has the parameters of the maps around it
+paths_of_the_scopes : map (λ (scope : Scope). scope.path) (all_scopes scopes_in_a_scope) ≡ (0 ∷ 2 ∷ []) ∷ (0 ∷ 3 ∷ []) ∷ (0 ∷ 6 ∷ []) ∷ []
+paths_of_the_scopes = refl
+
+parameters_around_the_scopes : map (λ (scope : Scope). scope.around) (all_scopes scopes_in_a_scope)
+    ≡ [] ∷ ((0, from_to (pos 2) (pos 4)) ∷ []) ∷ ((0, from_to (pos 2) (pos 4)) ∷ []) ∷ []
+parameters_around_the_scopes = refl
 
 -- in the outer body the inner parameter is replaced
 accesses_of_the_outer : accesses_at scopes_in_a_scope (0 ∷ 2 ∷ []) ≡ Some (

@@ -1,15 +1,18 @@
 -- Small graphs: which are accepted, and which race is told.
-use Rattle.std.proofs.Common.{inl, inr, pos, [], ◌∷◌, refl, arith}
+use Rattle.std.proofs.Common.{inl, inr, pos, [], ◌∷◌, Some, None, codes, refl, arith}
 use Rattle.std.proofs.lemmas.Int.{ints}
 use Rattle.sd_num.specs.declared.resolution.Resolution.TheVariants.{Sum, Last}
 use Rattle.sd_box.specs.Apart.{AreHarmless}
 use Rattle.sd_box.proofs.examples.BoxExamples.{i, not_single, own_elements_are_harmless}
+use Rattle.sd_range.specs.declared.subset.Dim.TheVariants.{Index}
 use Rattle.sd_graph.specs.Mode.{Read, Write, Push}
-use Rattle.sd_graph.proofs.examples.ExampleParts.{constant}
+use Rattle.sd_graph.specs.PlainTree.{task, consume_scope, no_item, and_item, no_state, and_state, GraphTree, graph}
+use Rattle.sd_graph.specs.declared.container.ContainerKind.TheVariants.{Argument, Private, Stream}
+use Rattle.sd_graph.proofs.examples.ExampleParts.{constant, link_of, container_of}
 use Rattle.sd_prop.specs.Accesses.{Access}
 use Rattle.sd_graph.specs.TreeParts.{containers_of}
 use Rattle.sd_prop.specs.Scopes.{points, elements, Scope}
-use Rattle.sd_prop.proofs.examples.AccessExamples.{access_by, element_at, shifted, shift, drain}
+use Rattle.sd_prop.proofs.examples.AccessExamples.{access_by, any_code, element_at, shifted, shift, drain}
 use Rattle.sd_race.specs.Pairs.{IsGraphAccepted}
 use Rattle.sd_race.specs.Race.{IsRaceOf}
 
@@ -91,3 +94,13 @@ the_last_value_has_a_race = record {
   };
   told = refl;
 }
+
+-- a consume body that reads R[1] and adds to R[0] is refused: in no two modes that conflict may it use a container, whatever the boxes are
+abbrev adding : GraphTree
+adding =
+    graph (codes "ad") ((codes "R", container_of (constant (pos 2) ∷ []) Argument) ∷ (codes "S", container_of [] Stream) ∷ (codes "e", container_of (constant (pos 1) ∷ []) Private) ∷ []) 1 [] 0
+    (and_state (and_item 5 (consume_scope 1 2 [] (and_item 6 (task any_code (link_of (codes "in") 0 (Index (constant (pos 1)) ∷ []) None ∷ [])
+    (link_of (codes "out") 0 (Index (constant (pos 0)) ∷ []) (Some Sum) ∷ [])) no_item)) no_item) [] no_state)
+
+adding_is_refused : IsGraphAccepted adding → ⊥
+adding_is_refused accepted = accepted.0.1.0 refl refl
