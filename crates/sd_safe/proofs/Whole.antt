@@ -5,9 +5,10 @@ use Rattle.sd_work.specs.Residual.{pool, idle}
 use Rattle.sd_work.specs.WellFormed.{IsOrdered}
 use Rattle.sd_work.specs.Touch.{Touch, takes, inner, Touches}
 use Rattle.sd_confluence.specs.Safe.{IsSafe, MayInterleave, pool_over}
+use Rattle.sd_box.specs.Box.{Parameter}
 use Rattle.sd_graph.specs.PlainTree.{ItemTrees, consume_scope, StateTrees, GraphTree, graph}
 use Rattle.sd_graph.specs.ContainerParts.{Containers}
-use Rattle.sd_graph.specs.Wiring.{kind_uses, state_uses}
+use Rattle.sd_graph.specs.Wiring.{Use, state_uses}
 use Rattle.sd_graph.specs.Context.{Reach, Context, own_reach}
 use Rattle.sd_graph.specs.Unfold.{at_state, run_of}
 use Rattle.sd_graph.proofs.UnfoldedOrder.{kind_is_ordered, run_is_ordered}
@@ -19,7 +20,8 @@ use Rattle.sd_cover.proofs.Owners.{touch-own}
 use Rattle.sd_cover.proofs.Covered.{IsUsed, kind-covered, state-used, all_exits-used}
 use Rattle.sd_safe.proofs.Distinct.{own-differ}
 use Rattle.sd_safe.proofs.GraphSafe.{element_term, kind-safe, state-safe}
-use Rattle.sd_safe.specs.Reached.{FindsOnce, FindOnce, AreApartFor}
+use Rattle.sd_safe.specs.Reached.{FindsOnce, FindOnce, AreApartFor, MayStand}
+use Rattle.sd_safe.specs.Standing.{StandsAlone}
 
 pub top-once : (containers : Containers) → FindOnce (own_reach containers)
 top-once containers number = finds_once-own containers number
@@ -55,26 +57,34 @@ may_interleave (graph name containers arguments variables symbols states) memory
       inside = λ level container is. touches-nothing tree memory (takes level container) fit is;
     }
 
--- a pool alone over a memory, where all of the graph's containers stand in it, may be done in any order
-pub pool-may_interleave : (memory : Memory) (source element : ℕ) (private : List ℕ) (body : ItemTrees) (path nodes : List ℕ) (context : Context) → ((number : ℕ) → context.reach number ≡ own_reach context.containers number) →
-    IsFit (consume_scope source element private body) [] → AreScopesAccepted (scopes_itself (consume_scope source element private body) context.containers path [] nodes) → AreScopesAccepted (scopes_inside (consume_scope source element private body) context.containers path [] nodes) →
-    MayInterleave (pool_over memory source (element_term element private body context))
-pool-may_interleave memory source element private body path nodes context own fit itself within =
+-- over a memory of its graph an item may stand where no map is around it
+pub own-stands : (context : Context) (uses : List Use) → ((number : ℕ) → context.reach number ≡ own_reach context.containers number) → MayStand context [] uses
+own-stands context uses own = record {
+  in_force = tt;
+  once = λ number. subst FindsOnce (sym (own number)) (finds_once-own context.containers number);
+  apart = λ use' other member member' different conflict.
+      own-differ (context.reach use'.container) (context.reach other.container) context.containers use'.container other.container different (own use'.container) (own other.container);
+}
+
+-- a pool alone over a memory, in which all that it reaches lies, may be done in any order
+pub pool-may_interleave : (memory : Memory) (source element : ℕ) (private : List ℕ) (body : ItemTrees) (path nodes : List ℕ) (around : List Parameter) (context : Context) → StandsAlone context (consume_scope source element private body) around →
+    IsFit (consume_scope source element private body) around → AreScopesAccepted (scopes_itself (consume_scope source element private body) context.containers path around nodes) →
+    AreScopesAccepted (scopes_inside (consume_scope source element private body) context.containers path around nodes) →
+    MayInterleave (pool_over memory (context.reach source).container (element_term element private body context))
+pool-may_interleave memory source element private body path nodes around context alone fit itself within =
     let kind = consume_scope source element private body in
-    let once : FindOnce context.reach = λ number. subst FindsOnce (sym (own number)) (finds_once-own context.containers number) in
-    let apart : AreApartFor context.reach (kind_uses kind context.containers) = λ use' other member member' different conflict.
-    own-differ (context.reach use'.container) (context.reach other.container) context.containers use'.container other.container different (own use'.container) (own other.container) in
-    let here : pool (context.reach source).level (context.reach source).container (element_term element private body context) idle false ≡ pool 0 source (element_term element private body context) idle false =
-    ap (λ (r : Reach). pool r.level r.container (element_term element private body context) idle false) (own source) in
-    let safe : IsSafe (pool 0 source (element_term element private body context) idle false) = subst IsSafe here (kind-safe kind [] 0 path nodes context fit tt once apart itself within) in
-    let ordered : IsOrdered (pool 0 source (element_term element private body context) idle false) = subst IsOrdered here (kind_is_ordered kind 0 context) in
-    let nothing : (touch : Touch) → Touches (pool 0 source (element_term element private body context) idle false) (inner touch) → ⊥ = λ touch is.
-    (let (access, member, covers) = kind-covered kind [] 0 nodes context (inner touch) fit tt (subst (λ term. Touches term (inner touch)) (sym here) is) in
-    touch-own context.values context.reach access touch (ap (λ (r : Reach). r.level) (own access.container)) covers) in record {
+    let container = (context.reach source).container in
+    let works = element_term element private body context in
+    let here : pool (context.reach source).level container works idle false ≡ pool 0 container works idle false = ap (λ level. pool level container works idle false) (alone.here source) in
+    let safe : IsSafe (pool 0 container works idle false) = subst IsSafe here (kind-safe kind around 0 path nodes context fit alone.stands.in_force alone.stands.once alone.stands.apart itself within) in
+    let ordered : IsOrdered (pool 0 container works idle false) = subst IsOrdered here (kind_is_ordered kind 0 context) in
+    let nothing : (touch : Touch) → Touches (pool 0 container works idle false) (inner touch) → ⊥ = λ touch is.
+    (let (access, member, covers) = kind-covered kind around 0 nodes context (inner touch) fit alone.stands.in_force (subst (λ term. Touches term (inner touch)) (sym here) is) in
+    touch-own context.values context.reach access touch (alone.here access.container) covers) in record {
       ordered = (ordered, λ state values. ordered);
       safe = (safe, λ state values. safe);
-      inside = λ level container is. elim is [
-        | inl part ↦ nothing (takes level container) part
-        | inr later ↦ elim later [ inl (state, values, at) ↦ nothing (takes level container) at | inr (state, values, at) ↦ at ]
+      inside = λ level place is. elim is [
+        | inl part ↦ nothing (takes level place) part
+        | inr later ↦ elim later [ inl (state, values, at) ↦ nothing (takes level place) at | inr (state, values, at) ↦ at ]
       ];
     }

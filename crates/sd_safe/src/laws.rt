@@ -11,8 +11,7 @@ ghost use Rattle.sd_confluence.specs.Event.{Event, DoneWith, AreEventsAlike};
 ghost use Rattle.sd_range.specs.Points.{points, ranges_of};
 ghost use Rattle.sd_box.specs.Box.{Parameter};
 ghost use Rattle.sd_box.specs.InForce.{AreFresh};
-ghost use Rattle.sd_graph.specs.PlainTree.{ItemTrees, GraphTree, consume_scope};
-ghost use Rattle.sd_graph.specs.TreeParts.{containers_of};
+ghost use Rattle.sd_graph.specs.PlainTree.{KindTree, ItemTrees, GraphTree, consume_scope};
 ghost use Rattle.sd_graph.specs.Wiring.{outside, item_uses, before};
 ghost use Rattle.sd_graph.specs.Context.{Context, own_reach, private_memory};
 ghost use Rattle.sd_graph.specs.Unfold.{at_point, at_element, element_memory, in_any_order, list_of, point_terms, unfold_items, run_of};
@@ -23,7 +22,7 @@ ghost use Rattle.sd_normal.specs.NormalForm.{IsGraphNormal};
 ghost use Rattle.sd_validity.specs.Valid.{IsValid};
 ghost use Rattle.sd_cover.specs.Fit.{IsFit, AreFit, IsGraphFit};
 ghost use Rattle.sd_safe.specs.Reached.{MayStand};
-ghost use Rattle.sd_safe.specs.Standing.{StandsInGraph};
+ghost use Rattle.sd_safe.specs.Standing.{Spot, StandsInGraph, StandsAlone};
 
 /// Items of a list that are not one before the other do not conflict.
 pub fn items_without_a_path_do_not_conflict()
@@ -61,15 +60,21 @@ pub fn an_accepted_graph_may_interleave()
         → IsGraphFit tree [] → IsGraphAccepted tree → MayInterleave (run_of tree memory) }
 {}
 
-/// A pool alone whose body is accepted, with the scopes in it, may be done in any order, over a
-/// memory in which all containers of its graph stand.
+/// Over a memory of its graph an item may stand outside of maps, and is alone there.
+pub fn an_item_over_a_memory_of_its_graph_stands_alone()
+    ensures { (kind : KindTree) (context : Context)
+        → ((number : ℕ) → context.reach number ≡ own_reach context.containers number) → StandsAlone context kind [] }
+{}
+
+/// A pool alone whose body is accepted, with the scopes in it, may be done in any order, over a memory
+/// in which all that it reaches lies.
 pub fn an_accepted_consume_scope_may_interleave()
-    ensures { (memory : Memory) (stream element : ℕ) (private : List ℕ) (body : ItemTrees) (path nodes : List ℕ) (context : Context)
-        → ((number : ℕ) → context.reach number ≡ own_reach context.containers number)
-        → IsFit (consume_scope stream element private body) []
-        → AreScopesAccepted (scopes_itself (consume_scope stream element private body) context.containers path [] nodes)
-        → AreScopesAccepted (scopes_inside (consume_scope stream element private body) context.containers path [] nodes)
-        → MayInterleave (pool_over memory stream (λ value. owning (element_memory context element private value)
+    ensures { (memory : Memory) (stream element : ℕ) (private : List ℕ) (body : ItemTrees) (path nodes : List ℕ) (around : List Parameter) (context : Context)
+        → StandsAlone context (consume_scope stream element private body) around
+        → IsFit (consume_scope stream element private body) around
+        → AreScopesAccepted (scopes_itself (consume_scope stream element private body) context.containers path around nodes)
+        → AreScopesAccepted (scopes_inside (consume_scope stream element private body) context.containers path around nodes)
+        → MayInterleave (pool_over memory (context.reach stream).container (λ value. owning (element_memory context element private value)
         (list_of (at_element context element private value) body (unfold_items body (at_element context element private value))))) }
 {}
 
@@ -106,36 +111,34 @@ pub fn each_interleaving_of_a_valid_accepted_graph_ends_as_the_sequential_run()
 /// the other is. They leave alike memories and as many turns; from each stream they took, and into
 /// each they pushed, each value equally often.
 pub fn the_order_of_taking_of_an_accepted_scope_makes_no_difference()
-    ensures { (own other : Memory) (stream element : ℕ) (private : List ℕ) (body : ItemTrees) (path nodes : List ℕ) (context : Context)
+    ensures { (own other : Memory) (stream element : ℕ) (private : List ℕ) (body : ItemTrees) (path nodes : List ℕ) (around : List Parameter) (context : Context)
         (turns : ℕ) (picks others : List ℕ) (left : Left) (happened : List Event)
-        → ((number : ℕ) → context.reach number ≡ own_reach context.containers number)
-        → IsFit (consume_scope stream element private body) []
-        → AreScopesAccepted (scopes_itself (consume_scope stream element private body) context.containers path [] nodes)
-        → AreScopesAccepted (scopes_inside (consume_scope stream element private body) context.containers path [] nodes)
+        → StandsAlone context (consume_scope stream element private body) around
+        → IsFit (consume_scope stream element private body) around
+        → AreScopesAccepted (scopes_itself (consume_scope stream element private body) context.containers path around nodes)
+        → AreScopesAccepted (scopes_inside (consume_scope stream element private body) context.containers path around nodes)
         → AreAlike own other
-        → DoneWith (pool_over own stream (λ value. owning (element_memory context element private value)
+        → DoneWith (pool_over own (context.reach stream).container (λ value. owning (element_memory context element private value)
         (list_of (at_element context element private value) body (unfold_items body (at_element context element private value))))) turns picks left happened
         → (end : Left) × (happened_there : List Event)
-        × DoneWith (pool_over other stream (λ value. owning (element_memory context element private value)
+        × DoneWith (pool_over other (context.reach stream).container (λ value. owning (element_memory context element private value)
         (list_of (at_element context element private value) body (unfold_items body (at_element context element private value))))) turns others end happened_there
         × LeaveAlike left end × AreEventsAlike happened happened_there }
 {}
 
-/// Of two runs of a consume scope that stands in a list of a state of a valid, accepted graph, from
-/// memories of the graph's containers that are alike and by any picks, the one is done where the other
-/// is. They leave alike memories and as many turns, and took and pushed each value equally often.
+/// So it is of each consume scope of a valid, accepted graph, wherever it stands: in a list of a state,
+/// in other scopes, or in a nested graph.
 pub fn the_order_of_taking_in_a_valid_accepted_graph_makes_no_difference()
-    ensures { (tree : GraphTree) (own other : Memory) (stream element : ℕ) (private : List ℕ) (body : ItemTrees) (context : Context)
+    ensures { (tree : GraphTree) (own other : Memory) (stream element : ℕ) (private : List ℕ) (body : ItemTrees) (at : Spot) (context : Context)
         (turns : ℕ) (picks others : List ℕ) (left : Left) (happened : List Event)
         → IsValid tree → IsGraphNormal tree → IsGraphAccepted tree
-        → StandsInGraph (consume_scope stream element private body) tree
-        → context.containers ≡ containers_of tree
-        → ((number : ℕ) → context.reach number ≡ own_reach context.containers number)
+        → StandsInGraph (consume_scope stream element private body) at tree
+        → context.containers ≡ at.containers → StandsAlone context (consume_scope stream element private body) at.around
         → AreAlike own other
-        → DoneWith (pool_over own stream (λ value. owning (element_memory context element private value)
+        → DoneWith (pool_over own (context.reach stream).container (λ value. owning (element_memory context element private value)
         (list_of (at_element context element private value) body (unfold_items body (at_element context element private value))))) turns picks left happened
         → (end : Left) × (happened_there : List Event)
-        × DoneWith (pool_over other stream (λ value. owning (element_memory context element private value)
+        × DoneWith (pool_over other (context.reach stream).container (λ value. owning (element_memory context element private value)
         (list_of (at_element context element private value) body (unfold_items body (at_element context element private value))))) turns others end happened_there
         × LeaveAlike left end × AreEventsAlike happened happened_there }
 {}
