@@ -120,7 +120,7 @@ fn perform_through(
 }
 
 /// Whether a container is a stream.
-fn is_stream(graph: &Sdfg, container: u32) -> bool
+pub fn is_stream(graph: &Sdfg, container: u32) -> bool
     ensures { result ≡ is_stream_kind (container_at (containers_of (graph_tree graph.now)) container).kind }
 {
     match graph.containers.get_index(container as usize) {
@@ -133,7 +133,7 @@ fn is_stream(graph: &Sdfg, container: u32) -> bool
 }
 
 /// The numbers of an index, wider.
-fn widened(at: [u64; 4]) -> [i128; 4]
+pub fn widened(at: [u64; 4]) -> [i128; 4]
     ensures { result ≡ map pos at }
 {
     let [first, second, third, fourth] = at;
@@ -146,7 +146,7 @@ fn widened(at: [u64; 4]) -> [i128; 4]
 }
 
 /// How many dimensions a connector has.
-fn dimensions_of(inputs: &Inputs, connector: usize) -> usize
+pub fn dimensions_of(inputs: &Inputs, connector: usize) -> usize
     ensures { result ≡ length (extents_of_connector (given inputs.now) connector) }
 {
     match inputs.extents.as_slice().get(connector) {

@@ -21,7 +21,7 @@ use std::alloc::Global;
 
 /// What code with these connectors is given where a scope stands: these elements of its inputs, the extents of its connectors
 /// and the values of its variables.
-pub(crate) fn inputs_of(
+pub fn inputs_of(
     alloc: Global,
     code: &Tasklet,
     ins: &[Link],
@@ -83,7 +83,7 @@ fn value_of_variable(variable: u32, values: &Env) -> i64
 }
 
 /// The effects of code, or its fault. `NoMemory` also where an input has not its elements or a connector too many dimensions.
-pub(crate) fn evaluated(
+pub fn evaluated(
     alloc: Global,
     code: &Tasklet,
     inputs: &Inputs,

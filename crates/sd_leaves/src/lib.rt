@@ -18,7 +18,8 @@ mod reduction;
 mod task;
 
 pub use copy::run_copy;
-pub use effects::perform_effect;
+pub use effects::{dimensions_of, is_stream, perform_effect, widened};
+pub use evaluation::{evaluated, inputs_of};
 pub use exit::{Next, next_exit};
-pub use reduction::run_reduction;
+pub use reduction::{places_of, put_target_place, run_reduction};
 pub use task::run_task;

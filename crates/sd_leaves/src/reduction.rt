@@ -117,7 +117,11 @@ fn resolve_all(
 }
 
 /// Puts into `place` the place in a reduction's target for a place in its source.
-fn put_target_place(axis: Option<u32>, at: &[i128], place: &mut Vec<i128>) -> Result<(), NoMemory>
+pub fn put_target_place(
+    axis: Option<u32>,
+    at: &[i128],
+    place: &mut Vec<i128>,
+) -> Result<(), NoMemory>
     ensures { OnOk result (place.new.items ≡ target_place axis at.now) }
 {
     place.clear();
@@ -132,7 +136,7 @@ fn put_target_place(axis: Option<u32>, at: &[i128], place: &mut Vec<i128>) -> Re
 }
 
 /// A way through the places of a connector, in row order.
-fn places_of(alloc: Global, extents: &[u64]) -> Result<Points, NoMemory>
+pub fn places_of(alloc: Global, extents: &[u64]) -> Result<Points, NoMemory>
     ensures { IfOk result (λ places. places.left ≡ whole extents.now) }
 {
     let mut ranges = Vec::with_capacity(alloc, extents.len())?;

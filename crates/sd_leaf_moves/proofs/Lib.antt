@@ -1,0 +1,5 @@
+pub mod Comings
+pub mod Todos
+pub mod Cuts
+pub mod Evaluations
+pub mod WholeInstances
