@@ -1,5 +1,5 @@
 -- An item of a graph that is fit and accepted is so too, wherever it stands.
-use Rattle.std.proofs.Common.{◌≡◌, ◌⊎◌, inl, inr, ℕ, suc, List, [], ◌++◌, subst}
+use Rattle.std.proofs.Common.{◌≡◌, inl, inr, ℕ, suc, List, [], ◌++◌, subst}
 use Rattle.sd_graph.specs.PlainTree.{KindTree, task, map_scope, consume_scope, nested_graph, reduction, copy, ItemTrees, no_item, and_item, StateTrees, no_state, and_state, GraphTree, graph}
 use Rattle.sd_graph.specs.ContainerParts.{Containers}
 use Rattle.sd_prop.specs.ItemNodes.{item_nodes, own_node, nodes_behind, past}

@@ -9,7 +9,7 @@ use Rattle.sd_box.specs.Box.{Parameter}
 use Rattle.sd_graph.specs.PlainTree.{ItemTrees, consume_scope, StateTrees, GraphTree, graph}
 use Rattle.sd_graph.specs.ContainerParts.{Containers}
 use Rattle.sd_graph.specs.Wiring.{Use, state_uses}
-use Rattle.sd_graph.specs.Context.{Reach, Context, own_reach}
+use Rattle.sd_graph.specs.Context.{Context, own_reach}
 use Rattle.sd_graph.specs.Unfold.{at_state, run_of}
 use Rattle.sd_graph.proofs.UnfoldedOrder.{kind_is_ordered, run_is_ordered}
 use Rattle.sd_prop.specs.Scopes.{scopes_itself, scopes_inside}
