@@ -3,17 +3,13 @@ use Rattle.std.proofs.Common.{◌≡◌, ℕ, zero, suc, ◌+◌, ◌≤◌, pos
 use Rattle.std.specs.List.{AllByRecursion}
 use Rattle.std.proofs.lemmas.List.{length-append, length-map, length-replicate}
 use Rattle.sd_graph.specs.PlainTree.{TaskletTree}
-use Rattle.sd_graph.specs.declared.tasklet.Port.{Port}
 use Rattle.sd_graph.specs.declared.link.Link.{Link}
 use Rattle.sd_graph.specs.TaskletMeaning.{Inputs}
 use Rattle.sd_tcode.specs.Compiled.{Compiled, IsCodeOf}
 use Rattle.sd_tcode.specs.Held.{IsReady, given, zero_elements, zeros_for}
 use Rattle.sd_tcode.specs.declared.frame.Frame.{Frame}
+use Rattle.sd_instance.proofs.Zeros.{no_dims, many}
 use Rattle.sd_rows.specs.Code.{IsInstance, IsFit}
-
-no_dims : (ports : List Port) → AllByRecursion (λ port. port.dims ≡ 0) ports → AllByRecursion (λ count. count ≡ 0) (map (λ port. port.dims) ports)
-no_dims [] all = all
-no_dims (port ∷ ports) all = (all.0, no_dims ports all.1)
 
 -- each scalar has one zero
 singles : (dims widest : List ℕ) → AllByRecursion (λ count. count ≡ 0) dims → AllByRecursion (λ values. length values ≡ 1) (zero_elements dims widest)
@@ -21,12 +17,6 @@ singles [] widest all = tt
 singles (count ∷ dims) [] all = tt
 singles (zero ∷ dims) (most ∷ widest) all = (refl, singles dims widest all.1)
 singles (suc count ∷ dims) (most ∷ widest) all = absurd (omega (arith, all.0))
-
-many : (dims widest : List ℕ) → length widest ≤ length dims → length (zero_elements dims widest) ≡ length widest
-many [] [] few = refl
-many [] (most ∷ widest) few = absurd (omega (arith, few))
-many (count ∷ dims) [] few = refl
-many (count ∷ dims) (most ∷ widest) few = ap suc (many dims widest (omega (arith, few)))
 
 no_extents : (dims : List ℕ) → AllByRecursion (λ count. count ≡ 0) dims → map (λ count. replicate {A = ℕ} count 0) dims ≡ replicate (length dims) []
 no_extents [] all = refl

@@ -1,4 +1,3 @@
-pub mod Bodies
 pub mod Fresh
 pub mod Gaps
 pub mod Matched

@@ -1,5 +1,5 @@
 -- The values of a last parameter.
-use Rattle.std.proofs.Common.{◌≡◌, ℕ, ◌<◌, ◌^◌, ℤ, List, length, min, Option, Some, None, Result, Ok, Err, IfOk, OnOk, sym, ap, ◌∙◌, arith, subst}
+use Rattle.std.proofs.Common.{◌≡◌, ℕ, ◌<◌, ◌^◌, ℤ, List, length, min, Option, Some, None, Result, Ok, Err, IfOk, sym, ap, ◌∙◌, arith}
 use Rattle.std.specs.Option.{MatchOption}
 use Rattle.std.specs.Bool.{⊤}
 use Rattle.sd_range.specs.declared.range.Range.{Range}
@@ -25,10 +25,6 @@ counted_so values range first step count most first_is step_is count_is small mo
     ap (counted_from (affine_value values range.begin) range.step) same
     ∙ ap (λ first. counted_from first range.step count) (sym first_is) ∙ ap (λ step. counted_from first step count) (sym step_is)
 
--- what was found is so
-pub found_so : {A : Type 0} (told : A → Type 0) (answer : Option A) (value : A) → answer ≡ Some value → MatchOption answer ⊤ told → told value
-found_so told answer value is so = subst (λ answer. MatchOption answer ⊤ told) is so
-
 -- what is found, of which four things are told
 pub row_told : {A E : Type 0} (first second third fourth meant : A → Type 0) (answer : Result (Option A) E) → ((value : A) → first value → second value → third value → fourth value → meant value) →
     IfOk answer (λ found. MatchOption found ⊤ first) → IfOk answer (λ found. MatchOption found ⊤ second) → IfOk answer (λ found. MatchOption found ⊤ third) → IfOk answer (λ found. MatchOption found ⊤ fourth) →
@@ -36,11 +32,3 @@ pub row_told : {A E : Type 0} (first second third fourth meant : A → Type 0) (
 row_told first second third fourth meant (Ok (Some value)) follows a b c d = follows value a b c d
 row_told first second third fourth meant (Ok None) follows a b c d = a
 row_told first second third fourth meant (Err error) follows a b c d = tt
-
-pub always_ok : {A E : Type 0} (Is : Type 0) (answer : Result A E) → Is → OnOk answer Is
-always_ok Is (Ok value) is = is
-always_ok Is (Err error) is = tt
-
--- nothing was found
-pub none_so : {A : Type 0} (none : Type 0) (told : A → Type 0) (answer : Option A) → answer ≡ None → MatchOption answer none told → none
-none_so none told answer is so = subst (λ answer. MatchOption answer none told) is so

@@ -79,28 +79,6 @@ module _ (steps : Steps) (gaps : ℕ) (first last : Context) (values : List ℤ)
         ∙ ap (λ (to : Reference). Some (record to { element = one.0 })) low.1
         ∙ ap (λ (element : ℕ). Some (record { level = begin.station.level; container = begin.station.container; element = element })) (told all.0 all.1 k one.0 within one.2)
 
--- ---- all links
-
--- links of one element each, and their tracks
-pub each_on_track : (context : Context) (k : ℕ) (links : List Link) (tracks : List Track) → AllByRecursion (λ link. is_scalar link.memlet.subset.dims ≡ true) links →
-    map (λ link. link_element context link []) links ≡ map (λ track. Some (reference_on track k)) tracks →
-    map (link_elements context) links ≡ map (λ track. Some (reference_on track k) ∷ []) tracks
-each_on_track context k [] [] scalars same = refl
-each_on_track context k [] (track ∷ tracks) scalars same = cc
-each_on_track context k (link ∷ links) [] scalars same = cc
-each_on_track context k (link ∷ links) (track ∷ tracks) scalars same =
-    let here : link_element context link [] ≡ Some (reference_on track k) = cc in
-    let others : map (λ link. link_element context link []) links ≡ map (λ track. Some (reference_on track k)) tracks = cc in
-    ap (λ elements. elements ∷ map (link_elements context) links) (one_element context link scalars.0 ∙ ap (λ (one : Option Reference). one ∷ []) here)
-    ∙ ap (λ rest. (Some (reference_on track k) ∷ []) ∷ rest) (each_on_track context k links tracks scalars.1 others)
-
-pub no_extents_of_all : (context : Context) (links : List Link) → AllByRecursion (λ link. is_scalar link.memlet.subset.dims ≡ true) links →
-    map (link_extents context) links ≡ map (λ link. []) links
-no_extents_of_all context [] scalars = refl
-no_extents_of_all context (link ∷ links) scalars =
-    ap (λ extents. extents ∷ map (link_extents context) links) (no_extents context link scalars.0)
-    ∙ ap (λ (rest : List (List ℕ)). [] ∷ rest) (no_extents_of_all context links scalars.1)
-
 -- ---- variables
 
 set_value : (variable : ℕ) (value : ℤ) (values : List ℤ) → variable_value (with_variable variable value values) variable ≡ value

@@ -10,6 +10,7 @@ use Rattle.sd_tcode.specs.declared.frame.Frame.{Frame}
 use Rattle.sd_columns.specs.declared.columns.Columns.{Columns}
 use Rattle.sd_columns.specs.Columns.{register_count, AreWide}
 use Rattle.sd_even.specs.Even.{is_scalar}
+use Rattle.sd_instance.specs.Fit.{AreFor}
 
 -- code and a frame for a tasklet with these links, which are scalars, and as many as it has connectors; each output is set once
 pub record IsInstance (tree : TaskletTree) (ins outs : List Link) (compiled : Compiled) (frame : Frame) : Type 0 where
@@ -29,13 +30,6 @@ pub record IsInstance (tree : TaskletTree) (ins outs : List Link) (compiled : Co
 pub record AreColumnsOf (compiled : Compiled) (columns : Columns) : Type 0 where
   pub registers : register_count columns ≡ compiled.registers
   pub wide : AreWide columns
-
--- links for each connector of a tasklet, and few of them and of its variables
-pub record AreFor (tree : TaskletTree) (ins outs : List Link) : Type 0 where
-  pub inputs : length ins ≡ length tree.ins
-  pub outputs : length outs ≡ length tree.outs
-  pub few_inputs : length ins < 2 ^ 32
-  pub few_variables : length tree.variables < 2 ^ 32
 
 -- a tasklet that names what it has, with a scalar link for each of its connectors, which are scalars
 pub record IsFit (tree : TaskletTree) (ins outs : List Link) : Type 0 where

@@ -6,8 +6,6 @@ ghost use Rattle.std.specs.List.{AllByRecursion};
 ghost use Rattle.sd_num.specs.Wrapped.{wrapped};
 ghost use Rattle.sd_range.specs.Affine.{variable_value};
 ghost use Rattle.sd_graph.specs.TreeFold.{graph_tree, tasklet_tree};
-ghost use Rattle.sd_graph.specs.TreeParts.{containers_of};
-ghost use Rattle.sd_graph.specs.ContainerParts.{container_at, is_stream as is_stream_kind};
 ghost use Rattle.sd_graph.specs.Context.{Context, link_element};
 ghost use Rattle.sd_graph.specs.Unfold.{pending_of};
 ghost use Rattle.sd_tcode.specs.Outputs.{output_effects};
@@ -22,9 +20,9 @@ ghost use Rattle.sd_row.specs.Row.{IsAt, order_of, reference_on, write_on};
 use crate::spacing::spaced_between;
 use crate::steps::Steps;
 use sd_columns::Spaced;
-use sd_graph::{ContainerKind, Link, Sdfg, Tasklet};
+use sd_graph::{Link, Sdfg, Tasklet};
+use sd_instance::{element_of_variable, is_stream};
 use sd_list::NoMemory;
-use sd_num::wrap;
 use sd_range::Env;
 use sd_row::{Row, Track, Write};
 use sd_scope::{Base, Scope, link_cell};
@@ -163,16 +161,6 @@ fn value_of_variable(variable: u32, steps: &Steps, first: &Env) -> Spaced
     }
 }
 
-/// The value of a variable, as an element; one that has none counts as 0.
-fn element_of_variable(variable: u32, values: &Env) -> i64
-    ensures { result ≡ wrapped (variable_value values.now.values variable) }
-{
-    match values.values.as_slice().get(variable as usize) {
-        Some(value) => wrap(*value),
-        None => 0,
-    }
-}
-
 /// The writes of the outputs in this order.
 fn writes_of(
     alloc: Global,
@@ -234,18 +222,5 @@ fn write_of(
             to,
         })),
         None => Ok(None),
-    }
-}
-
-/// Whether a container is a stream.
-fn is_stream(graph: &Sdfg, container: u32) -> bool
-    ensures { result ≡ is_stream_kind (container_at (containers_of (graph_tree graph.now)) container).kind }
-{
-    match graph.containers.get_index(container as usize) {
-        Some((_, container)) => matches!(
-            container.kind,
-            ContainerKind::Stream | ContainerKind::PrivateStream
-        ),
-        None => false,
     }
 }

@@ -45,7 +45,7 @@ fn run_items(
 
 /// One item with its line.
 #[cycle(run)]
-#[tactic(auto, using(sd_rows::proofs::Bodies::item_opened))]
+#[tactic(auto, using(sd_instance::proofs::Bodies::item_opened))]
 fn run_item(
     alloc: Global,
     item: &Item,

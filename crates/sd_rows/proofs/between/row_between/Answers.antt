@@ -6,8 +6,8 @@ use Rattle.sd_graph.specs.Unfold.{pending_of}
 use Rattle.sd_tcode.specs.Outputs.{output_effects}
 use Rattle.sd_even.specs.Even.{is_scalar}
 use Rattle.sd_row.proofs.Filled.{all_first}
-use Rattle.sd_rows.proofs.Matched.{found_so}
-use Rattle.sd_rows.proofs.Tracks.{each_on_track, no_extents_of_all}
+use Rattle.sd_instance.proofs.Matched.{found_so}
+use Rattle.sd_instance.proofs.Links.{each_on_track, no_extents_of_all}
 use Rattle.sd_rows.proofs.between.row_between.Goals as goal
 
 pub returns-clause-at : goal.returns-clause-at

@@ -2,7 +2,7 @@ use Rattle.std.proofs.Common.{◌≡◌, ◌++◌, ◌∷◌, [], Some, map, ap,
 use Rattle.sd_graph.specs.Context.{link_element}
 use Rattle.sd_row.specs.Row.{reference_on}
 use Rattle.sd_row.proofs.Filled.{made_more, made_whole, one_longer}
-use Rattle.sd_rows.proofs.Matched.{found_so}
+use Rattle.sd_instance.proofs.Matched.{found_so}
 use Rattle.sd_rows.proofs.between.tracks_of.Goals as goal
 
 pub loop-link-preserved : goal.loop-link-preserved

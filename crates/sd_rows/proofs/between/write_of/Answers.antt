@@ -1,7 +1,7 @@
 use Rattle.std.proofs.Common.{◌≡◌, ◌≤◌, ◌-◌, ℕ, Some, false, length, slice_get, ap, sym, ◌∙◌, rules, arith}
 use Rattle.sd_graph.specs.ContainerParts.{container_at, is_stream}
 use Rattle.sd_leaves.proofs.Lists.{member_there}
-use Rattle.sd_rows.proofs.Matched.{found_so}
+use Rattle.sd_instance.proofs.Matched.{found_so}
 use Rattle.sd_rows.proofs.Tracks.{output_through, containers_along}
 use Rattle.sd_row.specs.Row.{reference_on}
 use Rattle.sd_rows.proofs.between.write_of.Goals as goal

@@ -5,7 +5,7 @@ use Rattle.sd_graph.specs.Unfold.{pending_of}
 use Rattle.sd_row.specs.declared.row.Write.{Write}
 use Rattle.sd_row.specs.Row.{write_on}
 use Rattle.sd_row.proofs.Filled.{made_more, made_whole, same_list}
-use Rattle.sd_rows.proofs.Matched.{found_so}
+use Rattle.sd_instance.proofs.Matched.{found_so}
 use Rattle.sd_rows.proofs.between.writes_of.Goals as goal
 
 pub loop-connector-preserved : goal.loop-connector-preserved

@@ -6,7 +6,8 @@ use Rattle.sd_scope.specs.Standing.{context_of}
 use Rattle.sd_row.specs.declared.row.Row.{Row}
 use Rattle.sd_rows.specs.Along.{row_of, IsFromTo}
 use Rattle.sd_row.specs.Setting.{IsRowOf}
-use Rattle.sd_rows.proofs.Matched.{row_told, always_ok}
+use Rattle.sd_instance.proofs.Matched.{always_ok}
+use Rattle.sd_rows.proofs.Matched.{row_told}
 use Rattle.sd_rows.proofs.Tracks.{along_row}
 use Rattle.sd_rows.proofs.rows.find_tracks.Goals as goal
 

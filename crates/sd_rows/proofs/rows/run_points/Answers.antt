@@ -6,7 +6,7 @@ use Rattle.sd_scope.specs.Standing.{context_of}
 use Rattle.sd_rows.specs.Along.{row_of, step_to}
 use Rattle.sd_row.specs.Setting.{row_coming}
 use Rattle.sd_row.proofs.Comes.{as_finished}
-use Rattle.sd_rows.proofs.Bodies.{containers_in}
+use Rattle.sd_instance.proofs.Bodies.{containers_in}
 use Rattle.sd_rows.proofs.Points.{point_ends}
 use Rattle.sd_row.proofs.RowSteps.{one_item, row_begins, row_ends, point_more, point_stop}
 use Rattle.sd_rows.proofs.rows.run_points.Goals as goal

@@ -9,7 +9,7 @@ use Rattle.sd_scope.specs.Standing.{context_of}
 use Rattle.sd_row.specs.declared.row_run.RowEnd.{RowEnd}
 use Rattle.sd_rows.specs.Along.{row_of}
 use Rattle.sd_row.specs.Setting.{row_coming, end_of_row}
-use Rattle.sd_rows.proofs.Bodies.{containers_in}
+use Rattle.sd_instance.proofs.Bodies.{containers_in}
 use Rattle.sd_rows.proofs.RowEnds.{tracks_end}
 use Rattle.sd_rows.proofs.rows.run_tracks.Goals as goal
 

@@ -19,8 +19,8 @@ use Rattle.sd_seq.proofs.ItemKinds.{map_kind, consume_kind}
 use Rattle.sd_rows.proofs.Points.{points_begin, point_first, point_ends, point_more, point_stop}
 use Rattle.sd_seq.proofs.Elements.{take_there, oldest_there, no_value, takes_end, element_ends, element_more, element_stop}
 use Rattle.sd_seq.proofs.NestedRuns.{nested_ends}
-use Rattle.sd_rows.proofs.Bodies.{containers_in}
-use Rattle.sd_rows.proofs.Matched.{none_so}
+use Rattle.sd_instance.proofs.Bodies.{containers_in}
+use Rattle.sd_instance.proofs.Matched.{none_so}
 use Rattle.sd_seq.proofs.Transitions.{items_lead, graph_stop, graph_nowhere, graph_fault, graph_spent, graph_on, graph_falls, graph_over, as_many, values_begin}
 use denote.Param.Weighed.{most, at_most}
 use Rattle.sd_graph.proofs.graph.Item.TheLaws.{the_size}

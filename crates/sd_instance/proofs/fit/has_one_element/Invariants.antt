@@ -1,6 +1,6 @@
 use Rattle.std.proofs.Common.{◌≡◌, drop}
 use Rattle.sd_even.specs.Even.{is_scalar}
-use Rattle.sd_rows.proofs.instance.has_one_element.Given as goal
+use Rattle.sd_instance.proofs.fit.has_one_element.Given as goal
 
 -- it is what the dimensions that are left say
 abbrev pub invariant-loop-dim : goal.invariant-loop-dim

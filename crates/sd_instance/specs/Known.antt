@@ -1,0 +1,56 @@
+-- Where the accesses of a tasklet lead, which stands at a point of a row.
+use Rattle.std.specs.Prelude.{◌≡◌, ℕ, ◌<◌, ◌^◌, List, [], ◌∷◌, ◌++◌, length, map, Some}
+use Rattle.std.specs.List.{AllByRecursion, AllZip}
+use Rattle.sd_num.specs.Wrapped.{wrapped}
+use Rattle.sd_range.specs.Affine.{variable_value}
+use Rattle.sd_work.specs.Leaf.{Pending, write_value, push_to}
+use Rattle.sd_graph.specs.PlainTree.{TaskletTree}
+use Rattle.sd_graph.specs.TaskletMeaning.{Effect, Inputs}
+use Rattle.sd_graph.specs.Context.{Context, link_elements, link_extents}
+use Rattle.sd_graph.specs.Unfold.{pending_through}
+use Rattle.sd_graph.specs.declared.link.Link.{Link}
+use Rattle.sd_tcode.specs.Compiled.{Compiled, IsCodeOf}
+use Rattle.sd_columns.specs.Columns.{value_on}
+use Rattle.sd_row.specs.Row.{reference_on}
+use Rattle.sd_instance.specs.declared.target.Target.{Target}
+use Rattle.sd_instance.specs.declared.target.Target.TheVariants.{Stream, Element, Computed}
+use Rattle.sd_instance.specs.declared.accesses.Accesses.{Accesses}
+
+-- what is to do for an effect on an output with this target
+abbrev pub pending_to : Target → (k : ℕ) → Context → Link → Effect → Pending
+pending_to (Stream station) k context link effect = push_to station.level station.container effect.value
+pending_to (Element by to) k context link effect = write_value effect.value (Some (reference_on to k)) by
+pending_to Computed k context link effect = pending_through context link effect
+
+-- a link leads to this target
+abbrev pub IsTarget : (k : ℕ) → Context → Link → Target → Type 0
+IsTarget k context link target = (effect : Effect) → pending_through context link effect ≡ pending_to target k context link effect
+
+-- the accesses of a tasklet: each input is one element
+pub record AreKnown (tree : TaskletTree) (ins outs : List Link) (k : ℕ) (context : Context) (accesses : Accesses) : Type 0 where
+  pub reads : map (link_elements context) ins ≡ map (λ track. Some (reference_on track k) ∷ []) accesses.reads.items
+  pub variables : map (λ variable. wrapped (variable_value context.values variable)) tree.variables ≡ map (λ numbers. value_on numbers k) accesses.variables.items
+  pub targets : AllZip (IsTarget k context) outs accesses.targets.items
+
+-- a tasklet of this code with these links, which is given this
+pub record IsSetUp (tree : TaskletTree) (ins outs : List Link) (compiled : Compiled) (given : Inputs) (context : Context) : Type 0 where
+  pub code : IsCodeOf tree compiled
+  pub extents : given.extents ≡ map (link_extents context) (ins ++ outs)
+
+-- the targets of outputs behind so many inputs, where code is given this
+pub record AreTargets (count : ℕ) (ins outs : List Link) (given : Inputs) (all : List Target) (k : ℕ) (context : Context) : Type 0 where
+  pub inputs : length ins ≡ count
+  pub extents : given.extents ≡ map (link_extents context) (ins ++ outs)
+  pub targets : AllZip (IsTarget k context) outs all
+
+-- what is given has one element for each of so many inputs, and so many variables
+pub record HasRoom (many more : ℕ) (given : Inputs) : Type 0 where
+  pub singles : AllByRecursion (λ values. length values ≡ 1) given.values
+  pub reads : length given.values ≡ many
+  pub variables : length given.variables ≡ more
+  pub few_reads : many < 2 ^ 32
+  pub few_variables : more < 2 ^ 32
+
+-- no output goes to a container of the innermost memory
+abbrev pub AreOutward : Context → List Link → Type 0
+AreOutward context outs = AllByRecursion (λ link. 0 < (context.reach link.memlet.container).level) outs

@@ -1,0 +1,134 @@
+//! What the effects of a tasklet do, where their targets are known.
+ghost use Rattle.std.specs.Prelude.{◌≡◌, ◌∷◌, [], List, map, length, Some, slice_get, IfOk};
+ghost use Rattle.sd_graph.specs.TreeFold.{graph_tree};
+ghost use Rattle.sd_graph.specs.TaskletMeaning.{Inputs, extents_of_connector};
+ghost use Rattle.sd_graph.specs.Context.{Context, link_extents};
+ghost use Rattle.sd_graph.specs.Unfold.{pending_through};
+ghost use Rattle.sd_graph.specs.declared.link.Link.{Link as LinkNow};
+ghost use Rattle.sd_tasklet.specs.Kept.{told};
+ghost use Rattle.sd_scope.specs.Standing.{context_of};
+ghost use Rattle.sd_leaves.specs.Done.{IsDone, performing};
+ghost use Rattle.sd_leaves.specs.Given.{pending_told};
+ghost use Rattle.sd_instance.specs.declared.target.Target.{Target as TargetNow};
+ghost use Rattle.sd_instance.specs.Known.{IsTarget, AreTargets};
+
+use crate::target::Target;
+use sd_graph::{FaultKind, Link, Sdfg};
+use sd_leaves::perform_effect;
+use sd_list::NoMemory;
+use sd_machine::Machine;
+use sd_range::Dim;
+use sd_scope::{Base, Scope};
+use sd_tasklet::Effect;
+use std::alloc::Global;
+
+/// How many ranges a subset has.
+fn range_count(dims: &[Dim]) -> usize
+    ensures { (context : Context) (link : LinkNow) → link.memlet.subset.dims ≡ dims.now → result ≡ length (link_extents context link) }
+{
+    let mut count = 0;
+    for dim in dims {
+        if let Dim::Span(_) = dim {
+            count += 1;
+        }
+    }
+    count
+}
+
+/// Performs an effect through a link that leads to this target at a point.
+#[inline(always)]
+fn perform_to(
+    alloc: Global,
+    target: Target,
+    effect: Effect,
+    link: &Link,
+    k: u32,
+    graph: &Sdfg,
+    base: &Base,
+    scope: &Scope,
+    machine: &mut Machine,
+) -> Result<Option<FaultKind>, NoMemory>
+    ensures { IfOk result (λ fault. (inputs : Inputs) → IsTarget k (context_of (graph_tree graph.now) base.now scope.now) link.now target
+        → extents_of_connector inputs effect.connector ≡ link_extents (context_of (graph_tree graph.now) base.now scope.now) link.now
+        → IsDone (performing (pending_through (context_of (graph_tree graph.now) base.now scope.now) link.now (told inputs effect) ∷ [])) machine.old fault machine.new) }
+{
+    match target {
+        Target::Stream(station) => {
+            machine.push(station, effect.value)?;
+            Ok(None)
+        }
+        Target::Element(by, to) => {
+            machine.write(to.cell(k), by, effect.value);
+            Ok(None)
+        }
+        Target::Computed => {
+            let dimensions = range_count(link.memlet.subset.dims.as_slice());
+            perform_effect(alloc, effect, dimensions, link, graph, base, scope, machine)
+        }
+    }
+}
+
+/// The target of this number; one that is looked up where there is none.
+#[inline(always)]
+fn target_of(targets: &[Target], number: usize) -> Target
+    ensures { (target : TargetNow) → slice_get targets.now number ≡ Some target → result ≡ target }
+{
+    match targets.get(number) {
+        Some(target) => *target,
+        None => Target::Computed,
+    }
+}
+
+/// Performs an effect: outputs are numbered behind so many inputs, and through another number it goes nowhere, which is a fault.
+#[inline(always)]
+fn perform(
+    alloc: Global,
+    effect: Effect,
+    inputs: usize,
+    targets: &[Target],
+    outs: &[Link],
+    k: u32,
+    graph: &Sdfg,
+    base: &Base,
+    scope: &Scope,
+    machine: &mut Machine,
+) -> Result<Option<FaultKind>, NoMemory>
+    ensures { IfOk result (λ fault. (ins : List LinkNow) (given : Inputs) → AreTargets inputs ins outs.now given targets.now k (context_of (graph_tree graph.now) base.now scope.now)
+        → IsDone (performing (pending_told (context_of (graph_tree graph.now) base.now scope.now) given ins outs.now effect ∷ [])) machine.old fault machine.new) }
+{
+    let Some(number) = (effect.connector as usize).checked_sub(inputs) else {
+        return Ok(Some(FaultKind::Subscript));
+    };
+    let Some(link) = outs.get(number) else {
+        return Ok(Some(FaultKind::Subscript));
+    };
+    let target = target_of(targets, number);
+    perform_to(alloc, target, effect, link, k, graph, base, scope, machine)
+}
+
+/// Performs effects one after another.
+pub(crate) fn perform_all(
+    alloc: Global,
+    effects: &[Effect],
+    inputs: usize,
+    targets: &[Target],
+    outs: &[Link],
+    k: u32,
+    graph: &Sdfg,
+    base: &Base,
+    scope: &Scope,
+    machine: &mut Machine,
+) -> Result<Option<FaultKind>, NoMemory>
+    ensures { IfOk result (λ fault. (ins : List LinkNow) (given : Inputs) → AreTargets inputs ins outs.now given targets.now k (context_of (graph_tree graph.now) base.now scope.now)
+        → IsDone (performing (map (pending_told (context_of (graph_tree graph.now) base.now scope.now) given ins outs.now) effects.now)) machine.old fault machine.new) }
+{
+    for effect in effects {
+        match perform(
+            alloc, *effect, inputs, targets, outs, k, graph, base, scope, machine,
+        )? {
+            None => {}
+            Some(kind) => return Ok(Some(kind)),
+        }
+    }
+    Ok(None)
+}
