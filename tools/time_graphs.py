@@ -3,7 +3,7 @@
 
 Proves and builds the program sd_elab_bench where it is not built. For sources of several kinds, each in a quarter, half and
 all of 2^20 bytes, it prints the milliseconds in which one graph is made, and how many times those of half the bytes they are.
-They are processor time: the least of three runs that make ten graphs more, without that of the least of three that make one.
+They are processor time: the least of five runs that make twenty graphs more, without that of the least of five that make one.
 The status is 0 where twice the bytes take at most 2.3 times as long, and each graph has the containers, variables and states
 that it should have.
 """
@@ -14,8 +14,8 @@ import tempfile
 
 from timed_program import BYTES, built
 
-RUNS = 3
-GRAPHS = 10
+RUNS = 5
+GRAPHS = 20
 MOST = 2.3
 
 
@@ -49,8 +49,7 @@ def maps(size):
 
 def scopes(size):
     """Element statements in seven maps in one another."""
-    head = "for i in dace.map[0:4]:"
-    one = ["    " * level + head for level in range(7)] + [" " * 28 + "A[i] = i + 7"] * 250
+    one = ["    " * level + f"for i{level} in dace.map[0:4]:" for level in range(7)] + [" " * 28 + "A[i0] = i6 + 7"] * 250
     count = size // sum(len(line) + 5 for line in one)
     return program("f", one * count), f"1 containers, {7 * count} variables, {count + 1} states"
 
