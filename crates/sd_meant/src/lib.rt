@@ -6,4 +6,4 @@
 
 mod laws;
 
-pub use laws::a_graph_does_what_its_source_says;
+pub use laws::{a_graph_does_what_its_source_says, a_graph_does_what_its_text_says};
