@@ -1,0 +1,80 @@
+//! The values of a stream one after another.
+ghost use Rattle.std.specs.Prelude.{◌≡◌, ℤ, length, IfOk};
+ghost use Rattle.sd_graph.specs.TreeFold.{graph_tree};
+ghost use Rattle.sd_tcode.specs.Held.{IsReady, given};
+ghost use Rattle.sd_machine.specs.ComesTo.{IsEnd};
+ghost use Rattle.sd_scope.specs.Standing.{context_of};
+ghost use Rattle.sd_row.specs.Point.{IsOver, below};
+ghost use Rattle.sd_instance.specs.Known.{HasRoom};
+ghost use Rattle.sd_consume.specs.Pool.{Pool, IsPool, pool_memory, pool_coming, end_of_taking};
+
+use sd_graph::{FaultKind, Link, Sdfg};
+use sd_instance::{Accesses, Runner, run_instance};
+use sd_list::NoMemory;
+use sd_machine::{Cell, Machine, Station};
+use sd_scope::{Base, Scope};
+use std::alloc::Global;
+
+/// How the taking of values ends.
+#[derive(Clone, Copy)]
+pub(crate) enum TakingEnd {
+    Finished,
+    /// At this value.
+    Fault(i64, FaultKind),
+    /// A turn was wanted, and none was left.
+    OutOfTurns,
+}
+
+/// Takes the values of a stream until it is empty and runs the code for each, inside the memory of the elements.
+pub(crate) fn take_values(
+    alloc: Global,
+    accesses: &Accesses,
+    runner: &mut Runner,
+    from: Station,
+    element: u32,
+    outs: &[Link],
+    graph: &Sdfg,
+    base: &Base,
+    inner: &Scope,
+    machine: &mut Machine,
+) -> Result<TakingEnd, NoMemory>
+    requires ready { IsReady runner.old.code runner.old.frame }
+    requires room { HasRoom (length accesses.now.reads.items) (length accesses.now.variables.items) (given runner.old.frame) }
+    ensures { IfOk result (λ end. (pool : Pool) (held : ℤ) → IsPool runner.old.code (given runner.old.frame) accesses.now from element outs.now (context_of (graph_tree graph.now) base.now inner.now) pool
+        → IsOver (pool_memory pool held) machine.old
+        → IsEnd (pool_coming pool (below machine.old)) (below machine.old) (end_of_taking pool end) (below machine.new)) }
+{
+    let cell = Cell {
+        station: Station {
+            level: 0,
+            container: element,
+        },
+        element: 0,
+    };
+    for _ in 0..u64::MAX {
+        let Some(value) = machine.take(from) else {
+            return Ok(TakingEnd::Finished);
+        };
+        machine.write(cell, None, value);
+        if !machine.pay(true) {
+            return Ok(TakingEnd::OutOfTurns);
+        }
+        let fault = run_instance(
+            alloc,
+            accesses,
+            &runner.code,
+            &mut runner.frame,
+            0,
+            outs,
+            graph,
+            base,
+            inner,
+            machine,
+        )?;
+        if let Some(kind) = fault {
+            return Ok(TakingEnd::Fault(value, kind));
+        }
+    }
+    // So many takes count as want of memory.
+    Err(NoMemory)
+}
