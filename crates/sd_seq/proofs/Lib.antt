@@ -1,4 +1,3 @@
-pub mod Elements
 pub mod ItemKinds
 pub mod Items
 pub mod NestedRuns

@@ -7,8 +7,9 @@ ghost use Rattle.sd_graph.specs.Upwards.{KindLeadsUpwards, ItemsLeadUpwards, Lea
 ghost use Rattle.sd_machine.specs.ComesTo.{IsEnd};
 ghost use Rattle.sd_machine.specs.Coming.{kind_coming, items_coming, map_coming, from_state, graph_coming};
 ghost use Rattle.sd_scope.specs.Standing.{context_of, opening_reach};
-ghost use Rattle.sd_seq.specs.Taking.{consume_coming};
+ghost use Rattle.sd_consume.specs.Taking.{consume_coming};
 
+use sd_consume::run_elements;
 use sd_graph::{Item, ItemKind, Link, Sdfg, State};
 use sd_leaves::{Next, next_exit, run_copy, run_reduction, run_task};
 use sd_list::NoMemory;
@@ -154,7 +155,8 @@ fn run_map(
     Ok(End::Finished)
 }
 
-/// The body of a consume scope for each value of its stream, the oldest first, until the stream is empty.
+/// The body of a consume scope for each value of its stream, the oldest first, until the stream is empty; by flat code where it is
+/// one tasklet with scalar inputs.
 #[cycle(run)]
 fn run_consume(
     alloc: Global,
@@ -170,6 +172,12 @@ fn run_consume(
     requires leads { ItemsLeadUpwards (item_trees body.now) }
     ensures { IfOk result (λ end. IsEnd (consume_coming (item_trees body.now) stream element private.now (context_of (graph_tree graph.now) base.now scope.now) machine.old) machine.old end machine.new) }
 {
+    let elements = run_elements(
+        alloc, body, stream, element, private, graph, base, scope, machine,
+    )?;
+    if let Some(end) = elements {
+        return Ok(end);
+    }
     let from = station(base, scope, stream)?;
     let own_numbers = with_first(alloc, element, private)?;
     let mut element_scope = scope.inside(alloc, own_numbers.as_slice())?;

@@ -17,7 +17,8 @@ use Rattle.sd_row.proofs.Comes.{IsLeft, as_finished}
 use Rattle.sd_seq.proofs.Items.{item_more, item_stop, item_leads}
 use Rattle.sd_seq.proofs.ItemKinds.{map_kind, consume_kind}
 use Rattle.sd_rows.proofs.Points.{points_begin, point_first, point_ends, point_more, point_stop}
-use Rattle.sd_seq.proofs.Elements.{take_there, oldest_there, no_value, takes_end, element_ends, element_more, element_stop}
+use Rattle.sd_consume.specs.Taking.{consume_coming, takes_coming}
+use Rattle.sd_consume.proofs.Takes.{take_there, oldest_there, no_value, takes_end, element_ends, element_more, element_stop}
 use Rattle.sd_seq.proofs.NestedRuns.{nested_ends}
 use Rattle.sd_instance.proofs.Bodies.{containers_in}
 use Rattle.sd_instance.proofs.Matched.{none_so}
@@ -99,36 +100,39 @@ run_nested-returns t c =
 
 pub run_consume-loop-init : goal.run_consume-loop-init
 run_consume-loop-init t c = record {
-  left = record { comes = λ most outcome after. after most; depth = refl; turns = omega arith };
+  left = subst (λ (machine : Reached). IsLeft (consume_coming (item_trees c.args.body.now) c.args.stream c.args.element c.args.private.now (context_of (graph_tree c.args.graph.now) c.args.base.now c.args.scope.now) c.args.machine.now) c.args.machine.now
+      (takes_coming (item_trees c.args.body.now) c.args.stream c.args.element c.args.private.now (context_of (graph_tree c.args.graph.now) c.args.base.now c.args.scope.now) machine) machine)
+      (sym (none_so _ _ c.in_ok-elements.elements c.in_default.is c.in_ok-elements.ensures))
+      (record { comes = λ most outcome after. after most; depth = refl; turns = omega arith });
   inside = subst (λ (own : List ℕ). IsInside own c.args.scope.now c.in_ok-element_scope.element_scope) (c.as_slice.ensures.value ∙ c.in_ok-own_numbers.ensures) c.in_ok-element_scope.ensures;
 }
 
-pub run_consume-returns-in_default : goal.run_consume-returns-in_default
-run_consume-returns-in_default t c =
+pub run_consume-returns-in_default-take : goal.run_consume-returns-in_default-take
+run_consume-returns-in_default-take t c =
     takes_end (item_trees c.args.body.now) c.args.stream c.args.element c.args.private.now (context_of (graph_tree c.args.graph.now) c.args.base.now c.args.scope.now)
     _ c.args.machine.now c.loop.machine c.take.new.self c.loop.invariant.left
     (take_there c.in_ok-from.from.level ((context_of (graph_tree c.args.graph.now) c.args.base.now c.args.scope.now).reach c.args.stream).level c.in_ok-from.from.container ((context_of (graph_tree c.args.graph.now) c.args.base.now c.args.scope.now).reach c.args.stream).container c.loop.machine.memories c.take.new.self.memories
     (c.in_ok-from.ensures.level (graph_tree c.args.graph.now)) (c.in_ok-from.ensures.container (graph_tree c.args.graph.now)) c.take.ensures.memories) c.take.ensures.turns
     (oldest_there c.in_ok-from.from.level ((context_of (graph_tree c.args.graph.now) c.args.base.now c.args.scope.now).reach c.args.stream).level c.in_ok-from.from.container ((context_of (graph_tree c.args.graph.now) c.args.base.now c.args.scope.now).reach c.args.stream).container c.loop.machine.memories c.take.result
-    (c.in_ok-from.ensures.level (graph_tree c.args.graph.now)) (c.in_ok-from.ensures.container (graph_tree c.args.graph.now)) c.take.ensures.oldest ∙ no_value c.take.result c.in_default.not-Some)
+    (c.in_ok-from.ensures.level (graph_tree c.args.graph.now)) (c.in_ok-from.ensures.container (graph_tree c.args.graph.now)) c.take.ensures.oldest ∙ no_value c.take.result c.in_default-take.not-Some)
 
 pub run_consume-returns-in_default-end : goal.run_consume-returns-in_default-end
 run_consume-returns-in_default-end t c =
-    let fits : FitsSigned w64 c.in-Some.value = search rules in
-    let same_value : to_z w64 (of_z w64 c.in-Some.value) ≡ c.in-Some.value = to_z-of_z w64 c.in-Some.value fits in
+    let fits : FitsSigned w64 c.in-Some-take.value = search rules in
+    let same_value : to_z w64 (of_z w64 c.in-Some-take.value) ≡ c.in-Some-take.value = to_z-of_z w64 c.in-Some-take.value fits in
     element_stop (item_trees c.args.body.now) c.args.stream c.args.element c.args.private.now (context_of (graph_tree c.args.graph.now) c.args.base.now c.args.scope.now)
     _ c.args.machine.now c.loop.machine c.take.new.self c.loop.invariant.left
     (take_there c.in_ok-from.from.level ((context_of (graph_tree c.args.graph.now) c.args.base.now c.args.scope.now).reach c.args.stream).level c.in_ok-from.from.container ((context_of (graph_tree c.args.graph.now) c.args.base.now c.args.scope.now).reach c.args.stream).container c.loop.machine.memories c.take.new.self.memories
     (c.in_ok-from.ensures.level (graph_tree c.args.graph.now)) (c.in_ok-from.ensures.container (graph_tree c.args.graph.now)) c.take.ensures.memories) c.take.ensures.turns
-    c.in-Some.value (oldest_there c.in_ok-from.from.level ((context_of (graph_tree c.args.graph.now) c.args.base.now c.args.scope.now).reach c.args.stream).level c.in_ok-from.from.container ((context_of (graph_tree c.args.graph.now) c.args.base.now c.args.scope.now).reach c.args.stream).container c.loop.machine.memories c.take.result
-    (c.in_ok-from.ensures.level (graph_tree c.args.graph.now)) (c.in_ok-from.ensures.container (graph_tree c.args.graph.now)) c.take.ensures.oldest ∙ c.in-Some.is) c.leave.new.self c.in_ok-end.end
+    c.in-Some-take.value (oldest_there c.in_ok-from.from.level ((context_of (graph_tree c.args.graph.now) c.args.base.now c.args.scope.now).reach c.args.stream).level c.in_ok-from.from.container ((context_of (graph_tree c.args.graph.now) c.args.base.now c.args.scope.now).reach c.args.stream).container c.loop.machine.memories c.take.result
+    (c.in_ok-from.ensures.level (graph_tree c.args.graph.now)) (c.in_ok-from.ensures.container (graph_tree c.args.graph.now)) c.take.ensures.oldest ∙ c.in-Some-take.is) c.leave.new.self c.in_ok-end.end
     (element_ends (item_trees c.args.body.now) c.args.stream c.args.element c.args.private.now (context_of (graph_tree c.args.graph.now) c.args.base.now c.args.scope.now)
     _ c.args.machine.now c.loop.machine c.take.new.self c.loop.invariant.left
     (take_there c.in_ok-from.from.level ((context_of (graph_tree c.args.graph.now) c.args.base.now c.args.scope.now).reach c.args.stream).level c.in_ok-from.from.container ((context_of (graph_tree c.args.graph.now) c.args.base.now c.args.scope.now).reach c.args.stream).container c.loop.machine.memories c.take.new.self.memories
     (c.in_ok-from.ensures.level (graph_tree c.args.graph.now)) (c.in_ok-from.ensures.container (graph_tree c.args.graph.now)) c.take.ensures.memories) c.take.ensures.turns
-    c.in-Some.value (oldest_there c.in_ok-from.from.level ((context_of (graph_tree c.args.graph.now) c.args.base.now c.args.scope.now).reach c.args.stream).level c.in_ok-from.from.container ((context_of (graph_tree c.args.graph.now) c.args.base.now c.args.scope.now).reach c.args.stream).container c.loop.machine.memories c.take.result
-    (c.in_ok-from.ensures.level (graph_tree c.args.graph.now)) (c.in_ok-from.ensures.container (graph_tree c.args.graph.now)) c.take.ensures.oldest ∙ c.in-Some.is) c.leave.new.self
-    (to_z w64 (of_z w64 c.in-Some.value)) (map named_container (out-Sdfg c.args.graph.now).containers.entries) _ c.in_ok-own.own.contents c.enter.new.self c.run_items.new.machine c.in_ok-end.end
+    c.in-Some-take.value (oldest_there c.in_ok-from.from.level ((context_of (graph_tree c.args.graph.now) c.args.base.now c.args.scope.now).reach c.args.stream).level c.in_ok-from.from.container ((context_of (graph_tree c.args.graph.now) c.args.base.now c.args.scope.now).reach c.args.stream).container c.loop.machine.memories c.take.result
+    (c.in_ok-from.ensures.level (graph_tree c.args.graph.now)) (c.in_ok-from.ensures.container (graph_tree c.args.graph.now)) c.take.ensures.oldest ∙ c.in-Some-take.is) c.leave.new.self
+    (to_z w64 (of_z w64 c.in-Some-take.value)) (map named_container (out-Sdfg c.args.graph.now).containers.entries) _ c.in_ok-own.own.contents c.enter.new.self c.run_items.new.machine c.in_ok-end.end
     same_value (containers_in c.args.graph.now) c.in_ok-own.ensures.contents
     (c.in_ok-at_element.ensures.context (graph_tree c.args.graph.now) c.args.base.now c.args.private.now c.loop.invariant.inside)
     c.in_ok-enter.ensures.memories c.in_ok-enter.ensures.turns c.in_ok-end.ensures c.leave.ensures.memories c.leave.ensures.turns)
@@ -136,23 +140,23 @@ run_consume-returns-in_default-end t c =
 
 pub run_consume-loop-preserved : goal.run_consume-loop-preserved
 run_consume-loop-preserved t c =
-    let fits : FitsSigned w64 c.in-Some.value = search rules in
-    let same_value : to_z w64 (of_z w64 c.in-Some.value) ≡ c.in-Some.value = to_z-of_z w64 c.in-Some.value fits in
+    let fits : FitsSigned w64 c.in-Some-take.value = search rules in
+    let same_value : to_z w64 (of_z w64 c.in-Some-take.value) ≡ c.in-Some-take.value = to_z-of_z w64 c.in-Some-take.value fits in
     record {
       left = element_more (item_trees c.args.body.now) c.args.stream c.args.element c.args.private.now (context_of (graph_tree c.args.graph.now) c.args.base.now c.args.scope.now)
           _ c.args.machine.now c.loop.machine c.take.new.self c.loop.invariant.left
           (take_there c.in_ok-from.from.level ((context_of (graph_tree c.args.graph.now) c.args.base.now c.args.scope.now).reach c.args.stream).level c.in_ok-from.from.container ((context_of (graph_tree c.args.graph.now) c.args.base.now c.args.scope.now).reach c.args.stream).container c.loop.machine.memories c.take.new.self.memories
           (c.in_ok-from.ensures.level (graph_tree c.args.graph.now)) (c.in_ok-from.ensures.container (graph_tree c.args.graph.now)) c.take.ensures.memories) c.take.ensures.turns
-          c.in-Some.value (oldest_there c.in_ok-from.from.level ((context_of (graph_tree c.args.graph.now) c.args.base.now c.args.scope.now).reach c.args.stream).level c.in_ok-from.from.container ((context_of (graph_tree c.args.graph.now) c.args.base.now c.args.scope.now).reach c.args.stream).container c.loop.machine.memories c.take.result
-          (c.in_ok-from.ensures.level (graph_tree c.args.graph.now)) (c.in_ok-from.ensures.container (graph_tree c.args.graph.now)) c.take.ensures.oldest ∙ c.in-Some.is) c.leave.new.self
+          c.in-Some-take.value (oldest_there c.in_ok-from.from.level ((context_of (graph_tree c.args.graph.now) c.args.base.now c.args.scope.now).reach c.args.stream).level c.in_ok-from.from.container ((context_of (graph_tree c.args.graph.now) c.args.base.now c.args.scope.now).reach c.args.stream).container c.loop.machine.memories c.take.result
+          (c.in_ok-from.ensures.level (graph_tree c.args.graph.now)) (c.in_ok-from.ensures.container (graph_tree c.args.graph.now)) c.take.ensures.oldest ∙ c.in-Some-take.is) c.leave.new.self
           (as_finished _ _ _ c.in_ok-end.end c.in-Finished.is
           (element_ends (item_trees c.args.body.now) c.args.stream c.args.element c.args.private.now (context_of (graph_tree c.args.graph.now) c.args.base.now c.args.scope.now)
           _ c.args.machine.now c.loop.machine c.take.new.self c.loop.invariant.left
           (take_there c.in_ok-from.from.level ((context_of (graph_tree c.args.graph.now) c.args.base.now c.args.scope.now).reach c.args.stream).level c.in_ok-from.from.container ((context_of (graph_tree c.args.graph.now) c.args.base.now c.args.scope.now).reach c.args.stream).container c.loop.machine.memories c.take.new.self.memories
           (c.in_ok-from.ensures.level (graph_tree c.args.graph.now)) (c.in_ok-from.ensures.container (graph_tree c.args.graph.now)) c.take.ensures.memories) c.take.ensures.turns
-          c.in-Some.value (oldest_there c.in_ok-from.from.level ((context_of (graph_tree c.args.graph.now) c.args.base.now c.args.scope.now).reach c.args.stream).level c.in_ok-from.from.container ((context_of (graph_tree c.args.graph.now) c.args.base.now c.args.scope.now).reach c.args.stream).container c.loop.machine.memories c.take.result
-          (c.in_ok-from.ensures.level (graph_tree c.args.graph.now)) (c.in_ok-from.ensures.container (graph_tree c.args.graph.now)) c.take.ensures.oldest ∙ c.in-Some.is) c.leave.new.self
-          (to_z w64 (of_z w64 c.in-Some.value)) (map named_container (out-Sdfg c.args.graph.now).containers.entries) _ c.in_ok-own.own.contents c.enter.new.self c.run_items.new.machine c.in_ok-end.end
+          c.in-Some-take.value (oldest_there c.in_ok-from.from.level ((context_of (graph_tree c.args.graph.now) c.args.base.now c.args.scope.now).reach c.args.stream).level c.in_ok-from.from.container ((context_of (graph_tree c.args.graph.now) c.args.base.now c.args.scope.now).reach c.args.stream).container c.loop.machine.memories c.take.result
+          (c.in_ok-from.ensures.level (graph_tree c.args.graph.now)) (c.in_ok-from.ensures.container (graph_tree c.args.graph.now)) c.take.ensures.oldest ∙ c.in-Some-take.is) c.leave.new.self
+          (to_z w64 (of_z w64 c.in-Some-take.value)) (map named_container (out-Sdfg c.args.graph.now).containers.entries) _ c.in_ok-own.own.contents c.enter.new.self c.run_items.new.machine c.in_ok-end.end
           same_value (containers_in c.args.graph.now) c.in_ok-own.ensures.contents
           (c.in_ok-at_element.ensures.context (graph_tree c.args.graph.now) c.args.base.now c.args.private.now c.loop.invariant.inside)
           c.in_ok-enter.ensures.memories c.in_ok-enter.ensures.turns c.in_ok-end.ensures c.leave.ensures.memories c.leave.ensures.turns));

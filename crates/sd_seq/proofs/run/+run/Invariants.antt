@@ -3,7 +3,7 @@ use Rattle.sd_graph.specs.TreeFold.{graph_tree, item_trees}
 use Rattle.sd_graph.specs.TreeParts.{containers_of}
 use Rattle.sd_machine.specs.Coming.{items_coming, map_coming, points_coming, from_state}
 use Rattle.sd_scope.specs.Standing.{context_of, opening_reach, IsInside}
-use Rattle.sd_seq.specs.Taking.{consume_coming, takes_coming}
+use Rattle.sd_consume.specs.Taking.{consume_coming, takes_coming}
 use Rattle.sd_row.proofs.Comes.{IsLeft}
 use Rattle.sd_seq.proofs.States.{measure}
 use Rattle.sd_seq.proofs.run.+run.Given as goal
@@ -25,7 +25,7 @@ decreases-run_map-loop-alloc l = length l.points.left
 
 abbrev pub invariant-run_consume-loop : goal.invariant-run_consume-loop
 invariant-run_consume-loop l = record {
-  left : IsLeft (consume_coming (item_trees l.body) l.stream l.element l.private (context_of (graph_tree l.graph) l.base l.scope) l.initial.machine) l.initial.machine
+  left : IsLeft (consume_coming (item_trees l.body) l.stream l.element l.private (context_of (graph_tree l.graph) l.base l.scope) l.fn.machine) l.fn.machine
       (takes_coming (item_trees l.body) l.stream l.element l.private (context_of (graph_tree l.graph) l.base l.scope) l.machine) l.machine;
   inside : IsInside (l.element ∷ l.private) l.scope l.element_scope;
 }
