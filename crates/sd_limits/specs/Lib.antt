@@ -1,0 +1,2 @@
+pub mod SmallAs
+pub mod Totals
