@@ -165,7 +165,7 @@ fn push_ordered(
 }
 
 /// Adds an affine expression.
-pub(crate) fn push_affine(
+pub fn push_affine(
     alloc: Global,
     text: &mut String,
     names: &[String],
@@ -203,7 +203,7 @@ fn is_next_negative(number: i128) -> bool
 }
 
 /// Adds the end of a range, plus one.
-pub(crate) fn push_end(
+pub fn push_end(
     alloc: Global,
     text: &mut String,
     names: &[String],

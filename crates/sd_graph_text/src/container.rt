@@ -13,7 +13,7 @@ use sd_range::Affine;
 use std::alloc::Global;
 
 /// Adds the name of a container; nothing where there is no such container.
-pub(crate) fn push_container_name(
+pub fn push_container_name(
     text: &mut String,
     containers: &IndexMap<String, Container>,
     container: u32,
@@ -37,7 +37,7 @@ fn is_stream(kind: ContainerKind) -> bool
 }
 
 /// Whether a container is a stream.
-pub(crate) fn names_stream(containers: &IndexMap<String, Container>, container: u32) -> bool
+pub fn names_stream(containers: &IndexMap<String, Container>, container: u32) -> bool
     ensures { result ≡ parts.is_stream (parts.container_at (map named_container containers.now.entries) container).kind }
 {
     match containers.get_index(container as usize) {

@@ -15,4 +15,8 @@ mod path;
 mod state;
 mod subset;
 
+pub use affine::{push_affine, push_end};
+pub use container::{names_stream, push_container_name};
 pub use graph::graph_text;
+pub use link::resolution_word;
+pub use path::push_path;

@@ -13,7 +13,7 @@ use sd_num::Resolution;
 use std::alloc::Global;
 
 /// The word for a resolution.
-pub(crate) fn resolution_word(resolution: Resolution) -> &'static str
+pub fn resolution_word(resolution: Resolution) -> &'static str
     ensures { result.now ≡ definition.resolution_word resolution }
 {
     match resolution {

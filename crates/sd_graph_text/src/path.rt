@@ -6,7 +6,7 @@ use sd_list::NoMemory;
 use std::alloc::Global;
 
 /// Adds a path.
-pub(crate) fn push_path(text: &mut String, path: &[u32]) -> Result<(), NoMemory>
+pub fn push_path(text: &mut String, path: &[u32]) -> Result<(), NoMemory>
     ensures { OnOk result (string_bytes text.new ≡ string_bytes text.old ++ definition.path_text path.now) }
 {
     let Some((step, others)) = path.split_first() else {
