@@ -6,7 +6,7 @@ use Rattle.sd_graph.specs.Unfold.{pending_through}
 use Rattle.sd_tasklet.specs.Given.{given}
 use Rattle.sd_scope.specs.Standing.{context_of}
 use Rattle.sd_leaves.specs.Given.{pending_told}
-use Rattle.sd_leaves.proofs.EffectSteps.{through_link}
+use Rattle.sd_leaves.proofs.EffectSteps.{at_place, through_link}
 use Rattle.sd_leaves.proofs.Lists.{member_there, on_ok}
 use Rattle.sd_leaf_moves.specs.Left.{told}
 use Rattle.sd_leaf_moves.proofs.effects.todo_of.Goals as goal
@@ -23,8 +23,8 @@ returns c =
     let fits : FitsSigned w64 effect.value = search rules in
     let room : length index ≡ 4 = search rules in
     let there : slice_get c.args.outs.now number ≡ Some link = member_there c.args.outs.now number link c.in-Some.ensures.lookup.3.0 (c.in-Some.ensures.lookup.3.1 link) in
-    let same = through_link context inputs c.args.ins.now c.args.outs.now effect link index 4 many c.if-connector-ins.false there c.widened-index.ensures room
-    (c.min-dimensions.ensures ∙ ap (λ dimensions. min dimensions 4) c.dimensions_of.ensures) in
+    let same = at_place context inputs effect link index 4 many c.widened-index.ensures room (c.min-dimensions.ensures ∙ ap (λ dimensions. min dimensions 4) c.dimensions_of.ensures)
+    ∙ through_link context inputs c.args.ins.now c.args.outs.now effect link c.if-connector-ins.false there in
     let through : ℤ → Pending = λ value. pending_through context link (record { connector = effect.connector; at = take many index; value = value }) in
     on_ok (λ todo. (connector : ℕ) → told todo ≡ pending_through context link (record { connector = connector; at = take many index; value = _ })) (λ todo. told todo ≡ pending_told context inputs c.args.ins.now c.args.outs.now effect) c.todo_through.result
     (λ todo is. is effect.connector ∙ ap through (to_z-of_z w64 effect.value fits) ∙ same) c.todo_through.ensures
