@@ -1,6 +1,6 @@
 -- A stack that is kept with the outermost memory first, and read with the innermost first.
 use Rattle.std.proofs.Common.{◌≡◌, ℕ, zero, suc, ◌+◌, ◌-◌, ◌<◌, ◌≤◌, List, [], ◌∷◌, ◌++◌, refl, sym, ap, ◌∙◌, map, reverse, length, get_or, slice_index_or, slice_set, arith}
-use Rattle.std.proofs.lemmas.List.{get_or-reverse, length-reverse, length-map, get_or-map, get_or_past}
+use Rattle.std.proofs.lemmas.List.{get_or-reverse, length-reverse, length-map, get_or-map, get_or_past, map-append, reverse-append}
 use Rattle.std.proofs.lemmas.Grind.{reverse_onto}
 use Rattle.sd_work.specs.Memory.{Memory, Memories}
 use Rattle.sd_work.specs.Change.{changed_at}
@@ -77,3 +77,25 @@ stack_changed kept level i old new change at is same =
 -- a change beyond the stack is none
 pub stack_kept : (kept : List Shaped) (level : ℕ) (change : Memory → Memory) → length kept ≤ level → memories_of kept ≡ changed_at level change (memories_of kept)
 stack_kept kept level change beyond = sym (changed_none change (memories_of kept) level (omega (arith, count_held kept, beyond)))
+
+-- ---- one memory more
+
+-- the last member set
+last_set : (kept : List Shaped) (old new : Shaped) (last : ℕ) → last ≡ length kept → slice_set (kept ++ old ∷ []) last new ≡ kept ++ new ∷ []
+last_set [] old new zero is = refl
+last_set [] old new (suc last) is = absurd (omega (arith, is))
+last_set (memory ∷ kept) old new zero is = absurd (omega (arith, is))
+last_set (memory ∷ kept) old new (suc last) is = ap (λ (rest : List Shaped). memory ∷ rest) (last_set kept old new last (omega (arith, is)))
+
+-- it is the innermost
+innermost_more : (kept : List Shaped) (own : Shaped) → memories_of (kept ++ own ∷ []) ≡ own.contents ∷ memories_of kept
+innermost_more kept own = ap reverse (map-append held kept (own ∷ [])) ∙ reverse-append (map held kept) (own.contents ∷ [])
+
+-- an empty one is pushed, and another comes in its place
+pub lent : (kept after : List Shaped) (empty own new : Shaped) (last : ℕ) → after ≡ kept ++ empty ∷ [] → last ≡ length kept → new ≡ own →
+    memories_of (slice_set after last new) ≡ own.contents ∷ memories_of kept
+lent kept after empty own new last pushed is same =
+    ap (λ (members : List Shaped). memories_of (slice_set members last new)) pushed
+    ∙ ap memories_of (last_set kept empty new last is)
+    ∙ innermost_more kept new
+    ∙ ap (λ (memory : Shaped). memory.contents ∷ memories_of kept) same

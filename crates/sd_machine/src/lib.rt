@@ -3,7 +3,7 @@
 //! A graph that runs, a point of a map and an element of a consume scope each have a memory; they stand on
 //! a stack. Contracts see a `Machine` as the memories and the turns that a run from left to right goes on
 //! with (`specs/Stack.antt`): each call changes them as the work's changes do, whatever is there. What work
-//! comes to is told by `specs/ComesTo.antt`. Only `new`, `enter` and `push` take memory.
+//! comes to is told by `specs/ComesTo.antt`. Only `new`, `enter`, `lend` and `push` take memory.
 #![tactic(auto)]
 
 mod cell;

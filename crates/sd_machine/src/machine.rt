@@ -1,4 +1,4 @@
-ghost use Rattle.std.specs.Prelude.{◌≡◌, ◌+◌, ◌≤◌, ◌<◌, ◌∷◌, [], zero, suc, drop, slice_get, true, IsTrue, IsFalse, IfOk, OnOk};
+ghost use Rattle.std.specs.Prelude.{◌≡◌, ◌+◌, ◌≤◌, ◌<◌, ◌∷◌, [], zero, suc, drop, length, slice_get, true, IsTrue, IsFalse, IfOk, OnOk, OnErr};
 ghost use Rattle.std.specs.Option.{MatchOption};
 ghost use Rattle.sd_work.specs.Memory.{contents_of, elements_of, look, waiting};
 ghost use Rattle.sd_work.specs.Change.{apply, innermost, push, take, write};
@@ -55,6 +55,34 @@ impl Machine {
         self.memories.pop();
     }
 
+    /// A memory is lent: it becomes the innermost, and what is left of it is of no use. For want of memory it stays
+    /// as it is.
+    pub fn lend(&mut self, own: &mut Memory) -> Result<(), NoMemory>
+        ensures memories { OnOk result (self.new.memories ≡ own.old.contents ∷ self.old.memories) }
+        ensures turns { OnOk result (self.new.turns ≡ self.old.turns) }
+        ensures machine_stays { OnErr result (self.new ≡ self.old) }
+        ensures memory_stays { OnErr result (own.new ≡ own.old) }
+    {
+        let alloc = *self.memories.allocator();
+        self.memories.push(Memory::empty(alloc))?;
+        let last = self.memories.len() - 1;
+        std::mem::swap(&mut self.memories[last], own);
+        Ok(())
+    }
+
+    /// The innermost memory is given back; one without containers where there is none.
+    pub fn give_back(&mut self, own: &mut Memory)
+        ensures memory { own.new.contents ≡ innermost self.old.memories }
+        ensures memories { self.new.memories ≡ drop 1 self.old.memories }
+        ensures turns { self.new.turns ≡ self.old.turns }
+    {
+        let alloc = *self.memories.allocator();
+        *own = match self.memories.pop() {
+            Some(memory) => memory,
+            None => Memory::empty(alloc),
+        };
+    }
+
     /// Spends a turn, where one is wanted; `false` where none is left.
     pub fn pay(&mut self, wanted: bool) -> bool
         ensures memories { self.new.memories ≡ self.old.memories }
@@ -89,7 +117,7 @@ impl Machine {
     pub fn look(&self, cell: Cell) -> i64
         ensures { result ≡ look (reference_of cell) self.now.memories }
     {
-        match position(self.memories.len(), cell.station.level) {
+        match index_of(self.memories.len(), cell.station.level) {
             Some(i) => self.memories[i].cell(cell.station.container, cell.element),
             None => 0,
         }
@@ -99,7 +127,7 @@ impl Machine {
     pub fn cells(&self, station: Station) -> &[i64]
         ensures { result.now ≡ elements_of (contents_of station.level station.container self.now.memories) }
     {
-        match position(self.memories.len(), station.level) {
+        match index_of(self.memories.len(), station.level) {
             Some(i) => self.memories[i].cells(station.container),
             None => &[],
         }
@@ -111,7 +139,7 @@ impl Machine {
         ensures memories { self.new.memories ≡ apply (write (reference_of cell) by value) self.old.memories }
         ensures turns { self.new.turns ≡ self.old.turns }
     {
-        if let Some(i) = position(self.memories.len(), cell.station.level) {
+        if let Some(i) = index_of(self.memories.len(), cell.station.level) {
             self.memories[i].set(cell.station.container, cell.element, by, value);
         }
     }
@@ -120,8 +148,9 @@ impl Machine {
     pub fn push(&mut self, station: Station, value: i64) -> Result<(), NoMemory>
         ensures memories { OnOk result (self.new.memories ≡ apply (push station.level station.container value) self.old.memories) }
         ensures turns { OnOk result (self.new.turns ≡ self.old.turns) }
+        ensures stays { OnErr result (self.new ≡ self.old) }
     {
-        match position(self.memories.len(), station.level) {
+        match index_of(self.memories.len(), station.level) {
             Some(i) => self.memories[i].push(station.container, value),
             None => Ok(()),
         }
@@ -133,9 +162,31 @@ impl Machine {
         ensures memories { self.new.memories ≡ apply (take station.level station.container 0) self.old.memories }
         ensures turns { self.new.turns ≡ self.old.turns }
     {
-        match position(self.memories.len(), station.level) {
+        match index_of(self.memories.len(), station.level) {
             Some(i) => self.memories[i].take(station.container),
             None => None,
+        }
+    }
+
+    /// Takes the value at a position of a stream out, the oldest at 0; `None` exactly where there is no such value.
+    pub fn take_at(&mut self, station: Station, position: usize) -> Option<i64>
+        ensures value { result ≡ slice_get (waiting station.level station.container self.old.memories) position }
+        ensures memories { self.new.memories ≡ apply (take station.level station.container position) self.old.memories }
+        ensures turns { self.new.turns ≡ self.old.turns }
+    {
+        match index_of(self.memories.len(), station.level) {
+            Some(i) => self.memories[i].take_at(station.container, position),
+            None => None,
+        }
+    }
+
+    /// How many values wait in a stream; none where there is no such stream.
+    pub fn waiting(&self, station: Station) -> usize
+        ensures { result ≡ length (waiting station.level station.container self.now.memories) }
+    {
+        match index_of(self.memories.len(), station.level) {
+            Some(i) => self.memories[i].waiting(station.container),
+            None => 0,
         }
     }
 
@@ -160,7 +211,7 @@ impl Machine {
 }
 
 /// Where the memory of a level stands among so many.
-fn position(count: usize, level: usize) -> Option<usize>
+fn index_of(count: usize, level: usize) -> Option<usize>
     ensures { MatchOption result (count ≤ level) (λ position. level + suc position ≡ count) }
 {
     if level < count {

@@ -1,5 +1,5 @@
 //! What one container holds.
-ghost use Rattle.std.specs.Prelude.{◌≡◌, ◌↔◌, ◌++◌, [], ◌∷◌, slice_get, IfOk, OnOk, OnErr, IsTrue};
+ghost use Rattle.std.specs.Prelude.{◌≡◌, ◌↔◌, ◌++◌, [], ◌∷◌, length, slice_get, IfOk, OnOk, OnErr, IsTrue};
 ghost use Rattle.sd_work.specs.Memory.{elements_of, values_of, array};
 ghost use Rattle.sd_work.specs.Change.{changed_at, with_elements, with_values, without, written};
 ghost use Rattle.sd_num.specs.Wrapped.{wrapped};
@@ -155,6 +155,28 @@ impl Holding {
         match self {
             Holding::Array { .. } => None,
             Holding::Stream { values } => values.pop_front(),
+        }
+    }
+
+    /// Takes the value at a position of a stream out; an array has none.
+    pub(crate) fn take_at(&mut self, position: usize) -> Option<i64>
+        ensures value { result ≡ slice_get (values_of (contents_held self.old)) position }
+        ensures shape { shape_held self.new ≡ shape_held self.old }
+        ensures contents { contents_held self.new ≡ with_values (without position) (contents_held self.old) }
+    {
+        match self {
+            Holding::Array { .. } => None,
+            Holding::Stream { values } => values.remove(position),
+        }
+    }
+
+    /// How many values a stream has; an array has none.
+    pub(crate) fn waiting(&self) -> usize
+        ensures { result ≡ length (values_of (contents_held self.now)) }
+    {
+        match self {
+            Holding::Array { .. } => 0,
+            Holding::Stream { values } => values.len(),
         }
     }
 

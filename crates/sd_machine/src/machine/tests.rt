@@ -86,3 +86,35 @@ fn a_turn_is_spent_where_one_is_wanted(rt: HostRuntime) -> Result<(), Fail> {
     assert_eq!(rt; machine.turns(), 0);
     Ok(())
 }
+
+#[test]
+fn a_value_of_an_outer_stream_is_taken_at_its_position(rt: HostRuntime) -> Result<(), Fail> {
+    let alloc = rt.alloc();
+    let mut machine = Machine::new(alloc, memory(alloc, 0)?, 0)?;
+    machine.enter(memory(alloc, 0)?)?;
+    for value in [4, 6, 8] {
+        machine.push(station(1, 1), value)?;
+    }
+    assert_eq!(rt; machine.waiting(station(1, 1)), 3);
+    assert_eq!(rt; machine.waiting(station(0, 1)), 0);
+    assert_eq!(rt; machine.take_at(station(1, 1), 1), Some(6));
+    assert_eq!(rt; machine.take_at(station(1, 1), 2), None);
+    assert_eq!(rt; machine.take(station(1, 1)), Some(4));
+    assert_eq!(rt; machine.take(station(1, 1)), Some(8));
+    Ok(())
+}
+
+#[test]
+fn a_memory_that_is_lent_comes_back_with_its_changes(rt: HostRuntime) -> Result<(), Fail> {
+    let alloc = rt.alloc();
+    let mut machine = Machine::new(alloc, memory(alloc, 2)?, 3)?;
+    let mut own = memory(alloc, 2)?;
+    machine.lend(&mut own)?;
+    machine.write(cell(0, 1), None, 5);
+    machine.write(cell(1, 1), None, 7);
+    machine.give_back(&mut own);
+    assert_eq!(rt; own.cell(0, 1), 5);
+    assert_eq!(rt; machine.look(cell(0, 1)), 7);
+    assert_eq!(rt; machine.turns(), 3);
+    Ok(())
+}

@@ -27,3 +27,19 @@ fn the_oldest_value_is_taken_first(rt: HostRuntime) -> Result<(), Fail> {
     assert_eq!(rt; memory.take(0), None);
     Ok(())
 }
+
+#[test]
+fn a_value_at_a_position_is_taken(rt: HostRuntime) -> Result<(), Fail> {
+    let mut memory = one_stream(rt.alloc())?;
+    for value in [5, -7, 9] {
+        memory.push(0, value)?;
+    }
+    assert_eq!(rt; memory.waiting(0), 3);
+    assert_eq!(rt; memory.take_at(0, 1), Some(-7));
+    assert_eq!(rt; memory.take_at(0, 2), None);
+    assert_eq!(rt; memory.waiting(0), 2);
+    assert_eq!(rt; memory.waiting(1), 0);
+    assert_eq!(rt; memory.take(0), Some(5));
+    assert_eq!(rt; memory.take_at(0, 0), Some(9));
+    Ok(())
+}
