@@ -13,7 +13,7 @@ use Rattle.sd_graph.specs.declared.container.ContainerKind.TheVariants.{Argument
 use Rattle.sd_graph.specs.declared.link.Link.{Link}
 use Rattle.sd_validity.specs.Places.{doing, Place, Scopes, no_scopes, in_map, in_consume, item_place, state_place, graph_place, places_in, item_places, state_places, places_of, all_places}
 use Rattle.sd_validity.specs.Parts.{is_empty, container_of, is_dim_passed, is_link_passed, are_links_passed, is_condition_passed, is_exit_passed, is_kind_passed, is_thing_passed}
-use Rattle.sd_validity.specs.NamesInForce.{is_container_in_force, is_stream_in_force, is_one, is_element, are_own_private, is_there, params_at, set_at, is_each_held, names_tests, are_names_in_force, of_graph, are_single, rule_1}
+use Rattle.sd_validity.specs.NamesInForce.{is_container_in_force, is_stream_in_force, is_one, is_element, is_own, are_own_private, is_there, params_at, set_at, is_each_held, names_tests, are_names_in_force, of_graph, are_single, rule_1}
 use Rattle.sd_validity.specs.Failing.{Holds}
 use Rattle.sd_validity.proofs.HoldingLemmas.{both, parts, each_passes}
 
@@ -102,7 +102,7 @@ mutual
   kind_in_force (map_scope params private body) place named stream own inside = items_in_force body place (in_map place.scopes params private) 0 inside
   kind_in_force (consume_scope from element private body) place named stream own inside =
       let containers = containers_of place.graph in
-      let held = both (is_element (container_at containers element)) (list_all (λ (number : ℕ). is_private (container_at containers number).kind) private) own in
+      let held = both (is_element (container_at containers element)) (list_all (is_own containers) private) own in
       (in_force containers place.scopes.private from stream, element_right containers element held.0, items_in_force body place (in_consume place.scopes element private) 0 inside)
   kind_in_force (nested_graph inner links) place named stream own inside = (links_in_force place links named, graph_in_force inner place.path (suc place.depth) inside)
   kind_in_force (reduction resolution axis identity from to) place named stream own inside = two_in_force place from to named

@@ -81,14 +81,18 @@ is_one (extent ∷ extents) = (int_eq extent.constant (pos 1) && is_empty extent
 abbrev pub is_element : Container → Bool
 is_element container = (is_private container.kind && not (is_stream container.kind)) && is_one container.extents
 
--- what a scope makes its own is private, and the element of a consume scope is one
+-- a private container that the graph has
+abbrev pub is_own : Containers → (number : ℕ) → Bool
+is_own containers number = nat_lt number (length containers) && is_private (container_at containers number).kind
+
+-- what a scope makes its own is there and private, and the element of a consume scope is one
 abbrev pub are_own_private : Containers → Thing → Bool
 are_own_private containers whole = true
 are_own_private containers (leaving items exits) = true
 are_own_private containers (doing (task code ins outs)) = true
-are_own_private containers (doing (map_scope params private body)) = list_all (λ number. is_private (container_at containers number).kind) private
+are_own_private containers (doing (map_scope params private body)) = list_all (is_own containers) private
 are_own_private containers (doing (consume_scope stream element private body)) =
-    is_element (container_at containers element) && list_all (λ number. is_private (container_at containers number).kind) private
+    is_element (container_at containers element) && list_all (is_own containers) private
 are_own_private containers (doing (nested_graph inner links)) = true
 are_own_private containers (doing (reduction resolution axis identity from to)) = true
 are_own_private containers (doing (copy from to)) = true

@@ -110,6 +110,12 @@ a_private_container_of_two_scopes = refl
 a_container_of_a_scope_that_is_not_private : told (map_scope ((2, range (number (pos 0)) (number (pos 1))) ∷ []) (1 ∷ []) no_item) ≡ at_item 1
 a_container_of_a_scope_that_is_not_private = refl
 
+a_container_of_a_scope_that_is_not_there : told (map_scope ((2, range (number (pos 0)) (number (pos 1))) ∷ []) (9 ∷ []) no_item) ≡ at_item 1
+a_container_of_a_scope_that_is_not_there = refl
+
+an_element_that_is_not_there : told (consume_scope 3 9 [] no_item) ≡ at_item 1
+an_element_that_is_not_there = refl
+
 an_element_that_is_not_private : told (consume_scope 3 2 [] no_item) ≡ at_item 1
 an_element_that_is_not_private = refl
 
