@@ -1,0 +1,5 @@
+pub mod EachPlace
+pub mod Asked
+pub mod LoopsAbout
+pub mod BoundPlaces
+pub mod Gone
