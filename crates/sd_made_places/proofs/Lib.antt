@@ -1,0 +1,15 @@
+pub mod Named
+pub mod Variables
+pub mod Given
+pub mod Held
+pub mod Made
+pub mod ItemsMade
+pub mod StatesMade
+pub mod ProgramMade
+pub mod Extents
+pub mod LinksMade
+pub mod ItemLinks
+pub mod Givens
+pub mod Streams
+pub mod Bound
+pub mod Sizes
