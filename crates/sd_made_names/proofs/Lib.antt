@@ -1,0 +1,3 @@
+pub mod Used
+pub mod Passed
+pub mod Names
