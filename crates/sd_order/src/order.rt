@@ -3,7 +3,7 @@ ghost use Rattle.std.specs.Option.{MatchOption};
 ghost use Rattle.sd_work.specs.Residual.{is_ready};
 ghost use Rattle.sd_order.specs.Told.{told};
 
-/// Which of so many items are before which: a table with a row for each item, row after row.
+/// Which of so many items are before which: a table with a row for each item, row after row, of those before it.
 #[derive(Drop)]
 pub struct Order {
     pub count: usize,
@@ -18,10 +18,7 @@ impl Order {
         if from >= to || to >= self.count {
             return false;
         }
-        match place(from, self.count, to) {
-            Some(place) => told_at(self.table.as_slice(), place),
-            None => false,
-        }
+        told_at(self.table.as_slice(), to, self.count, from)
     }
 
     /// Whether an item may go on, where these are finished: each that is before it is.
@@ -37,19 +34,22 @@ impl Order {
     }
 }
 
+/// What a table of so many columns has in a row; `false` where it has no such row.
+pub fn told_at(table: &[bool], row: usize, columns: usize, column: usize) -> bool
+    ensures { result ≡ slice_index_or table.now (row * columns + column) false }
+{
+    let Some(place) = place(row, columns, column) else {
+        return false;
+    };
+    match table.get(place) {
+        Some(told) => *told,
+        None => false,
+    }
+}
+
 /// The place of a column in a row of a table; `None` where it has no 64-bit number.
 fn place(row: usize, columns: usize, column: usize) -> Option<usize>
     ensures { MatchOption result (2 ^ 64 ≤ row * columns + column) (λ place. place ≡ row * columns + column) }
 {
     row.checked_mul(columns)?.checked_add(column)
-}
-
-/// What a table has at a place; `false` where it has none.
-fn told_at(table: &[bool], place: usize) -> bool
-    ensures { result ≡ slice_index_or table.now place false }
-{
-    match table.get(place) {
-        Some(told) => *told,
-        None => false,
-    }
 }
