@@ -35,12 +35,19 @@ pub(crate) fn is_private_at(containers: &IndexMap<String, Container>, number: u3
     }
 }
 
-/// Whether each of these is private.
-pub(crate) fn are_private(containers: &IndexMap<String, Container>, numbers: &[u32]) -> bool
-    ensures { result ≡ list_all (λ number. force.is_private (parts.container_at (map named_container containers.now.entries) number).kind) numbers.now }
+/// Whether there is a private container of this number.
+fn is_own(containers: &IndexMap<String, Container>, number: u32) -> bool
+    ensures { result ≡ names.is_own (map named_container containers.now.entries) number }
+{
+    (number as usize) < containers.len() && is_private_at(containers, number)
+}
+
+/// Whether there is one of each of these numbers.
+pub(crate) fn are_own(containers: &IndexMap<String, Container>, numbers: &[u32]) -> bool
+    ensures { result ≡ list_all (names.is_own (map named_container containers.now.entries)) numbers.now }
 {
     for number in numbers {
-        if !is_private_at(containers, *number) {
+        if !is_own(containers, *number) {
             return false;
         }
     }

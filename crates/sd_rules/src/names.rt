@@ -6,7 +6,7 @@ ghost use Rattle.sd_places.specs.PlaceOf.{place_of, thing_of};
 ghost use Rattle.sd_validity.specs.NamesInForce as names;
 ghost use Rattle.sd_validity.specs.Places.{doing};
 
-use crate::held::{are_private, are_private_held, is_element, is_private_at};
+use crate::held::{are_own, are_private_held, is_element, is_private_at};
 use crate::single::{Named, are_single, push_named};
 use indexmap::IndexMap;
 use sd_graph::{Container, ItemKind, Link, Sdfg, Tasklet};
@@ -61,7 +61,7 @@ fn is_stream_of_item_in_force(
     }
 }
 
-/// Whether what a scope makes its own is private, and the element of a consume scope is one.
+/// Whether what a scope makes its own is there and private, and the element of a consume scope is one.
 fn are_own_private(containers: &IndexMap<String, Container>, thing: Thing<'_>) -> bool
     ensures { result ≡ names.are_own_private (map named_container containers.now.entries) (thing_of thing.entry) }
 {
@@ -75,12 +75,12 @@ fn are_own_of_item_private(containers: &IndexMap<String, Container>, kind: &Item
     ensures { result ≡ names.are_own_private (map named_container containers.now.entries) (doing (kind_tree kind.now)) }
 {
     match kind {
-        ItemKind::Map { private, .. } => are_private(containers, private),
+        ItemKind::Map { private, .. } => are_own(containers, private),
         ItemKind::Consume {
             element,
             private,
             ..
-        } => is_element(containers, *element) && are_private(containers, private),
+        } => is_element(containers, *element) && are_own(containers, private),
         ItemKind::Task { .. }
         | ItemKind::Nested { .. }
         | ItemKind::Reduce { .. }
