@@ -10,7 +10,7 @@ use Rattle.sd_in_force.specs.Stack.{without_newest}
 use Rattle.sd_task.specs.Table.{Table}
 use Rattle.sd_states.specs.Standing.{Standing, behind, behind_all, state_behind, with_loop_variable}
 use Rattle.sd_states.specs.BuildingOf.{without_loop_variable}
-use Rattle.sd_states.specs.Threaded.{in_else}
+use Rattle.sd_states.specs.Threaded.{in_loop, in_else}
 
 -- ---- tables
 
@@ -98,14 +98,11 @@ for_left line name begin end step body at =
     (ap (λ (table : Table). table_with table.containers (without_newest table.variables) table.all) (block_kept body at.container at.table.containers variables at.table.all)
     ∙ sym (block_kept body at.container at.table.containers at.table.variables at.table.all))
 
-pub for_behind : (line : ℕ) (name : Name) (begin : Option Expression) (end : Expression) (step : Option ℤ) (body : Block) (at begun inside made left : Standing) →
-    begun ≡ with_loop_variable name (state_behind at) → inside ≡ state_behind begun → made ≡ behind_all body inside → left ≡ state_behind (without_loop_variable made) →
-    left ≡ behind (for_loop line name begin end step body) at
-for_behind line name begin end step body at begun inside made left begins enters threads leaves =
+pub for_behind : (line : ℕ) (name : Name) (begin : Option Expression) (end : Expression) (step : Option ℤ) (body : Block) (at begun left : Standing) →
+    begun ≡ in_loop name at → left ≡ state_behind (without_loop_variable (behind_all body begun)) → left ≡ behind (for_loop line name begin end step body) at
+for_behind line name begin end step body at begun left begins leaves =
     leaves
-    ∙ ap (λ (t : Standing). state_behind (without_loop_variable t)) threads
-    ∙ ap (λ (t : Standing). state_behind (without_loop_variable (behind_all body t))) enters
-    ∙ ap (λ (t : Standing). state_behind (without_loop_variable (behind_all body (state_behind t)))) begins
+    ∙ ap (λ (t : Standing). state_behind (without_loop_variable (behind_all body t))) begins
     ∙ for_left line name begin end step body at
 
 pub while_behind : (line : ℕ) (when : Expression) (body : Block) (at : Standing) →

@@ -2,7 +2,7 @@
 use Rattle.std.specs.Prelude.{◌+◌, [], map}
 use Rattle.sd_graph.specs.TreeFold.{state_tree, item_trees}
 use Rattle.sd_graph.specs.PlainTree.{no_item}
-use Rattle.sd_lex.specs.PlainTree.{StatementTree}
+use Rattle.sd_lex.specs.PlainTree.{StatementTree, argument_array, local_array, local_stream}
 use Rattle.sd_program.specs.Names.{Name}
 use Rattle.sd_program.specs.Declared.{containers_in}
 use Rattle.sd_items.specs.Counts.{variables_in}
@@ -49,6 +49,13 @@ item_behind statement at = record {
   variable = at.variable + variables_in statement;
   table = at.table;
 }
+
+-- behind a statement that holds no block of states
+abbrev pub leaf_behind : StatementTree → Standing → Standing
+leaf_behind (argument_array line name bits extents) at = argument_passed at
+leaf_behind (local_array line name extents bits) at = declared name at
+leaf_behind (local_stream line name bits size) at = declared name at
+leaf_behind statement at = item_behind statement at
 
 -- the newest variable is no longer in force
 abbrev pub without_loop_variable : Standing → Standing

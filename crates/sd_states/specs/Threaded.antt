@@ -1,6 +1,6 @@
 -- The states of statements, made one after another: those that are finished, and the items of the current one.
-use Rattle.std.specs.Prelude.{ℕ, ◌+◌, List, [], ◌∷◌, ◌++◌, false}
-use Rattle.sd_lex.specs.PlainTree.{StatementTree, argument_array, local_array, local_stream, for_loop, while_loop, branch, Block, no_statement, and_statement}
+use Rattle.std.specs.Prelude.{ℕ, ◌+◌, List, [], ◌∷◌, ◌++◌, Option, false}
+use Rattle.sd_lex.specs.PlainTree.{Expression, StatementTree, argument_array, local_array, local_stream, for_loop, while_loop, branch, Block, no_statement, and_statement}
 use Rattle.sd_range.specs.Arithmetic.{affine_zero}
 use Rattle.sd_graph.specs.PlainTree.{ItemTrees, no_item, GuardTree, ExitTree, GraphTree}
 use Rattle.sd_graph.specs.TreeFold.{PlainState}
@@ -28,6 +28,17 @@ holding t items = record { finished = t.finished; items = items }
 abbrev pub to_block : GuardTree → Block → Standing → List ExitTree
 to_block guard body at = if_holds guard at.state ∷ plainly (at.state + 1 + states_in_all body) ∷ []
 
+-- in the block of a `for` loop, which is behind two states
+abbrev pub in_loop : Name → Standing → Standing
+in_loop name at = state_behind (with_loop_variable name (state_behind at))
+
+-- the loop's variable is given its begin, and then compared with its end
+abbrev pub loop_begun : (line : ℕ) → Name → (begin : Option Expression) → (end : Expression) → Block → Standing → Threaded → Threaded
+loop_begun line name begin end body at t =
+    let inside : Standing = with_loop_variable name (state_behind at) in
+    closed (closed t (setting at.state at.variable (affine_or affine_zero at.table.variables begin) ∷ []))
+    (to_block (below inside.table line name end) body inside)
+
 -- behind the first block of an `if`: the number of the state behind both
 abbrev pub join_of : (other : Block) → Standing → ℕ
 join_of no_statement at = at.state
@@ -43,11 +54,15 @@ in_else no_statement at = at
 in_else (and_statement first rest) at = state_behind at
 
 module _ (graphs : Name → GraphTree) where
+  -- a statement that holds no block of states: what is no declaration has a state of its own
+  abbrev pub leaf_threaded : StatementTree → Standing → Threaded → Threaded
+  leaf_threaded (argument_array line name bits extents) at t = t
+  leaf_threaded (local_array line name extents bits) at t = t
+  leaf_threaded (local_stream line name bits size) at t = t
+  leaf_threaded statement at t = holding (closed t (plainly at.state ∷ [])) (items_with graphs statement false at.table at.container at.variable no_item)
+
   abbrev mutual
     pub threaded : StatementTree → Standing → Threaded → Threaded
-    threaded (argument_array line name bits extents) at t = t
-    threaded (local_array line name extents bits) at t = t
-    threaded (local_stream line name bits size) at t = t
     threaded (branch line when body other) at t =
         let behind_body : Standing = behind_all body (state_behind at) in
         let body_made : Threaded = threaded_all body (state_behind at) (closed t (to_block (guard_of at.table line when) body at)) in
@@ -58,13 +73,9 @@ module _ (graphs : Name → GraphTree) where
         (closed (closed t (plainly at.state ∷ [])) (to_block (guard_of at.table line when) body (state_behind at))))
         (back_to at.state [] ∷ [])
     threaded (for_loop line name begin end step body) at t =
-        let inside : Standing = with_loop_variable name (state_behind at) in
-        closed
-        (threaded_all body (state_behind inside)
-        (closed (closed t (setting at.state at.variable (affine_or affine_zero at.table.variables begin) ∷ []))
-        (to_block (below inside.table line name end) body inside)))
+        closed (threaded_all body (in_loop name at) (loop_begun line name begin end body at t))
         (back_to at.state ((at.variable, stepped_on at.variable step) ∷ []) ∷ [])
-    threaded statement at t = holding (closed t (plainly at.state ∷ [])) (items_with graphs statement false at.table at.container at.variable no_item)
+    threaded statement at t = leaf_threaded statement at t
 
     pub threaded_all : Block → Standing → Threaded → Threaded
     threaded_all no_statement at t = t

@@ -11,10 +11,10 @@ ghost use Rattle.sd_items.specs.GraphsByNumber.{graphs_of};
 ghost use Rattle.sd_items.specs.Items.{items_with};
 ghost use Rattle.sd_task.specs.ElementCode.{guard_of, below};
 ghost use Rattle.sd_in_force.specs.Ranges.{affine_or};
-ghost use Rattle.sd_states.specs.BuildingOf.{threaded_of, standing_of, HasSmallContainers, argument_passed, declared, item_behind, without_loop_variable};
+ghost use Rattle.sd_states.specs.BuildingOf.{threaded_of, standing_of, HasSmallContainers, argument_passed, declared, item_behind, leaf_behind, without_loop_variable};
 ghost use Rattle.sd_states.specs.Exits as exits;
 ghost use Rattle.sd_states.specs.Standing.{state_behind, with_loop_variable};
-ghost use Rattle.sd_states.specs.Threaded.{closed, holding, to_block, join_of, in_else, else_begun};
+ghost use Rattle.sd_states.specs.Threaded.{closed, holding, to_block, loop_begun, in_loop, join_of, in_else, else_begun, leaf_threaded};
 
 use crate::count::states_in_all;
 use crate::exit::{back_to, if_holds, plainly, setting, step_back};
@@ -25,6 +25,13 @@ use sd_lex::{Expr, Statement};
 use sd_list::NoMemory;
 use sd_task::{Names, guard, guard_below};
 use std::alloc::Global;
+
+/// A `for` loop that has begun: the number of its first state, and that of its variable.
+#[derive(Clone, Copy)]
+pub(crate) struct Loop {
+    pub(crate) header: u32,
+    pub(crate) variable: u32,
+}
 
 /// The states that are finished, and the items of the current one.
 ///
@@ -67,7 +74,7 @@ impl Building {
     }
 
     /// A new state with the item of a statement.
-    pub(crate) fn push_statement(
+    fn push_statement(
         &mut self,
         alloc: Global,
         graphs: &Graphs,
@@ -92,7 +99,7 @@ impl Building {
     }
 
     /// The container of an argument, which is in force before the block begins.
-    pub(crate) fn pass_argument(&mut self) -> Result<(), NoMemory>
+    fn pass_argument(&mut self) -> Result<(), NoMemory>
         ensures threaded { OnOk result (threaded_of self.new ≡ threaded_of self.old) }
         ensures standing { OnOk result (standing_of self.new ≡ argument_passed (standing_of self.old)) }
     {
@@ -101,7 +108,7 @@ impl Building {
     }
 
     /// A name that is declared; its container is the next one.
-    pub(crate) fn declare(&mut self, alloc: Global, name: &str) -> Result<(), NoMemory>
+    fn declare(&mut self, alloc: Global, name: &str) -> Result<(), NoMemory>
         ensures threaded { OnOk result (threaded_of self.new ≡ threaded_of self.old) }
         ensures standing { OnOk result (standing_of self.new ≡ declared name.now (standing_of self.old)) }
     {
@@ -110,6 +117,27 @@ impl Building {
             .push(String::from_str(alloc, name)?, self.numbers.container)?;
         self.numbers.container = more(self.numbers.container, 1)?;
         Ok(())
+    }
+
+    /// A statement that holds no block of states.
+    pub(crate) fn push_leaf(
+        &mut self,
+        alloc: Global,
+        graphs: &Graphs,
+        statement: &Statement,
+    ) -> Result<(), NoMemory>
+        requires extents { HasSmallContainers self.old }
+        requires small { Every (EachBound IsSmall) (statement_of statement.now) }
+        ensures threaded { OnOk result (threaded_of self.new ≡ leaf_threaded (graph_named (graphs_of graphs.now)) (statement_of statement.now) (standing_of self.old) (threaded_of self.old)) }
+        ensures standing { OnOk result (standing_of self.new ≡ leaf_behind (statement_of statement.now) (standing_of self.old)) }
+    {
+        match statement {
+            Statement::Argument { .. } => self.pass_argument(),
+            Statement::Local { name, .. } | Statement::Stream { name, .. } => {
+                self.declare(alloc, name.as_str())
+            }
+            _ => self.push_statement(alloc, graphs, statement),
+        }
     }
 
     /// The last state of a block goes on behind the `else` that follows, if one does; the number
@@ -163,7 +191,7 @@ impl Building {
     }
 
     /// The same, where a loop variable is below an end.
-    pub(crate) fn loop_to(
+    fn loop_to(
         &mut self,
         alloc: Global,
         line: u32,
@@ -182,12 +210,7 @@ impl Building {
     /// The current state goes on to a loop, and gives its variable the begin. The variable is the
     /// next one, and is in force from here on.
     #[tactic(auto, using(sd_in_force::proofs::SmallLemmas::zero_within))]
-    pub(crate) fn begin_loop(
-        &mut self,
-        alloc: Global,
-        name: &str,
-        begin: &Option<Expr>,
-    ) -> Result<(), NoMemory>
+    fn set_begin(&mut self, alloc: Global, name: &str, begin: &Option<Expr>) -> Result<(), NoMemory>
         requires { IfWritten IsSmall (option_map expression_of begin.now) }
         ensures threaded { OnOk result (threaded_of self.new ≡ closed (threaded_of self.old) (exits.setting (standing_of self.old).state (standing_of self.old).variable (affine_or affine_zero (standing_of self.old).table.variables (option_map expression_of begin.now)) ∷ [])) }
         ensures standing { OnOk result (standing_of self.new ≡ with_loop_variable name.now (state_behind (standing_of self.old))) }
@@ -204,18 +227,43 @@ impl Building {
         Ok(())
     }
 
+    /// The current state goes on to a `for` loop, whose block is behind a state of its own.
+    pub(crate) fn begin_loop(
+        &mut self,
+        alloc: Global,
+        line: u32,
+        name: &str,
+        begin: &Option<Expr>,
+        end: &Expr,
+        body: &[Statement],
+    ) -> Result<Loop, NoMemory>
+        requires first { IfWritten IsSmall (option_map expression_of begin.now) }
+        requires last { EachSubscript IsSmall (expression_of end.now) }
+        ensures header { IfOk result (λ begun. begun.header ≡ (standing_of self.old).state) }
+        ensures variable { IfOk result (λ begun. begun.variable ≡ (standing_of self.old).variable) }
+        ensures threaded { OnOk result (threaded_of self.new ≡ loop_begun line name.now (option_map expression_of begin.now) (expression_of end.now) (block_of body.now) (standing_of self.old) (threaded_of self.old)) }
+        ensures standing { OnOk result (standing_of self.new ≡ in_loop name.now (standing_of self.old)) }
+    {
+        let begun = Loop {
+            header: self.state,
+            variable: self.numbers.variable,
+        };
+        self.set_begin(alloc, name, begin)?;
+        self.loop_to(alloc, line, name, end, body)?;
+        Ok(begun)
+    }
+
     /// The current state closes a loop and steps its variable on, which is no longer in force.
     pub(crate) fn end_loop(
         &mut self,
         alloc: Global,
-        to: u32,
-        variable: u32,
+        begun: Loop,
         step: Option<i64>,
     ) -> Result<(), NoMemory>
-        ensures threaded { OnOk result (threaded_of self.new ≡ closed (threaded_of self.old) (exits.back_to to ((variable, exits.stepped_on variable step) ∷ []) ∷ [])) }
+        ensures threaded { OnOk result (threaded_of self.new ≡ closed (threaded_of self.old) (exits.back_to begun.header ((begun.variable, exits.stepped_on begun.variable step) ∷ []) ∷ [])) }
         ensures standing { OnOk result (standing_of self.new ≡ state_behind (without_loop_variable (standing_of self.old))) }
     {
-        let exit = step_back(alloc, to, variable, step)?;
+        let exit = step_back(alloc, begun.header, begun.variable, step)?;
         self.close(alloc, vec![in alloc; exit]?)?;
         self.names.variables.pop();
         Ok(())

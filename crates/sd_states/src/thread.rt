@@ -1,24 +1,25 @@
-ghost use Rattle.std.specs.Prelude.{◌≡◌, OnOk};
-ghost use Rattle.sd_lex.specs.TreeFold.{statement_of, block_of};
+ghost use Rattle.std.specs.Prelude.{◌≡◌, [], ◌∷◌, OnOk};
+ghost use Rattle.sd_lex.specs.PlainTree.{while_loop, branch};
+ghost use Rattle.sd_lex.specs.TreeFold.{expression_of, statement_of, block_of};
 ghost use Rattle.sd_items.specs.Graphs.{graph_named};
 ghost use Rattle.sd_items.specs.GraphsByNumber.{graphs_of};
-ghost use Rattle.sd_program.specs.Bounds.{EachBound};
+ghost use Rattle.sd_program.specs.Bounds.{EachBound, EachSubscript};
 ghost use Rattle.sd_program.specs.Every.{Every, EveryIn};
 ghost use Rattle.sd_program.specs.IsAffine.{IsAffine};
 ghost use Rattle.sd_program.specs.Small.{IsSmall};
-ghost use Rattle.sd_states.specs.BuildingOf.{threaded_of, standing_of, HasSmallContainers};
+ghost use Rattle.sd_states.specs.BuildingOf.{threaded_of, standing_of, HasSmallContainers, without_loop_variable};
+ghost use Rattle.sd_states.specs.Exits.{back_to, stepped_on};
 ghost use Rattle.sd_states.specs.Standing as definition;
 ghost use Rattle.sd_states.specs.Threaded as states;
 
-use crate::building::Building;
+use crate::building::{Building, Loop};
 use sd_items::Graphs;
-use sd_lex::Statement;
+use sd_lex::{Expr, Statement};
 use sd_list::NoMemory;
 use std::alloc::Global;
 
 /// Adds the states of a statement; calls are of these graphs.
 #[cycle(thread)]
-#[tactic(auto, using(crate::proofs::StandingLemmas::while_behind, crate::proofs::StandingLemmas::if_behind))]
 fn thread(
     alloc: Global,
     graphs: &Graphs,
@@ -33,16 +34,8 @@ fn thread(
     ensures standing { OnOk result (standing_of building.new ≡ definition.behind (statement_of statement.now) (standing_of building.old)) }
 {
     match statement {
-        Statement::Argument { .. } => building.pass_argument(),
-        Statement::Local { name, .. } | Statement::Stream { name, .. } => {
-            building.declare(alloc, name.as_str())
-        }
         Statement::While { line, when, body } => {
-            let header = building.state;
-            building.close_to(alloc, header)?;
-            building.branch_to(alloc, *line, when, body)?;
-            thread_all(alloc, graphs, building, body)?;
-            building.close_back(alloc, header)
+            thread_while(alloc, graphs, building, *line, when, body)
         }
         Statement::For {
             line,
@@ -52,27 +45,93 @@ fn thread(
             step,
             body,
         } => {
-            let header = building.state;
-            let variable = building.numbers.variable;
-            building.begin_loop(alloc, name.as_str(), begin)?;
-            building.loop_to(alloc, *line, name.as_str(), end, body)?;
-            thread_all(alloc, graphs, building, body)?;
-            building.end_loop(alloc, header, variable, *step)
+            let begun = building.begin_loop(alloc, *line, name.as_str(), begin, end, body)?;
+            thread_for(alloc, graphs, building, begun, *step, body)
         }
         Statement::If {
             line,
             when,
             body,
             other,
-        } => {
-            building.branch_to(alloc, *line, when, body)?;
-            thread_all(alloc, graphs, building, body)?;
-            let join = building.else_to(alloc, other)?;
-            thread_all(alloc, graphs, building, other)?;
-            building.close_to(alloc, join)
-        }
-        _ => building.push_statement(alloc, graphs, statement),
+        } => thread_if(alloc, graphs, building, *line, when, body, other),
+        _ => building.push_leaf(alloc, graphs, statement),
     }
+}
+
+/// Adds the states of a `while` loop.
+#[cycle(thread)]
+#[tactic(auto, using(crate::proofs::StandingLemmas::while_behind))]
+fn thread_while(
+    alloc: Global,
+    graphs: &Graphs,
+    building: &mut Building,
+    line: u32,
+    when: &Expr,
+    body: &[Statement],
+) -> Result<(), NoMemory>
+    requires extents { HasSmallContainers building.old }
+    requires condition { EachSubscript IsSmall (expression_of when.now) }
+    requires affine { EveryIn (EachBound IsAffine) (block_of body.now) }
+    requires small { EveryIn (EachBound IsSmall) (block_of body.now) }
+    ensures threaded { OnOk result (threaded_of building.new ≡ states.threaded (graph_named (graphs_of graphs.now)) (while_loop line (expression_of when.now) (block_of body.now)) (standing_of building.old) (threaded_of building.old)) }
+    ensures extents { OnOk result (HasSmallContainers building.new) }
+    ensures standing { OnOk result (standing_of building.new ≡ definition.behind (while_loop line (expression_of when.now) (block_of body.now)) (standing_of building.old)) }
+{
+    let header = building.state;
+    building.close_to(alloc, header)?;
+    building.branch_to(alloc, line, when, body)?;
+    thread_all(alloc, graphs, building, body)?;
+    building.close_back(alloc, header)
+}
+
+/// Adds the states of a `for` loop that has begun.
+#[cycle(thread)]
+fn thread_for(
+    alloc: Global,
+    graphs: &Graphs,
+    building: &mut Building,
+    begun: Loop,
+    step: Option<i64>,
+    body: &[Statement],
+) -> Result<(), NoMemory>
+    requires extents { HasSmallContainers building.old }
+    requires affine { EveryIn (EachBound IsAffine) (block_of body.now) }
+    requires small { EveryIn (EachBound IsSmall) (block_of body.now) }
+    ensures threaded { OnOk result (threaded_of building.new ≡ states.closed (states.threaded_all (graph_named (graphs_of graphs.now)) (block_of body.now) (standing_of building.old) (threaded_of building.old)) (back_to begun.header ((begun.variable, stepped_on begun.variable step) ∷ []) ∷ [])) }
+    ensures extents { OnOk result (HasSmallContainers building.new) }
+    ensures standing { OnOk result (standing_of building.new ≡ definition.state_behind (without_loop_variable (definition.behind_all (block_of body.now) (standing_of building.old)))) }
+{
+    thread_all(alloc, graphs, building, body)?;
+    building.end_loop(alloc, begun, step)
+}
+
+/// Adds the states of an `if` and of its `else`.
+#[cycle(thread)]
+#[tactic(auto, using(crate::proofs::StandingLemmas::if_behind))]
+fn thread_if(
+    alloc: Global,
+    graphs: &Graphs,
+    building: &mut Building,
+    line: u32,
+    when: &Expr,
+    body: &[Statement],
+    other: &[Statement],
+) -> Result<(), NoMemory>
+    requires extents { HasSmallContainers building.old }
+    requires condition { EachSubscript IsSmall (expression_of when.now) }
+    requires affine { EveryIn (EachBound IsAffine) (block_of body.now) }
+    requires small { EveryIn (EachBound IsSmall) (block_of body.now) }
+    requires other_affine { EveryIn (EachBound IsAffine) (block_of other.now) }
+    requires other_small { EveryIn (EachBound IsSmall) (block_of other.now) }
+    ensures threaded { OnOk result (threaded_of building.new ≡ states.threaded (graph_named (graphs_of graphs.now)) (branch line (expression_of when.now) (block_of body.now) (block_of other.now)) (standing_of building.old) (threaded_of building.old)) }
+    ensures extents { OnOk result (HasSmallContainers building.new) }
+    ensures standing { OnOk result (standing_of building.new ≡ definition.behind (branch line (expression_of when.now) (block_of body.now) (block_of other.now)) (standing_of building.old)) }
+{
+    building.branch_to(alloc, line, when, body)?;
+    thread_all(alloc, graphs, building, body)?;
+    let join = building.else_to(alloc, other)?;
+    thread_all(alloc, graphs, building, other)?;
+    building.close_to(alloc, join)
 }
 
 /// Adds the states of several statements.

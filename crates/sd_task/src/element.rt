@@ -1,4 +1,5 @@
 ghost use Rattle.std.specs.Prelude.{◌≡◌, ◌+◌, string_bytes, IfOk, OnOk};
+ghost use Rattle.sd_graph.specs.PlainTree.{input, no_value};
 ghost use Rattle.sd_graph.specs.TreeFold.{value_tree};
 ghost use Rattle.sd_lex.specs.TreeFold.{expression_of};
 ghost use Rattle.sd_task.specs.ElementCode as definition;
@@ -78,6 +79,19 @@ pub(crate) fn push_used(
     }
 }
 
+/// The input of the next element, which is a scalar.
+fn next_input(alloc: Global, next: &mut u32) -> Result<Value, NoMemory>
+    ensures value { IfOk result (λ value. value_tree value ≡ input next.old no_value) }
+    ensures next { OnOk result (next.new ≡ next.old + 1) }
+{
+    let connector = *next;
+    *next = connector.checked_add(1).ok_or(NoMemory)?;
+    Ok(Value::Input {
+        connector,
+        at: Vec::new(alloc),
+    })
+}
+
 /// The code of an expression; `next` is the number of its first element, and then the number
 /// behind its last one.
 pub(crate) fn code(
@@ -93,14 +107,7 @@ pub(crate) fn code(
     match expression {
         Expr::Number(value) => Ok(Value::Number(*value)),
         Expr::Name(name) => variable_value(used, variables.find(name.as_str())),
-        Expr::Element { .. } => {
-            let connector = *next;
-            *next = next.checked_add(1).ok_or(NoMemory)?;
-            Ok(Value::Input {
-                connector,
-                at: Vec::new(alloc),
-            })
-        }
+        Expr::Element { .. } => next_input(alloc, next),
         Expr::One { sign, of } => Ok(Value::One {
             sign: one_sign(*sign),
             of: Box::new(alloc, code(alloc, variables, used, next, of)?)?,

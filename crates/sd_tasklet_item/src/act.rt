@@ -1,6 +1,8 @@
-ghost use Rattle.std.specs.Prelude.{◌≡◌, option_map, IfOk, OnOk};
+ghost use Rattle.std.specs.Prelude.{◌≡◌, ◌+◌, [], ◌∷◌, cond, option_map, IfOk, OnOk};
 ghost use Rattle.sd_graph.specs.TreeFold.{act_tree, act_trees, value_tree};
-ghost use Rattle.sd_lex.specs.TreeFold.{statement_of, block_of};
+ghost use Rattle.sd_lex.specs.TreeFold.{expression_of, statement_of, block_of};
+ghost use Rattle.sd_program.specs.Names.{in_force};
+ghost use Rattle.sd_in_force.specs.Names.{number_or};
 ghost use Rattle.sd_tasklet_item.specs.Code as definition;
 ghost use Rattle.sd_tasklet_names.specs.UsedNames as names;
 
@@ -8,7 +10,7 @@ use crate::value::{value, values};
 use indexmap::IndexSet;
 use sd_graph::{Act, Value};
 use sd_in_force::Scope;
-use sd_lex::Statement;
+use sd_lex::{Expr, Statement};
 use sd_list::NoMemory;
 use sd_tasklet_names::{Connectors, Locals};
 use std::alloc::Global;
@@ -27,6 +29,26 @@ fn assigned(alloc: Global, connector: Option<u32>, local: u32, value: Value) -> 
     }
 }
 
+/// The code of a line that assigns to a name; declares its local.
+fn assignment(
+    alloc: Global,
+    variables: &Scope,
+    connectors: &Connectors,
+    locals: &mut Locals,
+    used: &IndexSet<u32>,
+    name: &str,
+    given: &Expr,
+) -> Result<Act, NoMemory>
+    ensures act { IfOk result (λ act. act_tree act ≡ definition.assigned (in_force connectors.now.outs name.now) (number_or locals.old.next locals.old.names name.now) (definition.task_value variables.now connectors.now.ins connectors.now.outs used.now.keys locals.old.names (expression_of given.now))) }
+    ensures locals { OnOk result (locals.new.names ≡ cond (names.is_assigned [] connectors.now.ins connectors.now.outs locals.old.names name.now) locals.old.names ((name.now, locals.old.next) ∷ locals.old.names)) }
+    ensures next { OnOk result (locals.new.next ≡ cond (names.is_assigned [] connectors.now.ins connectors.now.outs locals.old.names name.now) locals.old.next (locals.old.next + 1)) }
+{
+    let given = value(alloc, variables, connectors, &locals.names, used, given)?;
+    let local = locals.names.number_or(locals.next, name);
+    locals.assign(alloc, connectors, name)?;
+    Ok(assigned(alloc, connectors.outs.find(name), local, given))
+}
+
 /// The code of a line, if it has any; declares its local.
 #[cycle(acts)]
 fn act(
@@ -42,16 +64,9 @@ fn act(
     ensures next { OnOk result (locals.new.next ≡ names.next_behind variables.now connectors.now.ins connectors.now.outs (statement_of statement.now) locals.old.names locals.old.next) }
 {
     match statement {
-        Statement::Set {
-            name,
-            value: given,
-            ..
-        } => {
-            let given = value(alloc, variables, connectors, &locals.names, used, given)?;
-            let local = locals.names.number_or(locals.next, name.as_str());
-            locals.assign(alloc, connectors, name.as_str())?;
-            let connector = connectors.outs.find(name.as_str());
-            Ok(Some(assigned(alloc, connector, local, given)))
+        Statement::Set { name, value, .. } => {
+            let act = assignment(alloc, variables, connectors, locals, used, name, value)?;
+            Ok(Some(act))
         }
         Statement::SetAt {
             name,

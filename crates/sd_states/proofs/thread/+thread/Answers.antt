@@ -16,28 +16,30 @@ use Rattle.sd_states.proofs.StatementTrees.{for_tree}
 use Rattle.sd_states.proofs.thread.+thread.Goals as goal
 
 -- the end of a `for` loop
-pub thread-loop_to-requires : goal.thread-loop_to-requires
-thread-loop_to-requires t c =
+pub thread-begin_loop-requires : goal.thread-begin_loop-requires
+thread-begin_loop-requires t c =
     let loop = c.in-For in
     let tree = ap statement_of loop.is ∙ for_tree loop.line loop.name loop.begin loop.end loop.step loop.body in
-    affine_subscripts IsSmall (expression_of loop.end) (subst (Every (EachBound IsAffine)) tree c.requires.affine).0.1
+    record {
+      first = search rules;
+      last = affine_subscripts IsSmall (expression_of loop.end) (subst (Every (EachBound IsAffine)) tree c.requires.affine).0.1;
+    }
 
 -- behind a `for` loop
-pub thread-returns-in_ok-thread_all-in-For-clause-standing :
-    goal.thread-returns-in_ok-thread_all-in-For-clause-standing
-thread-returns-in_ok-thread_all-in-For-clause-standing t c =
+pub thread-returns-in_ok-begun-in-For-clause-standing : goal.thread-returns-in_ok-begun-in-For-clause-standing
+thread-returns-in_ok-begun-in-For-clause-standing t c =
     let loop = c.in-For in
     let at = standing_of c.args.building.now in
+    let begin = option_map expression_of loop.begin in
     let tree = ap statement_of loop.is ∙ for_tree loop.line loop.name loop.begin loop.end loop.step loop.body in
-    on_ok_weaker c.end_loop.result
+    on_ok_weaker c.thread_for.result
     (λ left.
-    for_behind loop.line c.as_str.result.now (option_map expression_of loop.begin) (expression_of loop.end) loop.step (block_of c.deref-in-For-2.result.now)
-    at (standing_of c.begin_loop.new.self) (standing_of c.loop_to.new.self) (standing_of c.thread_all-in-For.new.building) (standing_of c.end_loop.new.self)
-    c.in_ok-begin_loop-in-For.ensures.standing c.in_ok-loop_to-in-For.ensures.standing c.in_ok-thread_all-in-For.ensures.standing left
-    ∙ ap (λ body. behind (for_loop loop.line c.as_str.result.now (option_map expression_of loop.begin) (expression_of loop.end) loop.step (block_of body)) at) c.deref-in-For-2.ensures.value
-    ∙ ap (λ name. behind (for_loop loop.line name (option_map expression_of loop.begin) (expression_of loop.end) loop.step (block_of loop.body.items)) at) c.as_str.ensures.value
+    for_behind loop.line c.as_str.result.now begin (expression_of loop.end) loop.step (block_of c.deref-in-For-2.result.now)
+    at (standing_of c.begin_loop.new.self) (standing_of c.thread_for.new.building) c.in_ok-begun-in-For.ensures.standing left
+    ∙ ap (λ body. behind (for_loop loop.line c.as_str.result.now begin (expression_of loop.end) loop.step (block_of body)) at) c.deref-in-For-2.ensures.value
+    ∙ ap (λ name. behind (for_loop loop.line name begin (expression_of loop.end) loop.step (block_of loop.body.items)) at) c.as_str.ensures.value
     ∙ ap (λ plain. behind plain at) (sym tree))
-    c.end_loop.ensures.standing
+    c.thread_for.ensures.standing
 
 -- one statement more
 pub thread_all-loop-statement-preserved : goal.thread_all-loop-statement-preserved

@@ -1,4 +1,6 @@
-use Rattle.std.proofs.Common.{◌≡◌, drop}
+use Rattle.std.proofs.Common.{◌≡◌, ◌+◌, ◌*◌, max, drop}
+use denote.Param.Weighed.{most}
+use Rattle.sd_lex.proofs.syntax.statement.Statement.TheLaws.{the_size}
 use Rattle.sd_lex.specs.TreeFold.{block_of}
 use Rattle.sd_items.specs.Graphs.{graph_named}
 use Rattle.sd_items.specs.GraphsByNumber.{graphs_of}
@@ -10,6 +12,22 @@ use Rattle.sd_states.specs.BuildingOf.{threaded_of, standing_of, HasSmallContain
 use Rattle.sd_states.specs.Standing.{behind_all}
 use Rattle.sd_states.specs.Threaded.{threaded_all}
 use Rattle.sd_states.proofs.thread.+thread.Given as goal
+
+-- a call of a block is smaller than its statement, and one of a statement than its block
+abbrev pub decreases-thread : goal.decreases-thread
+decreases-thread l = 3 * the_size l.statement.now
+
+abbrev pub decreases-thread_all : goal.decreases-thread_all
+decreases-thread_all l = 3 * most the_size l.body.now + 1
+
+abbrev pub decreases-thread_while : goal.decreases-thread_while
+decreases-thread_while l = 3 * most the_size l.body.now + 2
+
+abbrev pub decreases-thread_for : goal.decreases-thread_for
+decreases-thread_for l = 3 * most the_size l.body.now + 2
+
+abbrev pub decreases-thread_if : goal.decreases-thread_if
+decreases-thread_if l = 3 * max (most the_size l.body.now) (most the_size l.other.now) + 2
 
 -- from here on the same as from the begin
 abbrev pub invariant-thread_all-loop-statement : goal.invariant-thread_all-loop-statement
