@@ -4,6 +4,7 @@ use crate::sources::{
     ADDED, ADDED_GRAPH, CALLS, CALLS_GRAPH, CONSUMES, CONSUMES_GRAPH, INC, INC_GRAPH, LOOPS,
     LOOPS_GRAPH,
 };
+use crate::worked::WORKED;
 use sd_elab::elaborate;
 use sd_parse::parse;
 use std::alloc::Global;
@@ -51,5 +52,13 @@ fn calls_copies_and_reductions_have_their_graph(rt: HostRuntime) -> Result<(), F
 #[test]
 fn tasklets_and_consume_scopes_have_their_graph(rt: HostRuntime) -> Result<(), Fail> {
     assert_eq!(rt; graph_text(rt.alloc(), CONSUMES)?.as_str(), CONSUMES_GRAPH);
+    Ok(())
+}
+
+#[test]
+fn worked_sources_have_their_graphs(rt: HostRuntime) -> Result<(), Fail> {
+    for (source, graph) in WORKED {
+        assert_eq!(rt; graph_text(rt.alloc(), source)?.as_str(), graph);
+    }
     Ok(())
 }

@@ -14,3 +14,5 @@ mod loops;
 mod numbers;
 #[cfg(test)]
 mod sources;
+#[cfg(test)]
+mod worked;
