@@ -14,11 +14,11 @@ use Rattle.sd_blocks.specs.Closing.{Step, and_then, closed_times}
 use Rattle.sd_decided.specs.FirstRefused.{Leads, IsFirstRefused, IsRefusedAtEnd, GoesBefore, GoesBeforeNodes, Decides, IsAllAccepted}
 use Rattle.sd_source.specs.LineReading.{line_read}
 use Rattle.sd_source.specs.LinesReading.{lines_read, at_end, program_in, program_by, program_of_lines}
-use Rattle.sd_source.specs.Lines.{Line}
+use Rattle.sd_lines.specs.Lines.{Line}
 use Rattle.sd_source.specs.NodeRefusal.{node_refusal, limited, program_so_far}
 use Rattle.sd_source.specs.SourceReading.{reads_lines, reads_tokens, reads}
 use Rattle.sd_decided.specs.Standing.{place_of, stands_against}
-use Rattle.sd_source.specs.TokenLines.{lines_of_tokens}
+use Rattle.sd_lines.specs.TokenLines.{lines_of_tokens}
 use Rattle.sd_decided.proofs.Numbers.{never, by_or}
 use Rattle.sd_decided.proofs.Tells.{TellsOr, Eight, eight-times, tells-line}
 

@@ -17,10 +17,10 @@ use Rattle.sd_blocks.specs.declared.refusal.Refusal.{Refusal}
 use Rattle.sd_blocks.specs.Closing.{Step}
 use Rattle.sd_decided.specs.FirstRefused.{Decides}
 use Rattle.sd_source.specs.LineReading.{said}
-use Rattle.sd_source.specs.Lines.{Line, opens_tasklet}
+use Rattle.sd_lines.specs.Lines.{Line, opens_tasklet}
 use Rattle.sd_source.specs.SourceReading.{refusal_of_text, reads_tokens, reads}
 use Rattle.sd_decided.specs.Standing.{IsLeast, stands_against_head, stands_against_heads, continues, is_in_place, said_by, stands_in, stands_at, place_of, stands_against}
-use Rattle.sd_source.specs.TokenLines.{lines_of_tokens}
+use Rattle.sd_lines.specs.TokenLines.{lines_of_tokens}
 use Rattle.sd_decided.proofs.Numbers.{never, by_or, head_range}
 use Rattle.sd_decided.proofs.Decided.{decided}
 

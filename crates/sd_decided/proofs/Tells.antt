@@ -16,7 +16,7 @@ use Rattle.sd_blocks.specs.Closing.{Step, and_then, state_counted, states_behind
 use Rattle.sd_blocks.specs.Continuing.{goes_on, left, with_branch_state, continued_by, next_branch}
 use Rattle.sd_blocks.specs.Judging.{refused, against, least, accepted, judged_all, judged_from, steps_of}
 use Rattle.sd_source.specs.LineReading.{by_tokens, behind_last_block, behind_blocks, said, line_read}
-use Rattle.sd_source.specs.Lines.{Line, opens_tasklet}
+use Rattle.sd_lines.specs.Lines.{Line, opens_tasklet}
 use Rattle.sd_decided.specs.Standing.{IsLeast, stands_against_head, stands_against_heads, continues_in, continues, behind_last, place_behind, is_in_place, stands_in, stands_at, place_of, stands_against}
 use Rattle.sd_decided.proofs.Numbers.{Agrees, never, by_or, agrees_same, head_agrees}
 

@@ -6,7 +6,7 @@ use Rattle.sd_context.specs.Context.{Context, opening}
 use Rattle.sd_blocks.specs.declared.refusal.Refusal.{Refusal}
 use Rattle.sd_source.specs.LineReading.{line_read}
 use Rattle.sd_source.specs.LinesReading.{at_end, program_by, program_of_lines}
-use Rattle.sd_source.specs.Lines.{Line}
+use Rattle.sd_lines.specs.Lines.{Line}
 use Rattle.sd_source.specs.NodeRefusal.{program_so_far}
 use Rattle.sd_decided.specs.Standing.{IsLeast, place_of, stands_against}
 

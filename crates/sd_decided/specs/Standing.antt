@@ -20,7 +20,7 @@ use Rattle.sd_blocks.specs.Closing.{Step, and_then, closed, closed_times}
 use Rattle.sd_blocks.specs.Continuing.{goes_on, left, with_branch_state}
 use Rattle.sd_blocks.specs.Judging.{steps_of}
 use Rattle.sd_source.specs.LineReading.{stands_here, said}
-use Rattle.sd_source.specs.Lines.{Line, opens_tasklet}
+use Rattle.sd_lines.specs.Lines.{Line, opens_tasklet}
 
 -- the least number of which this is true
 abbrev pub IsLeast : (ℕ → Bool) → ℕ → Type 0

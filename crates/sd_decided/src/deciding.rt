@@ -7,7 +7,7 @@ ghost use Rattle.sd_lex.specs.Position.{line_count};
 ghost use Rattle.sd_blocks.specs.declared.refusal.Refusal.{Refusal};
 ghost use Rattle.sd_decided.specs.FirstRefused.{Decides, IsAllAccepted};
 ghost use Rattle.sd_source.specs.SourceReading.{refusal_of_text, reads};
-ghost use Rattle.sd_source.specs.TokenLines.{lines_of_tokens};
+ghost use Rattle.sd_lines.specs.TokenLines.{lines_of_tokens};
 
 /// Where the tokens of a source are without an error, the first line that is refused decides, with
 /// the least number that stands against it.

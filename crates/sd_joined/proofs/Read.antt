@@ -12,7 +12,7 @@ use Rattle.sd_nodes.specs.NodeLimits.{nodes_over, node_limits}
 use Rattle.sd_blocks.specs.declared.refusal.Refusal.{Refusal}
 use Rattle.sd_source.specs.NodeRefusal.{first_of, node_refusal, limited, program_so_far}
 use Rattle.sd_source.specs.SourceReading.{refusal_of_text, reads_tokens, reads}
-use Rattle.sd_source.specs.TokenLines.{no_token, lines_from, number_of, begins_connector, line_of_tokens, lines_of_tokens}
+use Rattle.sd_lines.specs.TokenLines.{no_token, lines_from, number_of, begins_connector, line_of_tokens, lines_of_tokens}
 use Rattle.sd_source.specs.LinesReading.{program_of_lines}
 use Rattle.sd_program.specs.Every.{Everywhere}
 use Rattle.sd_tie_items.specs.Standing.{IsJoined}

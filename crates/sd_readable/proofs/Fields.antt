@@ -26,10 +26,10 @@ use Rattle.sd_nodes.specs.NodeLimits.{nodes_over, node_limits}
 use Rattle.sd_blocks.specs.declared.refusal.Refusal.{Refusal}
 use Rattle.sd_source.specs.NodeRefusal.{first_of, node_refusal, limited, program_so_far}
 use Rattle.sd_source.specs.SourceReading.{refusal_of_text, reads_tokens, reads}
-use Rattle.sd_source.specs.TokenLines.{no_token, lines_from, number_of, begins_connector, line_of_tokens, lines_of_tokens}
+use Rattle.sd_lines.specs.TokenLines.{no_token, lines_from, number_of, begins_connector, line_of_tokens, lines_of_tokens}
 use Rattle.sd_context.specs.Context.{Context}
 use Rattle.sd_readable.specs.Levels.{HasFewLevels}
-use Rattle.sd_source.specs.Lines.{Line}
+use Rattle.sd_lines.specs.Lines.{Line}
 use Rattle.sd_source.specs.LinesReading.{program_in, program_of_lines}
 use Rattle.sd_program.specs.Bounds.{EachBound}
 use Rattle.sd_program.specs.Every.{Everywhere}

@@ -6,7 +6,7 @@ use Rattle.sd_context.specs.Context.{Context}
 use Rattle.sd_context.specs.declared.awaiting.Wanted.{Wanted}
 use Rattle.sd_blocks.specs.Closing.{and_then, closed_times}
 use Rattle.sd_source.specs.LineReading.{behind_blocks, behind_last_block}
-use Rattle.sd_source.specs.Lines.{Line}
+use Rattle.sd_lines.specs.Lines.{Line}
 
 -- of the blocks that it closes all but the last end first
 pub some_blocks : (wanted : Wanted) (number : ℕ) (rest : List Line) (read : Reading HeadTree) (closes : ℕ) (context : Context) → 0 < closes → behind_blocks wanted number rest read closes context ≡ and_then (closed_times (closes - 1) context) (behind_last_block wanted number rest read)

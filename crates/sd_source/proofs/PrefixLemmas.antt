@@ -4,7 +4,7 @@ use Rattle.std.specs.Prelude.{Ok, Err}
 use Rattle.sd_context.specs.Context.{Opener, file, function, statement, consumer, if_block, else_block, OpenBlock, Context}
 use Rattle.sd_blocks.specs.Closing.{Step, closed_by, closed_all}
 use Rattle.sd_source.specs.LineReading.{line_read}
-use Rattle.sd_source.specs.Lines.{Line}
+use Rattle.sd_lines.specs.Lines.{Line}
 use Rattle.sd_source.specs.Prefix.{or_stays, count_behind, context_before_refusal, count_before_refusal, ended}
 
 stays : (step : Step) (context : Context) (count : Context → ℕ) (rest : Context → Context) → count_behind step count ≡ 0 → or_stays step context rest ≡ context

@@ -1,9 +1,6 @@
-pub mod Lines
 pub mod LineReading
 pub mod LinesReading
 pub mod Prefix
 pub mod NodeRefusal
-pub mod TokenLines
-pub mod TokenPlaces
-pub mod SourceLines
+pub mod Parsed
 pub mod SourceReading

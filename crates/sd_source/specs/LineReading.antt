@@ -11,7 +11,7 @@ use Rattle.sd_context.specs.declared.awaiting.Wanted.{Wanted}
 use Rattle.sd_blocks.specs.Closing.{Step, and_then, closed, closed_times}
 use Rattle.sd_blocks.specs.Continuing.{is_elif_or_else, goes_on, continued_by}
 use Rattle.sd_blocks.specs.Judging.{refused, judged}
-use Rattle.sd_source.specs.Lines.{Line, opens_tasklet}
+use Rattle.sd_lines.specs.Lines.{Line, opens_tasklet}
 
 -- an `elif` or `else` goes on with no `if` where its block is the innermost one, and a `def` stands where it is wanted
 abbrev pub stands_here : Wanted → HeadTree → Bool

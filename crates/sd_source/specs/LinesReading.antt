@@ -6,7 +6,7 @@ use Rattle.sd_blocks.specs.Closing.{Step, and_then, closed_times}
 use Rattle.sd_blocks.specs.declared.refusal.Refusal.{Refusal}
 use Rattle.sd_blocks.specs.Judging.{refused}
 use Rattle.sd_source.specs.LineReading.{line_read}
-use Rattle.sd_source.specs.Lines.{Line}
+use Rattle.sd_lines.specs.Lines.{Line}
 
 -- the lines one after another, up to the first that is refused
 abbrev pub lines_read : Context → List Line → Step

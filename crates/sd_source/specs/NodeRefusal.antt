@@ -3,7 +3,7 @@ use Rattle.std.specs.Prelude.{ℕ, nat_eq, nat_lt, List, ◌&&◌, ◌||◌, Opt
 use Rattle.sd_lex.specs.PlainTree.{ProgramTree}
 use Rattle.sd_nodes.specs.NodeLimits.{nodes_over, node_limits}
 use Rattle.sd_blocks.specs.declared.refusal.Refusal.{Refusal}
-use Rattle.sd_source.specs.Lines.{Line}
+use Rattle.sd_lines.specs.Lines.{Line}
 use Rattle.sd_source.specs.Prefix.{program_before_refusal}
 
 -- of two refusals the one of the lesser line counts, on one line that with the lesser number

@@ -4,7 +4,7 @@ use Rattle.sd_lex.specs.PlainTree.{ProgramTree}
 use Rattle.sd_context.specs.Context.{Context, opening}
 use Rattle.sd_blocks.specs.Closing.{Step, closed_all}
 use Rattle.sd_source.specs.LineReading.{line_read}
-use Rattle.sd_source.specs.Lines.{Line}
+use Rattle.sd_lines.specs.Lines.{Line}
 use Rattle.sd_source.specs.LinesReading.{program_in}
 
 abbrev pub or_stays : Step → Context → (Context → Context) → Context

@@ -8,9 +8,9 @@ use Rattle.sd_lex.specs.PlainTree.{ProgramTree}
 use Rattle.sd_lex.specs.Position.{line_count}
 use Rattle.sd_blocks.specs.declared.refusal.Refusal.{Refusal}
 use Rattle.sd_source.specs.LinesReading.{program_of_lines}
-use Rattle.sd_source.specs.Lines.{Line}
+use Rattle.sd_lines.specs.Lines.{Line}
 use Rattle.sd_source.specs.NodeRefusal.{within_nodes}
-use Rattle.sd_source.specs.TokenLines.{lines_of_tokens}
+use Rattle.sd_lines.specs.TokenLines.{lines_of_tokens}
 
 -- a text without tokens is refused; the definition of tokens wants no memory
 abbrev pub refusal_of_text : LexError → Refusal

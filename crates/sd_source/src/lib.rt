@@ -1,16 +1,14 @@
 //! A source is read line by line to its program, or refused at the first line that is wrong, with the least number.
 //!
-//! `SourceReading.antt` defines what a text is: its logical lines (`TokenLines.antt`) are read one after
+//! `SourceReading.antt` defines what a text is: its logical lines, which are of `sd_lines`, are read one after
 //! another (`LineReading.antt`, `LinesReading.antt`) by what is known between them, which is of `sd_blocks`. The limits on
 //! nodes stand against the source as a whole (`NodeRefusal.antt`). `read_text` gives exactly that.
 #![tactic(auto)]
 
 mod line_reading;
-mod lines;
 mod lines_reading;
 mod node_limit;
 mod prefix;
 mod source;
-mod token_lines;
 
 pub use source::read_text;

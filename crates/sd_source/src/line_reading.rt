@@ -5,10 +5,9 @@ ghost use Rattle.sd_phrase.specs.Readings.{reading_map};
 ghost use Rattle.sd_phrase.specs.Spans.{AreInside};
 ghost use Rattle.sd_context.specs.ContextFold.{context_of, open_block_of, awaited_of};
 ghost use Rattle.sd_blocks.specs.StepFold.{stepped};
+ghost use Rattle.sd_lines.specs.SourceLines.{Source, line_of, lines_of};
 ghost use Rattle.sd_source.specs.LineReading as definition;
-ghost use Rattle.sd_source.specs.SourceLines.{Source, line_of, lines_of};
 
-use crate::lines::{LineSpan, head_in, opens_tasklet};
 use sd_blocks::{
     Refusal, close_block, close_blocks, go_on, goes_on, is_elif_or_else, judge, refused,
 };
@@ -16,6 +15,7 @@ use sd_context::{
     Awaited, Context, OpenBlock, Wanted, comes_right, is_wanted, wanted_of, wrong_number,
 };
 use sd_line::{BlockKind, Head};
+use sd_lines::{LineSpan, head_in, opens_tasklet};
 use sd_list::NoMemory;
 use sd_phrase::{Piece, Reading};
 use std::alloc::Global;

@@ -3,15 +3,16 @@ ghost use Rattle.std.specs.Prelude.{◌≡◌, ◌<◌, ◌^◌, IfOk, Ok};
 ghost use Rattle.sd_phrase.specs.Spans.{AreInside};
 ghost use Rattle.sd_context.specs.ContextFold.{context_of, awaited_of};
 ghost use Rattle.sd_blocks.specs.StepFold.{stepped};
+ghost use Rattle.sd_lines.specs.SourceLines.{lines_of};
 ghost use Rattle.sd_source.specs.LinesReading as definition;
+ghost use Rattle.sd_source.specs.Parsed.{parsed};
 ghost use Rattle.sd_source.specs.Prefix.{count_before_refusal, count_of_lines};
-ghost use Rattle.sd_source.specs.SourceLines.{lines_of, parsed};
 
 use crate::line_reading::read_line;
-use crate::lines::LineSpan;
 use sd_blocks::{Refusal, close_blocks, refused};
 use sd_context::{Awaited, Context};
 use sd_lex::Program;
+use sd_lines::LineSpan;
 use sd_list::NoMemory;
 use sd_phrase::Piece;
 use std::alloc::Global;

@@ -1,14 +1,15 @@
 //! The limits on nodes, which stand against a source as a whole.
 ghost use Rattle.std.specs.Prelude.{◌≡◌, IfOk};
 ghost use Rattle.sd_phrase.specs.Spans.{AreInside};
+ghost use Rattle.sd_lines.specs.SourceLines.{lines_of};
 ghost use Rattle.sd_source.specs.NodeRefusal as definition;
+ghost use Rattle.sd_source.specs.Parsed.{parsed};
 ghost use Rattle.sd_source.specs.Prefix.{count_of_lines};
-ghost use Rattle.sd_source.specs.SourceLines.{lines_of, parsed};
 
-use crate::lines::LineSpan;
 use crate::prefix::program_before_refusal;
 use sd_blocks::Refusal;
 use sd_lex::Program;
+use sd_lines::LineSpan;
 use sd_list::NoMemory;
 use sd_nodes::first_over;
 use sd_phrase::Piece;

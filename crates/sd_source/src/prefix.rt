@@ -3,15 +3,15 @@ ghost use Rattle.std.specs.Prelude.{◌≡◌, IfOk, OnOk};
 ghost use Rattle.sd_lex.specs.TreeFold.{program_of};
 ghost use Rattle.sd_phrase.specs.Spans.{AreInside};
 ghost use Rattle.sd_context.specs.ContextFold.{context_of};
+ghost use Rattle.sd_lines.specs.SourceLines.{lines_of};
 ghost use Rattle.sd_source.specs.LinesReading.{program_in};
 ghost use Rattle.sd_source.specs.Prefix as definition;
-ghost use Rattle.sd_source.specs.SourceLines.{lines_of};
 
 use crate::line_reading::read_line;
-use crate::lines::LineSpan;
 use sd_blocks::close_block_into;
 use sd_context::Context;
 use sd_lex::Program;
+use sd_lines::LineSpan;
 use sd_list::NoMemory;
 use sd_phrase::Piece;
 use std::alloc::Global;

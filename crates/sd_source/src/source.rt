@@ -1,14 +1,14 @@
 //! A source is read to its program, or refused.
 ghost use Rattle.std.specs.Prelude.{◌≡◌, ◌≤◌, ◌^◌, Ok, length, IfOk};
 ghost use Rattle.sd_lex.specs.TokenText.{AreTokensOf};
-ghost use Rattle.sd_source.specs.SourceLines.{parsed};
+ghost use Rattle.sd_source.specs.Parsed.{parsed};
 ghost use Rattle.sd_source.specs.SourceReading as definition;
 
 use crate::lines_reading::read_program;
 use crate::node_limit::within_nodes;
-use crate::token_lines::line_spans;
 use sd_blocks::Refusal;
 use sd_lex::{LexError, Program, Token, line_count, tokens};
+use sd_lines::line_spans;
 use sd_list::NoMemory;
 use sd_phrase::pieces_of;
 use std::alloc::Global;

@@ -9,8 +9,8 @@ use Rattle.sd_line.specs.declared.head.BlockKind.{BlockKind}
 use Rattle.sd_phrase.specs.Words.{piece_of}
 use Rattle.sd_readable.proofs.kept.Trees.{all-more}
 use Rattle.sd_readable.proofs.lines.Forms.{IfForm}
-use Rattle.sd_source.specs.Lines.{Line}
-use Rattle.sd_source.specs.TokenLines.{TokenLine, no_token, ended_by, with_token, lines_from, number_of, line_of_tokens}
+use Rattle.sd_lines.specs.Lines.{Line}
+use Rattle.sd_lines.specs.TokenLines.{TokenLine, no_token, ended_by, with_token, lines_from, number_of, line_of_tokens}
 use Rattle.sd_told.proofs.SaidLines.{Says, head_says}
 use Rattle.sd_told.proofs.TextLines.{IsOn, AreLaid, has_word, MayStand}
 

@@ -17,7 +17,7 @@ use Rattle.sd_blocks.specs.Closing.{Step, and_then, states_counted, with_states,
 use Rattle.sd_blocks.specs.Continuing.{is_elif_or_else, goes_on, branches_of, next_opener, left, next_branch, next_judged, with_branch_state, continued, continued_by}
 use Rattle.sd_blocks.specs.Judging.{refused, against, accepted, statement_heads, steps_of, judged_one, judged_all, settled, judged_from}
 use Rattle.sd_source.specs.LineReading.{stands_here, by_tokens, behind_last_block, behind_blocks, kind_at, said, line_read}
-use Rattle.sd_source.specs.Lines.{Line, opens_tasklet}
+use Rattle.sd_lines.specs.Lines.{Line, opens_tasklet}
 use Rattle.sd_source.specs.LinesReading.{lines_read, at_end, program_in, program_by, program_of_lines}
 use Rattle.sd_source.specs.Prefix.{or_stays, context_before_refusal, program_before_refusal}
 use Rattle.sd_readable.proofs.lines.Forms.{IfForm}

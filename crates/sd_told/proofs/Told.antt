@@ -10,11 +10,11 @@ use Rattle.sd_lex.specs.Reading.{Reading}
 use Rattle.sd_nodes.specs.NodeLimits.{nodes_over, node_limits}
 use Rattle.sd_program.specs.Every.{Everywhere}
 use Rattle.sd_blocks.specs.declared.refusal.Refusal.{Refusal}
-use Rattle.sd_source.specs.Lines.{Line}
+use Rattle.sd_lines.specs.Lines.{Line}
 use Rattle.sd_source.specs.LinesReading.{program_of_lines}
 use Rattle.sd_source.specs.NodeRefusal.{node_refusal, limited, program_so_far, within_nodes}
 use Rattle.sd_source.specs.SourceReading.{refusal_of_text, reads_tokens, reads}
-use Rattle.sd_source.specs.TokenLines.{lines_of_tokens}
+use Rattle.sd_lines.specs.TokenLines.{lines_of_tokens}
 use Rattle.sd_decided.proofs.Decided.{decided}
 use Rattle.sd_decided.proofs.Range.{OfLines, decided_range, told_first, same_refusal}
 use Rattle.sd_told.specs.Told.{IsErrorNumber, IsLineOf}

@@ -10,7 +10,7 @@ use Rattle.sd_refusal.specs.OverLimit.{is_tasklet}
 use Rattle.sd_context.specs.Awaiting.{comes_right}
 use Rattle.sd_context.specs.Context.{Branch, Opener, file, function, statement, consumer, if_block, else_block, OpenBlock, Awaited, nothing, block, function_def, consume_def, Context}
 use Rattle.sd_blocks.specs.Closing.{branch_with, nested, with_body, finished_by, finished, closed_by, closed_into}
-use Rattle.sd_source.specs.Lines.{Line, connects_from, has_connector_line}
+use Rattle.sd_lines.specs.Lines.{Line, connects_from, has_connector_line}
 use Rattle.sd_readable.proofs.kept.Heads.{Opens, IsOpenedIn, IsFile, AreNested}
 use Rattle.sd_readable.proofs.kept.Passing.{true_is_not_false, false_is_not_true}
 

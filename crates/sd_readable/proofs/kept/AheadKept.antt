@@ -15,7 +15,7 @@ use Rattle.sd_context.specs.After.{context_after}
 use Rattle.sd_context.specs.Awaiting.{awaited_behind}
 use Rattle.sd_context.specs.Context.{Branch, OpenBlock, block, Context, opening}
 use Rattle.sd_blocks.specs.Continuing.{is_elif_or_else, next_opener}
-use Rattle.sd_source.specs.Lines.{Line, connects_from, has_connector_line, opens_tasklet}
+use Rattle.sd_lines.specs.Lines.{Line, connects_from, has_connector_line, opens_tasklet}
 use Rattle.sd_context.specs.Placing.{consume_kind}
 use Rattle.sd_readable.proofs.kept.Heads.{IsBodyStatement, IsTaskletStatement, Fits}
 use Rattle.sd_readable.proofs.kept.Passing.{true_is_not_false, false_is_not_true}

@@ -20,7 +20,7 @@ use Rattle.sd_blocks.specs.Closing.{Step, and_then, states_counted, with_counts,
 use Rattle.sd_blocks.specs.Continuing.{is_elif_or_else, goes_on, branches_of, left, next_branch, next_judged, with_branch_state, continued_by}
 use Rattle.sd_blocks.specs.Judging.{refused, against, statement_heads, steps_of, least, judged_one, judged_all, settled, judged_from}
 use Rattle.sd_source.specs.LineReading.{stands_here, judged_here, by_tokens, behind_last_block, behind_blocks, kind_in, kind_at, said, line_read}
-use Rattle.sd_source.specs.Lines.{Line, opens_tasklet}
+use Rattle.sd_lines.specs.Lines.{Line, opens_tasklet}
 use Rattle.sd_source.specs.LinesReading.{lines_read, at_end, program_in, program_by, program_of_lines}
 use Rattle.sd_context.specs.declared.awaiting.Wanted.{Wanted}
 use Rattle.sd_readable.proofs.kept.Heads.{AreExtents, IsArgument, AreArguments, Fits, IsFile, AreNested}

@@ -16,7 +16,7 @@ use Rattle.sd_line.specs.Head.{HeadTree, input_head, output_head}
 use Rattle.sd_line.specs.HeadReading.{head_of}
 use Rattle.sd_line.specs.TaskletLine as tasklets
 use Rattle.sd_refusal.specs.Counting.{is_connector}
-use Rattle.sd_source.specs.TokenLines.{is_name_kind, is_arrow, begins_connector}
+use Rattle.sd_lines.specs.TokenLines.{is_name_kind, is_arrow, begins_connector}
 use Rattle.sd_readable.proofs.kept.AheadKept.{Connects}
 use Rattle.sd_readable.proofs.lines.Forms.{IfForm, if-always, if-map, if-either}
 use Rattle.sd_readable.proofs.kept.Passing.{false_is_not_true}

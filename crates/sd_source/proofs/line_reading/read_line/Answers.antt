@@ -5,7 +5,7 @@ use Rattle.sd_phrase.specs.Readings.{reading_map}
 use Rattle.sd_context.specs.ContextFold.{context_of}
 use Rattle.sd_blocks.specs.StepFold.{stepped}
 use Rattle.sd_source.specs.LineReading as definition
-use Rattle.sd_source.specs.SourceLines.{lines_of}
+use Rattle.sd_lines.specs.SourceLines.{lines_of}
 use Rattle.sd_source.proofs.line_reading.read_line.Goals as goal
 
 pub returns : goal.returns

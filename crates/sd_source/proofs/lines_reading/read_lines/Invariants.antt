@@ -2,7 +2,7 @@ use Rattle.std.proofs.Common.{◌≡◌, ◌+◌, length}
 use Rattle.sd_context.specs.ContextFold.{context_of}
 use Rattle.sd_source.specs.LinesReading as reading
 use Rattle.sd_source.specs.Prefix.{count_before_refusal}
-use Rattle.sd_source.specs.SourceLines.{lines_of}
+use Rattle.sd_lines.specs.SourceLines.{lines_of}
 use Rattle.sd_source.proofs.lines_reading.read_lines.Given as goal
 
 -- the lines that are left, from the context so far; none of those so far is refused

@@ -1,7 +1,7 @@
 use Rattle.std.proofs.Common.{◌≡◌, length}
 use Rattle.sd_context.specs.ContextFold.{context_of}
 use Rattle.sd_source.specs.Prefix.{context_before_refusal, count_before_refusal}
-use Rattle.sd_source.specs.SourceLines.{lines_of}
+use Rattle.sd_lines.specs.SourceLines.{lines_of}
 use Rattle.sd_source.proofs.prefix.read_before_refusal.Given as goal
 
 -- the lines that are left, from the context so far: so many of them stand before the first that is refused

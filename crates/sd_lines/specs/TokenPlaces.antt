@@ -3,8 +3,8 @@ use Rattle.std.specs.Prelude.{ℕ, ◌+◌, List, Bool, true, false, slice_range
 use Rattle.sd_lex.specs.declared.token.Token.{Token}
 use Rattle.sd_lex.specs.declared.token.TokenKind.{TokenKind}
 use Rattle.sd_lex.specs.declared.token.TokenKind.TheVariants.{LineEnd, Indent, Dedent}
-use Rattle.sd_source.specs.declared.token_lines.Begun.{Begun}
-use Rattle.sd_source.specs.TokenLines.{TokenLine}
+use Rattle.sd_lines.specs.declared.token_lines.Begun.{Begun}
+use Rattle.sd_lines.specs.TokenLines.{TokenLine}
 
 abbrev pub begun_at : (from : ℕ) → Begun
 begun_at from = record { opens = false; closes = 0; from = from }

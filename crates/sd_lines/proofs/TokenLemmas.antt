@@ -8,10 +8,10 @@ use Rattle.sd_lex.specs.declared.token.Token.{Token}
 use Rattle.sd_lex.specs.declared.token.TokenKind.{TokenKind}
 use Rattle.sd_lex.specs.declared.token.TokenKind.TheVariants.{Name, Number, Text, Sign, LineEnd, Indent, Dedent}
 use Rattle.sd_phrase.specs.Words.{piece_of}
-use Rattle.sd_source.specs.declared.token_lines.Begun.{Begun}
-use Rattle.sd_source.specs.Lines.{Line}
-use Rattle.sd_source.specs.TokenLines.{TokenLine, with_token, ended_by, lines_from, number_of, begins_connector, line_with, line_of_tokens}
-use Rattle.sd_source.specs.TokenPlaces.{behind, is_line_end, token_line}
+use Rattle.sd_lines.specs.declared.token_lines.Begun.{Begun}
+use Rattle.sd_lines.specs.Lines.{Line}
+use Rattle.sd_lines.specs.TokenLines.{TokenLine, with_token, ended_by, lines_from, number_of, begins_connector, line_with, line_of_tokens}
+use Rattle.sd_lines.specs.TokenPlaces.{behind, is_line_end, token_line}
 
 pub map_drop : {A B : Type 0} (f : A → B) (n : ℕ) (xs : List A) → drop n (map f xs) ≡ map f (drop n xs)
 map_drop f zero xs = refl

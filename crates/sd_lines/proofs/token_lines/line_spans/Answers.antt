@@ -1,6 +1,6 @@
 use Rattle.std.proofs.Common.{◌∙◌}
-use Rattle.sd_source.proofs.TokenLemmas.{place_next, count_next, spans_next}
-use Rattle.sd_source.proofs.token_lines.line_spans.Goals as goal
+use Rattle.sd_lines.proofs.TokenLemmas.{place_next, count_next, spans_next}
+use Rattle.sd_lines.proofs.token_lines.line_spans.Goals as goal
 
 pub loop-left-preserved : goal.loop-left-preserved
 loop-left-preserved c =

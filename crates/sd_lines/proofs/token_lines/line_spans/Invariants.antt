@@ -1,9 +1,9 @@
 use Rattle.std.proofs.Common.{◌≡◌, ◌≤◌, ◌+◌, ◌++◌, drop, length, map}
 use Rattle.sd_phrase.specs.Words.{piece_of}
-use Rattle.sd_source.specs.SourceLines.{lines_of}
-use Rattle.sd_source.specs.TokenLines as lines
-use Rattle.sd_source.specs.TokenPlaces.{token_line}
-use Rattle.sd_source.proofs.token_lines.line_spans.Given as goal
+use Rattle.sd_lines.specs.SourceLines.{lines_of}
+use Rattle.sd_lines.specs.TokenLines as lines
+use Rattle.sd_lines.specs.TokenPlaces.{token_line}
+use Rattle.sd_lines.proofs.token_lines.line_spans.Given as goal
 
 -- the lines so far, and those of the tokens that are left
 abbrev pub invariant-loop-left : goal.invariant-loop-left

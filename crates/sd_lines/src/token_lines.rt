@@ -3,9 +3,9 @@ ghost use Rattle.std.specs.Prelude.{◌≡◌, ◌≤◌, ◌<◌, ◌^◌, ◌+
 ghost use Rattle.std.specs.List.{All};
 ghost use Rattle.sd_lex.specs.TokenText.{IsInside};
 ghost use Rattle.sd_phrase.specs.Words.{piece_of};
-ghost use Rattle.sd_source.specs.SourceLines.{line_of, lines_of};
-ghost use Rattle.sd_source.specs.TokenLines as definition;
-ghost use Rattle.sd_source.specs.TokenPlaces as places;
+ghost use Rattle.sd_lines.specs.SourceLines.{line_of, lines_of};
+ghost use Rattle.sd_lines.specs.TokenLines as definition;
+ghost use Rattle.sd_lines.specs.TokenPlaces as places;
 
 use crate::lines::LineSpan;
 use sd_lex::{Token, TokenKind};

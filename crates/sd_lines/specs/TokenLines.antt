@@ -7,7 +7,7 @@ use Rattle.sd_lex.specs.TokenText.{text_of}
 use Rattle.sd_line.specs.HeadReading.{head_of}
 use Rattle.sd_phrase.specs.declared.word.Piece.{Piece}
 use Rattle.sd_phrase.specs.Words.{piece_of}
-use Rattle.sd_source.specs.Lines.{Line}
+use Rattle.sd_lines.specs.Lines.{Line}
 
 -- the tokens of a logical line, and the marks of blocks that stand before them
 pub record TokenLine : Type 0 where

@@ -4,8 +4,8 @@ ghost use Rattle.sd_line.specs.HeadFold.{head_tree};
 ghost use Rattle.sd_line.specs.HeadReading.{head_of};
 ghost use Rattle.sd_phrase.specs.Readings.{reading_map};
 ghost use Rattle.sd_phrase.specs.Spans.{AreInside};
-ghost use Rattle.sd_source.specs.Lines as definition;
-ghost use Rattle.sd_source.specs.SourceLines.{Source, lines_of};
+ghost use Rattle.sd_lines.specs.Lines as definition;
+ghost use Rattle.sd_lines.specs.SourceLines.{Source, lines_of};
 
 use sd_line::{BlockKind, Head, read_head};
 use sd_list::NoMemory;

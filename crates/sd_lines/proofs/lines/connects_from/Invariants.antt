@@ -1,7 +1,7 @@
 use Rattle.std.proofs.Common.{◌≡◌, ◌≤◌, drop}
-use Rattle.sd_source.specs.Lines as lines
-use Rattle.sd_source.specs.SourceLines.{Source, lines_of}
-use Rattle.sd_source.proofs.lines.connects_from.Given as goal
+use Rattle.sd_lines.specs.Lines as lines
+use Rattle.sd_lines.specs.SourceLines.{Source, lines_of}
+use Rattle.sd_lines.proofs.lines.connects_from.Given as goal
 
 -- the lines that are left decide; so many blocks are open at most as there were lines
 abbrev pub invariant-loop-line : goal.invariant-loop-line

@@ -1,0 +1,4 @@
+pub mod Lines
+pub mod TokenLines
+pub mod TokenPlaces
+pub mod SourceLines
