@@ -1,18 +1,13 @@
 -- Steps through the values of a pool, inside the memory of its elements.
-use Rattle.std.proofs.Common.{◌≡◌, ℕ, zero, suc, ◌<◌, ◌^◌, ℤ, List, [], ◌∷◌, length, drop, Option, Some, None, Bool, true, false, if◌then◌else◌, ◌||◌, nat_eq, slice_get, refl, sym, ap, ◌∙◌, subst, arith, w64, FitsSigned}
+use Rattle.std.proofs.Common.{◌≡◌, ℕ, zero, suc, ℤ, List, [], ◌∷◌, drop, Option, Some, None, Bool, true, false, if◌then◌else◌, ◌||◌, nat_eq, slice_get, refl, sym, ap, ◌∙◌, subst, arith, w64, FitsSigned}
 use Rattle.std.specs.List.{AllByRecursion}
 use Rattle.std.proofs.lemmas.Int.{int_wrap_fits}
-use Rattle.std.proofs.lemmas.List.{length-map}
-use Rattle.sd_num.specs.Wrapped.{wrapped}
-use Rattle.sd_range.specs.Affine.{variable_value}
 use Rattle.std.proofs.lemmas.Bool.Decides.{nat_tests}
 use Rattle.sd_work.specs.declared.fault.FaultKind.{FaultKind}
 use Rattle.sd_work.specs.Memory.{array, Memory, Memories, waiting}
 use Rattle.sd_work.specs.Change.{changed_at, with_elements, written, write, take, apply}
 use Rattle.sd_work.specs.BigStep.{Reached, big_step}
-use Rattle.sd_graph.specs.PlainTree.{TaskletTree}
-use Rattle.sd_graph.specs.TaskletMeaning.{Inputs}
-use Rattle.sd_graph.specs.Context.{Context, Reach, own_reach, link_elements, place_at}
+use Rattle.sd_graph.specs.Context.{Context, Reach, own_reach, place_at}
 use Rattle.sd_graph.specs.Wiring.{has_number}
 use Rattle.sd_graph.specs.declared.link.Link.{Link}
 use Rattle.sd_machine.specs.declared.cell.Station.{Station}
@@ -20,14 +15,11 @@ use Rattle.sd_machine.specs.ComesTo.{IsEnd}
 use Rattle.sd_machine.specs.declared.end.End.{End}
 use Rattle.sd_machine.specs.declared.end.End.TheVariants.{Finished, Fault, OutOfTurns}
 use Rattle.sd_leaves.specs.Done.{IsDone, instance_work}
-use Rattle.sd_columns.specs.Columns.{value_on}
-use Rattle.sd_row.specs.Row.{reference_on}
 use Rattle.sd_row.specs.Point.{IsOver, below}
 use Rattle.sd_row.specs.Setting.{Setting, term_of}
 use Rattle.sd_row.proofs.Comes.{IsLeft, as_finished}
 use Rattle.sd_row.proofs.RowSteps.{point_comes, point_without_turn}
-use Rattle.sd_instance.specs.declared.accesses.Accesses.{Accesses}
-use Rattle.sd_instance.specs.Known.{AreKnown, HasRoom, AreOutward}
+use Rattle.sd_instance.specs.Known.{AreOutward}
 use Rattle.sd_consume.specs.Taking.{takes_coming}
 use Rattle.sd_consume.specs.Pool.{Pool, body_of, inside, pool_memory, pool_coming}
 use Rattle.sd_consume.proofs.Takes.{takes_end, element_more, element_stop}
@@ -159,17 +151,3 @@ module _ (pool : Pool) where
       let behind : below after ≡ now = (λ i. record { memories = sym dropped i; turns = sym kept i }) in
       let over : IsOver (pool_memory pool held) entered = same ∙ ap (λ (memories : Memories). pool_memory pool held ∷ memories) (sym (ap (drop 1) same)) in
       subst (λ (now : Reached). IsEnd (pool_coming pool old) old end now) behind (subst (λ (old : Reached). IsEnd (pool_coming pool old) old end (below after)) before (ends over))
-
--- there is room for as many as are read
-pub room_known : (tree : TaskletTree) (ins outs : List Link) (k : ℕ) (context : Context) (accesses : Accesses) (given : Inputs) → AreKnown tree ins outs k context accesses → HasRoom (length ins) (length tree.variables) given →
-    HasRoom (length accesses.reads.items) (length accesses.variables.items) given
-room_known tree ins outs k context accesses given known room =
-    let reads : length ins ≡ length accesses.reads.items = sym (length-map ins (link_elements context)) ∙ ap length known.reads ∙ length-map accesses.reads.items (λ track. Some (reference_on track k) ∷ []) in
-    let variables : length tree.variables ≡ length accesses.variables.items = sym (length-map tree.variables (λ variable. wrapped (variable_value context.values variable))) ∙ ap length known.variables ∙ length-map accesses.variables.items (λ numbers. value_on numbers k) in
-    record {
-      singles = room.singles;
-      reads = room.reads ∙ reads;
-      variables = room.variables ∙ variables;
-      few_reads = subst (λ n. n < 2 ^ 32) reads room.few_reads;
-      few_variables = subst (λ n. n < 2 ^ 32) variables room.few_variables;
-    }

@@ -53,7 +53,7 @@ pool_coming pool now most = consume_coming (body_of pool) pool.stream pool.eleme
 -- code that is given this, with these accesses, for the elements of a scope, whose values come from here
 pub record IsPool (compiled : Compiled) (given : Inputs) (accesses : Accesses) (from : Station) (element : ℕ) (outs : List Link) (here : Context) (pool : Pool) : Type 0 where
   pub set : IsSetUp pool.tree pool.ins outs compiled given here
-  pub known : AreKnown pool.tree pool.ins outs 0 here accesses
+  pub known : AreKnown pool.tree pool.ins outs 0 here here accesses
   pub outward : AreOutward here outs
   pub same_outs : pool.outs ≡ outs
   pub same_element : element ≡ pool.element

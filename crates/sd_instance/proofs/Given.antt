@@ -1,7 +1,9 @@
 -- What code is given, and what it comes to.
-use Rattle.std.proofs.Common.{◌≡◌, ℕ, ℤ, List, [], ◌∷◌, map, length, Option, Some, None, Ok, Err, refl, sym, ap, ◌∙◌, subst}
+use Rattle.std.proofs.Common.{◌≡◌, ℕ, ◌<◌, ◌^◌, ℤ, List, [], ◌∷◌, map, length, Option, Some, None, Ok, Err, refl, sym, ap, ◌∙◌, subst}
 use Rattle.std.specs.List.{AllByRecursion, AllZip}
 use Rattle.std.proofs.lemmas.List.{length-map}
+use Rattle.sd_num.specs.Wrapped.{wrapped}
+use Rattle.sd_range.specs.Affine.{variable_value}
 use Rattle.sd_work.specs.declared.fault.FaultKind.{FaultKind}
 use Rattle.sd_work.specs.Memory.{Memory}
 use Rattle.sd_work.specs.Leaf.{Pending}
@@ -49,13 +51,13 @@ module _ (old given : Inputs) (accesses : Accesses) (k : ℕ) (now : Reached)
     few_variables = room.few_variables;
   })
 
-  module _ (tree : TaskletTree) (ins outs : List Link) (code : Compiled) (context : Context) (set : IsSetUp tree ins outs code old context) (known : AreKnown tree ins outs k context accesses) where
+  module _ (tree : TaskletTree) (ins outs : List Link) (code : Compiled) (context standing : Context) (set : IsSetUp tree ins outs code old context) (known : AreKnown tree ins outs k context standing accesses) where
     -- as many inputs as are read
-    pub targets_are : (count : ℕ) (all : List Target) → count ≡ length accesses.reads.items → all ≡ accesses.targets.items → AreTargets count ins outs given all k context
+    pub targets_are : (count : ℕ) (all : List Target) → count ≡ length accesses.reads.items → all ≡ accesses.targets.items → AreTargets count ins outs given all k context standing
     targets_are count all many same = record {
       inputs = sym (length-map ins (link_elements context)) ∙ ap length known.reads ∙ length-map accesses.reads.items (λ track. Some (reference_on track k) ∷ []) ∙ sym many;
       extents = extents ∙ set.extents;
-      targets = subst (λ (all : List Target). AllZip (IsTarget k context) outs all) (sym same) known.targets;
+      targets = subst (λ (all : List Target). AllZip (IsTarget k context standing) outs all) (sym same) known.targets;
     }
 
     given_here : given_at context tree ins outs (map (λ track. seen_on k now.memories track ∷ []) accesses.reads.items) ≡ given
@@ -87,3 +89,17 @@ module _ (old given : Inputs) (accesses : Accesses) (k : ℕ) (now : Reached)
       own_stays own outward none over =
           stays_over own (map (pending_of context ins outs) (map (told given) effects)) now after (outward_all context ins outs (map (told given) effects) outward)
           (subst (λ (fault : Option FaultKind). IsDone (performing (map (pending_of context ins outs) (map (told given) effects))) now fault after) none effects_done) over
+
+-- there is room for as many as are read
+pub room_known : (tree : TaskletTree) (ins outs : List Link) (k : ℕ) (context standing : Context) (accesses : Accesses) (given : Inputs) → AreKnown tree ins outs k context standing accesses → HasRoom (length ins) (length tree.variables) given →
+    HasRoom (length accesses.reads.items) (length accesses.variables.items) given
+room_known tree ins outs k context standing accesses given known room =
+    let reads : length ins ≡ length accesses.reads.items = sym (length-map ins (link_elements context)) ∙ ap length known.reads ∙ length-map accesses.reads.items (λ track. Some (reference_on track k) ∷ []) in
+    let variables : length tree.variables ≡ length accesses.variables.items = sym (length-map tree.variables (λ variable. wrapped (variable_value context.values variable))) ∙ ap length known.variables ∙ length-map accesses.variables.items (λ numbers. value_on numbers k) in
+    record {
+      singles = room.singles;
+      reads = room.reads ∙ reads;
+      variables = room.variables ∙ variables;
+      few_reads = subst (λ n. n < 2 ^ 32) reads room.few_reads;
+      few_variables = subst (λ n. n < 2 ^ 32) variables room.few_variables;
+    }

@@ -3,6 +3,7 @@ pub mod Given
 pub mod Links
 pub mod Matched
 pub mod Outward
+pub mod Placed
 pub mod Resting
 pub mod Targets
 pub mod Zeros

@@ -1,12 +1,14 @@
 -- Accesses that stay where they are.
-use Rattle.std.proofs.Common.{◌≡◌, ℕ, ◌+◌, ◌<◌, ◌≤◌, ℤ, pos, List, [], ◌∷◌, ◌++◌, length, take, get_or, Some, true, false, if◌then◌else◌, refl, sym, ap, ◌∙◌, subst, w64, FitsSigned}
+use Rattle.std.proofs.Common.{◌≡◌, ℕ, ◌+◌, ◌<◌, ◌≤◌, ℤ, pos, List, [], ◌∷◌, ◌++◌, length, take, get_or, Some, true, false, if◌then◌else◌, sym, ap, ◌∙◌, subst, w64, FitsSigned}
 use Rattle.std.specs.List.{AllZip}
 use Rattle.std.proofs.lemmas.Int.{int_wrap_fits}
 use Rattle.std.proofs.lemmas.List.{take_more, take_all}
 use Rattle.sd_num.specs.Wrapped.{wrapped}
 use Rattle.sd_work.specs.Leaf.{write_value, push_to}
 use Rattle.sd_graph.specs.ContainerParts.{container_at, is_stream}
+use Rattle.sd_graph.specs.TaskletMeaning.{Effect}
 use Rattle.sd_graph.specs.Context.{Context, link_element}
+use Rattle.sd_graph.specs.Unfold.{pending_through}
 use Rattle.sd_graph.specs.declared.link.Link.{Link}
 use Rattle.sd_machine.specs.declared.cell.Station.{Station}
 use Rattle.sd_even.specs.Even.{is_scalar, spaced}
@@ -23,22 +25,23 @@ rests number fits = ap wrapped (spaced_still number 0) ∙ int_wrap_fits w64 num
 
 -- ---- targets
 
-module _ (k : ℕ) (context : Context) (link : Link) where
+module _ (k : ℕ) (context standing : Context) (link : Link) where
   pub stream_target : (station : Station) → is_stream (container_at context.containers link.memlet.container).kind ≡ true → station.level ≡ (context.reach link.memlet.container).level →
-      station.container ≡ (context.reach link.memlet.container).container → IsTarget k context link (Stream station)
+      station.container ≡ (context.reach link.memlet.container).container → IsTarget k context standing link (Stream station)
   stream_target station streams level container effect =
       ap (λ test. if test then push_to (context.reach link.memlet.container).level (context.reach link.memlet.container).container effect.value else write_value effect.value (link_element context link effect.at) link.memlet.resolution) streams
       ∙ ap (λ l. push_to l (context.reach link.memlet.container).container effect.value) (sym level)
       ∙ ap (λ c. push_to station.level c effect.value) (sym container)
 
   pub element_target : (to : Track) → is_stream (container_at context.containers link.memlet.container).kind ≡ false → is_scalar link.memlet.subset.dims ≡ true →
-      link_element context link [] ≡ Some (reference_on to k) → IsTarget k context link (Element link.memlet.resolution to)
+      link_element context link [] ≡ Some (reference_on to k) → IsTarget k context standing link (Element link.memlet.resolution to)
   element_target to arrays scalar found effect =
       ap (λ test. if test then push_to (context.reach link.memlet.container).level (context.reach link.memlet.container).container effect.value else write_value effect.value (link_element context link effect.at) link.memlet.resolution) arrays
       ∙ ap (λ element. write_value effect.value element link.memlet.resolution) (scalar_element context link effect.at scalar ∙ found)
 
-  pub computed_target : IsTarget k context link Computed
-  computed_target effect = refl
+  -- the element at a place is found in the same way from there
+  pub computed_target : ((effect : Effect) → pending_through context link effect ≡ pending_through standing link effect) → IsTarget k context standing link Computed
+  computed_target same = same
 
 -- ---- lists side by side
 

@@ -80,7 +80,7 @@ module _ (context : Context) (given : Inputs) (ins outs : List Link) (effect : E
 
 -- ---- outputs
 
-module _ (inputs : ℕ) (ins outs : List Link) (given : Inputs) (targets : List Target) (k : ℕ) (context : Context) (are : AreTargets inputs ins outs given targets k context) where
+module _ (inputs : ℕ) (ins outs : List Link) (given : Inputs) (targets : List Target) (k : ℕ) (context standing : Context) (are : AreTargets inputs ins outs given targets k context standing) where
   -- the extents of an output are those of its link
   pub extents_there : (connector : ℕ) (link : Link) → length ins ≤ connector → slice_get outs (connector - length ins) ≡ Some link → extents_of_connector given connector ≡ link_extents context link
   extents_there connector link output there =
@@ -88,7 +88,7 @@ module _ (inputs : ℕ) (ins outs : List Link) (given : Inputs) (targets : List 
       ap (λ (extents : List (List ℕ)). slice_index_or extents connector []) are.extents
       ∙ made_behind (link_extents context) ins outs connector (connector - length ins) link [] is there
 
-  pub target_there : (number : ℕ) (link : Link) (target : Target) → slice_get outs number ≡ Some link → ((other : Target) → slice_get targets number ≡ Some other → target ≡ other) → IsTarget k context link target
+  pub target_there : (number : ℕ) (link : Link) (target : Target) → slice_get outs number ≡ Some link → ((other : Target) → slice_get targets number ≡ Some other → target ≡ other) → IsTarget k context standing link target
   target_there number link target there is =
-      let found = zip_at (IsTarget k context) outs targets number link are.targets there in
-      subst (λ (t : Target). IsTarget k context link t) (sym (is found.0 found.1)) found.2
+      let found = zip_at (IsTarget k context standing) outs targets number link are.targets there in
+      subst (λ (t : Target). IsTarget k context standing link t) (sym (is found.0 found.1)) found.2

@@ -37,7 +37,7 @@ impl Accesses {
         scope: &Scope,
     ) -> Result<Option<Accesses>, NoMemory>
         requires scalars { AllByRecursion (λ link. is_scalar link.memlet.subset.dims ≡ true) ins.now }
-        ensures { IfOk result (λ accesses. MatchOption accesses ⊤ (AreKnown (tasklet_tree tasklet.now) ins.now outs.now 0 (context_of (graph_tree graph.now) base.now scope.now))) }
+        ensures { IfOk result (λ accesses. MatchOption accesses ⊤ (AreKnown (tasklet_tree tasklet.now) ins.now outs.now 0 (context_of (graph_tree graph.now) base.now scope.now) (context_of (graph_tree graph.now) base.now scope.now))) }
     {
         let Some(reads) = tracks_at(alloc, ins, graph, base, scope)? else {
             return Ok(None);
@@ -123,7 +123,7 @@ fn target_at(
     base: &Base,
     scope: &Scope,
 ) -> Result<Target, NoMemory>
-    ensures { IfOk result (IsTarget 0 (context_of (graph_tree graph.now) base.now scope.now) link.now) }
+    ensures { IfOk result (IsTarget 0 (context_of (graph_tree graph.now) base.now scope.now) (context_of (graph_tree graph.now) base.now scope.now) link.now) }
 {
     if is_stream(graph, link.memlet.container) {
         let station = station(base, scope, link.memlet.container)?;
@@ -146,7 +146,7 @@ fn targets_at(
     base: &Base,
     scope: &Scope,
 ) -> Result<Vec<Target>, NoMemory>
-    ensures { IfOk result (λ targets. AllZip (IsTarget 0 (context_of (graph_tree graph.now) base.now scope.now)) links.now targets.items) }
+    ensures { IfOk result (λ targets. AllZip (IsTarget 0 (context_of (graph_tree graph.now) base.now scope.now) (context_of (graph_tree graph.now) base.now scope.now)) links.now targets.items) }
 {
     let mut targets = Vec::with_capacity(alloc, links.len())?;
     for link in links {

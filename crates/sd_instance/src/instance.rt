@@ -2,6 +2,7 @@ ghost use Rattle.std.specs.Prelude.{◌≡◌, List, length, None, IfOk, OnOk};
 ghost use Rattle.sd_work.specs.Memory.{Memory};
 ghost use Rattle.sd_graph.specs.PlainTree.{TaskletTree};
 ghost use Rattle.sd_graph.specs.TreeFold.{graph_tree};
+ghost use Rattle.sd_graph.specs.Context.{Context};
 ghost use Rattle.sd_graph.specs.declared.link.Link.{Link as LinkNow};
 ghost use Rattle.sd_tcode.specs.Held.{IsReady, given};
 ghost use Rattle.sd_scope.specs.Standing.{context_of};
@@ -20,7 +21,8 @@ use sd_tcode::{Code, Frame, run};
 use std::alloc::Global;
 
 /// What an instance does once its turn is spent, where its accesses are known at the point of this number: it reads, evaluates
-/// and performs its effects. Only a push, and a place that is looked up, take memory.
+/// and performs its effects. Places are looked up where the scope stands, which may be at another point. Only a push, and a
+/// place that is looked up, take memory.
 pub fn run_instance(
     alloc: Global,
     accesses: &Accesses,
@@ -35,10 +37,10 @@ pub fn run_instance(
 ) -> Result<Option<FaultKind>, NoMemory>
     requires ready { IsReady code.now frame.old }
     requires room { HasRoom (length accesses.now.reads.items) (length accesses.now.variables.items) (given frame.old) }
-    ensures done { IfOk result (λ fault. (tree : TaskletTree) (ins : List LinkNow) → IsSetUp tree ins outs.now code.now (given frame.old) (context_of (graph_tree graph.now) base.now scope.now)
-        → AreKnown tree ins outs.now k (context_of (graph_tree graph.now) base.now scope.now) accesses.now → IsDone (instance_work (context_of (graph_tree graph.now) base.now scope.now) tree ins outs.now) machine.old fault machine.new) }
-    ensures own { IfOk result (λ fault. (tree : TaskletTree) (ins : List LinkNow) (own : Memory) → IsSetUp tree ins outs.now code.now (given frame.old) (context_of (graph_tree graph.now) base.now scope.now)
-        → AreKnown tree ins outs.now k (context_of (graph_tree graph.now) base.now scope.now) accesses.now → AreOutward (context_of (graph_tree graph.now) base.now scope.now) outs.now → fault ≡ None → IsOver own machine.old → IsOver own machine.new) }
+    ensures done { IfOk result (λ fault. (here : Context) (tree : TaskletTree) (ins : List LinkNow) → IsSetUp tree ins outs.now code.now (given frame.old) here
+        → AreKnown tree ins outs.now k here (context_of (graph_tree graph.now) base.now scope.now) accesses.now → IsDone (instance_work here tree ins outs.now) machine.old fault machine.new) }
+    ensures own { IfOk result (λ fault. (here : Context) (tree : TaskletTree) (ins : List LinkNow) (own : Memory) → IsSetUp tree ins outs.now code.now (given frame.old) here
+        → AreKnown tree ins outs.now k here (context_of (graph_tree graph.now) base.now scope.now) accesses.now → AreOutward here outs.now → fault ≡ None → IsOver own machine.old → IsOver own machine.new) }
     ensures ready { OnOk result (IsReady code.now frame.new) }
     ensures room { OnOk result (HasRoom (length accesses.now.reads.items) (length accesses.now.variables.items) (given frame.new)) }
     ensures extents { OnOk result ((given frame.new).extents ≡ (given frame.old).extents) }

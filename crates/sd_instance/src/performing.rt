@@ -1,5 +1,5 @@
 //! What the effects of a tasklet do, where their targets are known.
-ghost use Rattle.std.specs.Prelude.{◌≡◌, ◌∷◌, [], List, map, length, Some, slice_get, IfOk};
+ghost use Rattle.std.specs.Prelude.{◌≡◌, ◌∷◌, [], List, map, length, Some, None, nat_lt, if◌then◌else◌, slice_get, IfOk};
 ghost use Rattle.sd_graph.specs.TreeFold.{graph_tree};
 ghost use Rattle.sd_graph.specs.TaskletMeaning.{Inputs, extents_of_connector};
 ghost use Rattle.sd_graph.specs.Context.{Context, link_extents};
@@ -10,14 +10,16 @@ ghost use Rattle.sd_scope.specs.Standing.{context_of};
 ghost use Rattle.sd_leaves.specs.Done.{IsDone, performing};
 ghost use Rattle.sd_leaves.specs.Given.{pending_told};
 ghost use Rattle.sd_instance.specs.declared.target.Target.{Target as TargetNow};
-ghost use Rattle.sd_instance.specs.Known.{IsTarget, AreTargets};
+ghost use Rattle.sd_instance.specs.Known.{IsTarget, AreTargets, place_below, pending_among};
 
 use crate::target::Target;
 use sd_graph::{FaultKind, Link, Sdfg};
 use sd_leaves::perform_effect;
 use sd_list::NoMemory;
 use sd_machine::Machine;
+use sd_num::Resolution;
 use sd_range::Dim;
+use sd_row::Track;
 use sd_scope::{Base, Scope};
 use sd_tasklet::Effect;
 use std::alloc::Global;
@@ -35,6 +37,53 @@ fn range_count(dims: &[Dim]) -> usize
     count
 }
 
+/// The one number of an effect's place, where it is below a bound.
+#[inline(always)]
+fn place_below(effect: Effect, dimensions: usize, count: u32) -> Option<u32>
+    ensures { (inputs : Inputs) → dimensions ≡ length (extents_of_connector inputs effect.connector) → result ≡ place_below count (told inputs effect).at }
+{
+    if dimensions != 1 {
+        return None;
+    }
+    number_below(effect.at[0], count)
+}
+
+/// A number, where it is below a bound.
+#[inline(always)]
+fn number_below(number: u64, count: u32) -> Option<u32>
+    ensures { result ≡ (if nat_lt number count then Some number else None) }
+{
+    let small = u32::try_from(number).ok()?;
+    if small < count { Some(small) } else { None }
+}
+
+/// Performs an effect at a place among so many on a track; at another place its element is looked up.
+#[inline(always)]
+fn perform_among(
+    alloc: Global,
+    by: Option<Resolution>,
+    to: Track,
+    count: u32,
+    effect: Effect,
+    link: &Link,
+    graph: &Sdfg,
+    base: &Base,
+    scope: &Scope,
+    machine: &mut Machine,
+) -> Result<Option<FaultKind>, NoMemory>
+    ensures { IfOk result (λ fault. (here : Context) (inputs : Inputs) → extents_of_connector inputs effect.connector ≡ link_extents here link.now
+        → IsDone (performing (pending_among by to (context_of (graph_tree graph.now) base.now scope.now) link.now (told inputs effect) (place_below count (told inputs effect).at) ∷ [])) machine.old fault machine.new) }
+{
+    let dimensions = range_count(link.memlet.subset.dims.as_slice());
+    match place_below(effect, dimensions, count) {
+        Some(place) => {
+            machine.write(to.cell(place), by, effect.value);
+            Ok(None)
+        }
+        None => perform_effect(alloc, effect, dimensions, link, graph, base, scope, machine),
+    }
+}
+
 /// Performs an effect through a link that leads to this target at a point.
 #[inline(always)]
 fn perform_to(
@@ -48,9 +97,9 @@ fn perform_to(
     scope: &Scope,
     machine: &mut Machine,
 ) -> Result<Option<FaultKind>, NoMemory>
-    ensures { IfOk result (λ fault. (inputs : Inputs) → IsTarget k (context_of (graph_tree graph.now) base.now scope.now) link.now target
-        → extents_of_connector inputs effect.connector ≡ link_extents (context_of (graph_tree graph.now) base.now scope.now) link.now
-        → IsDone (performing (pending_through (context_of (graph_tree graph.now) base.now scope.now) link.now (told inputs effect) ∷ [])) machine.old fault machine.new) }
+    ensures { IfOk result (λ fault. (here : Context) (inputs : Inputs) → IsTarget k here (context_of (graph_tree graph.now) base.now scope.now) link.now target
+        → extents_of_connector inputs effect.connector ≡ link_extents here link.now
+        → IsDone (performing (pending_through here link.now (told inputs effect) ∷ [])) machine.old fault machine.new) }
 {
     match target {
         Target::Stream(station) => {
@@ -61,6 +110,9 @@ fn perform_to(
             machine.write(to.cell(k), by, effect.value);
             Ok(None)
         }
+        Target::Among(by, to, count) => perform_among(
+            alloc, by, to, count, effect, link, graph, base, scope, machine,
+        ),
         Target::Computed => {
             let dimensions = range_count(link.memlet.subset.dims.as_slice());
             perform_effect(alloc, effect, dimensions, link, graph, base, scope, machine)
@@ -93,8 +145,8 @@ fn perform(
     scope: &Scope,
     machine: &mut Machine,
 ) -> Result<Option<FaultKind>, NoMemory>
-    ensures { IfOk result (λ fault. (ins : List LinkNow) (given : Inputs) → AreTargets inputs ins outs.now given targets.now k (context_of (graph_tree graph.now) base.now scope.now)
-        → IsDone (performing (pending_told (context_of (graph_tree graph.now) base.now scope.now) given ins outs.now effect ∷ [])) machine.old fault machine.new) }
+    ensures { IfOk result (λ fault. (here : Context) (ins : List LinkNow) (given : Inputs) → AreTargets inputs ins outs.now given targets.now k here (context_of (graph_tree graph.now) base.now scope.now)
+        → IsDone (performing (pending_told here given ins outs.now effect ∷ [])) machine.old fault machine.new) }
 {
     let Some(number) = (effect.connector as usize).checked_sub(inputs) else {
         return Ok(Some(FaultKind::Subscript));
@@ -119,8 +171,8 @@ pub(crate) fn perform_all(
     scope: &Scope,
     machine: &mut Machine,
 ) -> Result<Option<FaultKind>, NoMemory>
-    ensures { IfOk result (λ fault. (ins : List LinkNow) (given : Inputs) → AreTargets inputs ins outs.now given targets.now k (context_of (graph_tree graph.now) base.now scope.now)
-        → IsDone (performing (map (pending_told (context_of (graph_tree graph.now) base.now scope.now) given ins outs.now) effects.now)) machine.old fault machine.new) }
+    ensures { IfOk result (λ fault. (here : Context) (ins : List LinkNow) (given : Inputs) → AreTargets inputs ins outs.now given targets.now k here (context_of (graph_tree graph.now) base.now scope.now)
+        → IsDone (performing (map (pending_told here given ins outs.now) effects.now)) machine.old fault machine.new) }
 {
     for effect in effects {
         match perform(

@@ -57,7 +57,7 @@ returns-in-Some-fault c pool held is over =
       code = subst (IsCodeOf pool.tree) (sym c.loop.invariant.code) is.set.code;
       extents = c.loop.invariant.extents ∙ is.set.extents;
     } in
-    let done = c.in_ok-fault.ensures.done pool.tree pool.ins set is.known in
+    let done = c.in_ok-fault.ensures.done context pool.tree pool.ins set is.known in
     subst (λ (v : ℤ). IsEnd (pool_coming pool (below c.args.machine.now)) (below c.args.machine.now) (ends.Fault (place_at (inside pool v) pool.line) c.in-Some-fault.kind) (below c.run_instance.new.machine)) (sym (to_z-of_z w64 value fits))
     (value_fails pool held_now.0 (below c.args.machine.now) c.loop.machine c.take.new.self c.args.from c.take.result is.level is.container held_now.1 c.take.ensures.memories c.take.ensures.turns c.take.ensures.oldest
     (c.loop.invariant.left pool held is over) value c.in-Some.is put fits c.args.element is.same_element put_is c.write.ensures.turns c.pay.new.self c.run_instance.new.machine context c.args.outs.now is.first is.stands is.same_outs c.pay.ensures.memories (c.if-not-pay.ensures.paid (search rules))
@@ -77,7 +77,7 @@ loop-preserved c = record {
         code = subst (IsCodeOf pool.tree) (sym c.loop.invariant.code) is.set.code;
         extents = c.loop.invariant.extents ∙ is.set.extents;
       } in
-      let done = c.in_ok-fault.ensures.done pool.tree pool.ins set is.known in
+      let done = c.in_ok-fault.ensures.done context pool.tree pool.ins set is.known in
       value_done pool held_now.0 (below c.args.machine.now) c.loop.machine c.take.new.self c.args.from c.take.result is.level is.container held_now.1 c.take.ensures.memories c.take.ensures.turns c.take.ensures.oldest
       (c.loop.invariant.left pool held is over) value c.in-Some.is put fits c.args.element is.same_element put_is c.write.ensures.turns c.pay.new.self c.run_instance.new.machine context c.args.outs.now is.first is.stands is.same_outs c.pay.ensures.memories (c.if-not-pay.ensures.paid (search rules))
       c.in_ok-fault.fault (search rules) done;
@@ -95,7 +95,7 @@ loop-preserved c = record {
       } in
       let own = over_kept (pool_memory pool value) put c.pay.new.self c.pay.ensures.memories (over_put pool held_now.0 (below c.args.machine.now) c.loop.machine c.take.new.self c.args.from c.take.result is.level is.container held_now.1 c.take.ensures.memories c.take.ensures.turns c.take.ensures.oldest
       (c.loop.invariant.left pool held is over) value c.in-Some.is put fits c.args.element is.same_element put_is c.write.ensures.turns) in
-      (value, c.in_ok-fault.ensures.own pool.tree pool.ins (pool_memory pool value) set is.known is.outward (search rules) own);
+      (value, c.in_ok-fault.ensures.own context pool.tree pool.ins (pool_memory pool value) set is.known is.outward (search rules) own);
   code = c.loop.invariant.code;
   ready = c.in_ok-fault.ensures.ready;
   room = c.in_ok-fault.ensures.room;

@@ -6,7 +6,7 @@ use Rattle.sd_work.specs.Change.{write, push, apply}
 use Rattle.sd_work.specs.Leaf.{Pending}
 use Rattle.sd_graph.specs.TreeFold.{graph_tree}
 use Rattle.sd_graph.specs.TaskletMeaning.{Inputs, extents_of_connector}
-use Rattle.sd_graph.specs.Context.{link_extents}
+use Rattle.sd_graph.specs.Context.{Context, link_extents}
 use Rattle.sd_graph.specs.Unfold.{pending_through}
 use Rattle.sd_tasklet.specs.Kept.{told}
 use Rattle.sd_scope.specs.Standing.{context_of}
@@ -15,12 +15,12 @@ use Rattle.sd_leaves.proofs.Doing.{write_goes, push_goes}
 use Rattle.sd_leaves.proofs.Lists.{on_ok}
 use Rattle.sd_row.specs.Row.{reference_on}
 use Rattle.sd_instance.specs.declared.target.Target.{Target}
-use Rattle.sd_instance.specs.Known.{pending_to, IsTarget}
+use Rattle.sd_instance.specs.Known.{place_below, pending_among, pending_to, IsTarget}
 use Rattle.sd_instance.proofs.performing.perform_to.Goals as goal
 
 pub returns-in_ok-push-in-Stream : goal.returns-in_ok-push-in-Stream
-returns-in_ok-push-in-Stream c inputs target extents =
-    let context = context_of (graph_tree c.args.graph.now) c.args.base.now c.args.scope.now in
+returns-in_ok-push-in-Stream c here inputs target extents =
+    let standing = context_of (graph_tree c.args.graph.now) c.args.base.now c.args.scope.now in
     let effect = c.args.effect in
     let station = c.in-Stream.station in
     let now = c.args.machine.now in
@@ -29,12 +29,12 @@ returns-in_ok-push-in-Stream c inputs target extents =
     let same : after.memories ≡ apply (push station.level station.container effect.value) now.memories =
     c.in_ok-push-in-Stream.ensures.memories ∙ ap (λ value. apply (push station.level station.container value) now.memories) (to_z-of_z w64 effect.value fits) in
     subst (λ (todo : Pending). IsDone (performing (todo ∷ [])) now None after)
-    (sym (target (told inputs effect) ∙ ap (λ (t : Target). pending_to t c.args.k context c.args.link.now (told inputs effect)) c.in-Stream.is))
+    (sym (target (told inputs effect) ∙ ap (λ (t : Target). pending_to t c.args.k standing c.args.link.now (told inputs effect)) c.in-Stream.is))
     (push_goes station.level station.container effect.value now after same c.in_ok-push-in-Stream.ensures.turns)
 
 pub returns-in-Element : goal.returns-in-Element
-returns-in-Element c inputs target extents =
-    let context = context_of (graph_tree c.args.graph.now) c.args.base.now c.args.scope.now in
+returns-in-Element c here inputs target extents =
+    let standing = context_of (graph_tree c.args.graph.now) c.args.base.now c.args.scope.now in
     let effect = c.args.effect in
     let by = c.in-Element.by in
     let to : Reference = reference_on c.in-Element.to c.args.k in
@@ -45,15 +45,36 @@ returns-in-Element c inputs target extents =
     c.write.ensures.memories ∙ ap (λ (r : Reference). apply (write r by (to_z w64 (of_z w64 effect.value))) now.memories) c.cell.ensures
     ∙ ap (λ value. apply (write to by value) now.memories) (to_z-of_z w64 effect.value fits) in
     subst (λ (todo : Pending). IsDone (performing (todo ∷ [])) now None after)
-    (sym (target (told inputs effect) ∙ ap (λ (t : Target). pending_to t c.args.k context c.args.link.now (told inputs effect)) c.in-Element.is))
+    (sym (target (told inputs effect) ∙ ap (λ (t : Target). pending_to t c.args.k standing c.args.link.now (told inputs effect)) c.in-Element.is))
     (write_goes by now effect.value to after same c.write.ensures.turns)
+
+pub returns-in-Among : goal.returns-in-Among
+returns-in-Among c =
+    let standing = context_of (graph_tree c.args.graph.now) c.args.base.now c.args.scope.now in
+    let effect = c.args.effect in
+    let link = c.args.link.now in
+    let by = c.in-Among.by in
+    let to = c.in-Among.to in
+    let count = c.in-Among.count in
+    let after = c.perform_among.new.machine in
+    on_ok (λ fault. (here : Context) (inputs : Inputs) → extents_of_connector inputs effect.connector ≡ link_extents here link →
+    IsDone (performing (pending_among by to standing link (told inputs effect) (place_below count (told inputs effect).at) ∷ [])) c.args.machine.now fault after)
+    (λ fault. (here : Context) (inputs : Inputs) → IsTarget c.args.k here standing link c.args.target → extents_of_connector inputs effect.connector ≡ link_extents here link →
+    IsDone (performing (pending_through here link (told inputs effect) ∷ [])) c.args.machine.now fault after) c.perform_among.result
+    (λ fault done here inputs target extents.
+    subst (λ (todo : Pending). IsDone (performing (todo ∷ [])) c.args.machine.now fault after)
+    (sym (target (told inputs effect) ∙ ap (λ (t : Target). pending_to t c.args.k standing link (told inputs effect)) c.in-Among.is))
+    (done here inputs extents)) c.perform_among.ensures
 
 pub returns-in-Computed : goal.returns-in-Computed
 returns-in-Computed c =
-    let context = context_of (graph_tree c.args.graph.now) c.args.base.now c.args.scope.now in
+    let standing = context_of (graph_tree c.args.graph.now) c.args.base.now c.args.scope.now in
     let effect = c.args.effect in
     let link = c.args.link.now in
-    let ends : Inputs → Option FaultKind → Type 0 = λ inputs fault. IsDone (performing (pending_through context link (told inputs effect) ∷ [])) c.args.machine.now fault c.perform_effect.new.machine in
-    on_ok (λ fault. (inputs : Inputs) → c.range_count-dimensions.result ≡ length (extents_of_connector inputs effect.connector) → ends inputs fault)
-    (λ fault. (inputs : Inputs) → IsTarget c.args.k context link c.args.target → extents_of_connector inputs effect.connector ≡ link_extents context link → ends inputs fault) c.perform_effect.result
-    (λ fault done inputs target extents. done inputs (c.range_count-dimensions.ensures context link (sym c.as_slice.ensures) ∙ ap length (sym extents))) c.perform_effect.ensures
+    let ends : Context → Inputs → Option FaultKind → Type 0 = λ here inputs fault. IsDone (performing (pending_through here link (told inputs effect) ∷ [])) c.args.machine.now fault c.perform_effect.new.machine in
+    on_ok (λ fault. (inputs : Inputs) → c.range_count-dimensions.result ≡ length (extents_of_connector inputs effect.connector) → ends standing inputs fault)
+    (λ fault. (here : Context) (inputs : Inputs) → IsTarget c.args.k here standing link c.args.target → extents_of_connector inputs effect.connector ≡ link_extents here link → ends here inputs fault) c.perform_effect.result
+    (λ fault done here inputs target extents.
+    subst (λ (todo : Pending). IsDone (performing (todo ∷ [])) c.args.machine.now fault c.perform_effect.new.machine)
+    (sym (target (told inputs effect) ∙ ap (λ (t : Target). pending_to t c.args.k standing link (told inputs effect)) c.in-Computed.is))
+    (done inputs (c.range_count-dimensions.ensures here link (sym c.as_slice.ensures) ∙ ap length (sym extents)))) c.perform_effect.ensures

@@ -7,7 +7,8 @@ use Rattle.sd_instance.specs.Fit.{IsRunner}
 use Rattle.sd_instance.specs.Known.{AreKnown, AreOutward}
 use Rattle.sd_instance.proofs.Matched.{found_so}
 use Rattle.sd_consume.specs.Pool.{pool_of, inside}
-use Rattle.sd_consume.proofs.Pools.{room_known, level_inside, container_inside, outward}
+use Rattle.sd_instance.proofs.Given.{room_known}
+use Rattle.sd_consume.proofs.Pools.{level_inside, container_inside, outward}
 use Rattle.sd_consume.proofs.setup.Setup.of.Goals as goal
 
 pub returns-clause-room : goal.returns-clause-room
@@ -15,8 +16,8 @@ returns-clause-room c =
     let tree = tasklet_tree c.args.tasklet.now in
     let here = context_of (graph_tree c.args.graph.now) c.args.base.now c.in_ok-inner.inner in
     let runner : IsRunner tree c.args.ins.now c.args.outs.now c.in-Some.runner.code c.in-Some.runner.frame = found_so _ c.in_ok-runner.field-0 c.in-Some.runner c.in-Some.is c.in_ok-runner.ensures.runner in
-    let known : AreKnown tree c.args.ins.now c.args.outs.now 0 here c.in-Some-2.accesses = found_so _ c.in_ok-accesses.field-0 c.in-Some-2.accesses c.in-Some-2.is c.in_ok-accesses.ensures in
-    room_known tree c.args.ins.now c.args.outs.now 0 here c.in-Some-2.accesses _ known runner.room
+    let known : AreKnown tree c.args.ins.now c.args.outs.now 0 here here c.in-Some-2.accesses = found_so _ c.in_ok-accesses.field-0 c.in-Some-2.accesses c.in-Some-2.is c.in_ok-accesses.ensures in
+    room_known tree c.args.ins.now c.args.outs.now 0 here here c.in-Some-2.accesses _ known runner.room
 
 pub returns-clause-pool : goal.returns-clause-pool
 returns-clause-pool c line =
