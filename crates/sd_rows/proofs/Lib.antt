@@ -1,6 +1,9 @@
+pub mod Free
 pub mod Fresh
 pub mod Gaps
+pub mod KeptSteps
 pub mod Matched
+pub mod PlacesOfRange
 pub mod Points
 pub mod RowEnds
 pub mod RowsOfMap

@@ -1,6 +1,5 @@
 -- The elements of links at the points of a row.
-use Rattle.std.proofs.Common.{◌≡◌, ℕ, zero, suc, ◌≤◌, ◌-◌, ℤ, pos, List, [], ◌∷◌, ◌++◌, map, length, Option, Some, None, option_map, true, false, slice_get, unsigned_abs, nat_lt, if◌then◌else◌, refl, sym, ap, ◌∙◌, arith}
-use Rattle.std.specs.List.{AllByRecursion}
+use Rattle.std.proofs.Common.{◌≡◌, ℕ, zero, suc, ◌≤◌, ◌-◌, ℤ, pos, List, [], ◌∷◌, ◌++◌, length, Some, None, option_map, false, slice_get, unsigned_abs, nat_lt, if◌then◌else◌, refl, sym, ap, ◌∙◌, arith}
 use Rattle.std.proofs.lemmas.Bool.Decides.{nat_tests}
 use Rattle.sd_range.specs.declared.range.Range.{Range}
 use Rattle.sd_range.specs.Affine.{variable_value}
@@ -8,9 +7,10 @@ use Rattle.sd_range.specs.Variables.{with_variable, with_variables}
 use Rattle.sd_work.specs.Memory.{Reference}
 use Rattle.sd_work.specs.Leaf.{write_value, push_to}
 use Rattle.sd_graph.specs.PlainTree.{TaskletTree, GraphTree}
+use Rattle.sd_graph.specs.TreeFold.{graph_tree}
 use Rattle.sd_graph.specs.ContainerParts.{container_at, is_stream}
 use Rattle.sd_graph.specs.TaskletMeaning.{Effect}
-use Rattle.sd_graph.specs.Context.{Context, Reach, reference_at, link_element, link_elements, link_extents, index_at}
+use Rattle.sd_graph.specs.Context.{Context, Reach, reference_at, link_element, index_at}
 use Rattle.sd_graph.specs.Unfold.{assigned, pending_of, pending_by}
 use Rattle.sd_graph.specs.declared.link.Link.{Link}
 use Rattle.sd_machine.specs.Stack.{reference_of}
@@ -18,18 +18,18 @@ use Rattle.sd_machine.specs.declared.cell.Cell.{Cell}
 use Rattle.sd_scope.specs.Standing.{context_of}
 use Rattle.sd_scope.specs.declared.base.Base.{Base}
 use Rattle.sd_scope.specs.declared.scope.Scope.{Scope}
-use Rattle.sd_even.specs.Even.{spaced, is_scalar}
+use Rattle.sd_even.specs.Even.{spaced}
 use Rattle.sd_even.proofs.Distances.{spaced_first}
 use Rattle.sd_even.proofs.Reached.{even_within}
 use Rattle.sd_even.proofs.LastParameter.{values_at_last}
 use Rattle.sd_even.proofs.Row.{referred, to_element}
-use Rattle.sd_even.proofs.Scalar.{one_element, no_extents}
 use Rattle.sd_columns.specs.declared.spacing.Spaced.{Spaced}
 use Rattle.sd_rows.specs.declared.steps.Steps.{Steps}
-use Rattle.sd_row.specs.declared.track.Track.{Track}
 use Rattle.sd_columns.specs.Columns.{value_on}
 use Rattle.sd_row.specs.Row.{reference_on}
 use Rattle.sd_rows.specs.Along.{step_to, IsAlong, IsFromTo, IsLast, row_of}
+use Rattle.sd_rows.specs.Map.{tree_of, row_at}
+use Rattle.sd_rows.specs.declared.map.TaskMap.{TaskMap}
 
 -- the points of a row stand along it
 pub along_row : (program : GraphTree) (base : Base) (scope : Scope) (tree : TaskletTree) (ins outs : List Link) (line : ℕ) (params outer : List (ℕ × Range)) (private : List ℕ) (row : List ℤ) (steps : Steps) →
@@ -41,6 +41,16 @@ along_row program base scope tree ins outs line params outer private row steps l
   reach = λ k. refl;
   containers = λ k. refl;
   even = λ number. even_within program base scope private number;
+}
+
+-- and so they do from the first one to the last one
+pub way_along : (task : TaskMap) (outer : List (ℕ × Range)) (row : List ℤ) (steps : Steps) (gaps : ℕ) (begin end : Context) → IsLast task.params.now outer task.scope.now.values.values steps → length row ≡ length outer →
+    begin ≡ (row_at task row steps).context 0 → end ≡ (row_at task row steps).context gaps →
+    IsFromTo steps gaps begin end (with_variables (assigned outer row) task.scope.now.values.values) (row_at task row steps).context
+way_along task outer row steps gaps begin end last many begins ends = record {
+  along = along_row (graph_tree task.graph.now) task.base.now task.scope.now (tree_of task) task.ins.now task.outs.now task.line task.params.now outer task.private.now row steps last many;
+  first = begins;
+  last = ends;
 }
 
 -- ---- one link

@@ -1,2 +1,5 @@
 pub mod Along
 pub mod Code
+pub mod Kept
+pub mod Map
+pub mod Still

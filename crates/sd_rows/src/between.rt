@@ -5,66 +5,55 @@ ghost use Rattle.std.specs.Bool.{⊤};
 ghost use Rattle.std.specs.List.{AllByRecursion};
 ghost use Rattle.sd_num.specs.Wrapped.{wrapped};
 ghost use Rattle.sd_range.specs.Affine.{variable_value};
-ghost use Rattle.sd_graph.specs.TreeFold.{graph_tree, tasklet_tree};
 ghost use Rattle.sd_graph.specs.Context.{Context, link_element};
 ghost use Rattle.sd_graph.specs.Unfold.{pending_of};
 ghost use Rattle.sd_tcode.specs.Outputs.{output_effects};
-ghost use Rattle.sd_scope.specs.Standing.{context_of};
 ghost use Rattle.sd_even.specs.Even.{is_scalar};
-ghost use Rattle.sd_graph.specs.declared.link.Link.{Link as LinkNow};
 ghost use Rattle.sd_rows.specs.declared.steps.Steps.{Steps as StepsNow};
 ghost use Rattle.sd_rows.specs.Along.{IsAlong, IsFromTo};
+ghost use Rattle.sd_rows.specs.Map.{tree_of, standing};
 ghost use Rattle.sd_columns.specs.Columns.{value_on};
 ghost use Rattle.sd_row.specs.Row.{IsAt, order_of, reference_on, write_on};
 
+use crate::map::TaskMap;
 use crate::spacing::spaced_between;
 use crate::steps::Steps;
 use sd_columns::Spaced;
-use sd_graph::{Link, Sdfg, Tasklet};
+use sd_graph::Link;
 use sd_instance::{element_of_variable, is_stream};
 use sd_list::NoMemory;
 use sd_range::Env;
 use sd_row::{Row, Track, Write};
-use sd_scope::{Base, Scope, link_cell};
+use sd_scope::{Scope, link_cell};
 use std::alloc::Global;
 
 /// The row between two scopes that stand at its ends, so many points apart; `None` where an access is outside at one of them.
 pub(crate) fn row_between(
     alloc: Global,
-    tasklet: &Tasklet,
-    ins: &[Link],
-    outs: &[Link],
+    task: &TaskMap<'_>,
     order: &[u32],
     steps: &Steps,
     gaps: u32,
-    graph: &Sdfg,
-    base: &Base,
     first: &Scope,
     last: &Scope,
 ) -> Result<Option<Row>, NoMemory>
-    requires scalars { AllByRecursion (λ link. is_scalar link.memlet.subset.dims ≡ true) (ins.now ++ outs.now) }
+    requires scalars { AllByRecursion (λ link. is_scalar link.memlet.subset.dims ≡ true) (task.now.ins.now ++ task.now.outs.now) }
     ensures order { IfOk result (λ row. MatchOption row ⊤ (λ row. order_of row ≡ order.now)) }
-    ensures reads { IfOk result (λ row. MatchOption row ⊤ (λ row. length row.reads.items ≡ length ins.now)) }
-    ensures variables { IfOk result (λ row. MatchOption row ⊤ (λ row. length row.variables.items ≡ length (tasklet_tree tasklet.now).variables)) }
+    ensures reads { IfOk result (λ row. MatchOption row ⊤ (λ row. length row.reads.items ≡ length task.now.ins.now)) }
+    ensures variables { IfOk result (λ row. MatchOption row ⊤ (λ row. length row.variables.items ≡ length (tree_of task.now).variables)) }
     ensures at { IfOk result (λ row. MatchOption row ⊤ (λ row. (values : List ℤ) (context : ℕ → Context)
-        → IsFromTo steps.now gaps (context_of (graph_tree graph.now) base.now first.now) (context_of (graph_tree graph.now) base.now last.now) values context → (k : ℕ) → k ≤ gaps → IsAt (tasklet_tree tasklet.now) ins.now outs.now row k (context k))) }
+        → IsFromTo steps.now gaps (standing task.now first.now) (standing task.now last.now) values context → (k : ℕ) → k ≤ gaps → IsAt (tree_of task.now) task.now.ins.now task.now.outs.now row k (context k))) }
 {
-    let Some(reads) = tracks_of(alloc, ins, gaps, graph, base, first, last)? else {
+    let Some(reads) = tracks_of(alloc, task, task.ins, gaps, first, last)? else {
         return Ok(None);
     };
-    let variables = values_of_variables(alloc, tasklet.variables.as_slice(), steps, &first.values)?;
-    let Some(writes) = writes_of(
+    let variables = values_of_variables(
         alloc,
-        order,
-        ins.len(),
-        outs,
-        gaps,
-        graph,
-        base,
-        first,
-        last,
-    )?
-    else {
+        task.tasklet.variables.as_slice(),
+        steps,
+        &first.values,
+    )?;
+    let Some(writes) = writes_of(alloc, task, order, gaps, first, last)? else {
         return Ok(None);
     };
     Ok(Some(Row {
@@ -75,22 +64,21 @@ pub(crate) fn row_between(
 }
 
 /// The track of a link of one element.
-fn track_of(
+pub(crate) fn track_of(
     alloc: Global,
+    task: &TaskMap<'_>,
     link: &Link,
     gaps: u32,
-    graph: &Sdfg,
-    base: &Base,
     first: &Scope,
     last: &Scope,
 ) -> Result<Option<Track>, NoMemory>
     ensures { IfOk result (λ track. MatchOption track ⊤ (λ track. (steps : StepsNow) (values : List ℤ) (context : ℕ → Context)
-        → IsFromTo steps gaps (context_of (graph_tree graph.now) base.now first.now) (context_of (graph_tree graph.now) base.now last.now) values context → (k : ℕ) → k ≤ gaps → link_element (context k) link.now [] ≡ Some (reference_on track k))) }
+        → IsFromTo steps gaps (standing task.now first.now) (standing task.now last.now) values context → (k : ℕ) → k ≤ gaps → link_element (context k) link.now [] ≡ Some (reference_on track k))) }
 {
-    let Some(begin) = link_cell(alloc, graph, base, first, link, &[])? else {
+    let Some(begin) = link_cell(alloc, task.graph, task.base, first, link, &[])? else {
         return Ok(None);
     };
-    let Some(end) = link_cell(alloc, graph, base, last, link, &[])? else {
+    let Some(end) = link_cell(alloc, task.graph, task.base, last, link, &[])? else {
         return Ok(None);
     };
     match spaced_between(begin.element, end.element, gaps) {
@@ -103,22 +91,21 @@ fn track_of(
 }
 
 /// The tracks of links of one element each.
-fn tracks_of(
+pub(crate) fn tracks_of(
     alloc: Global,
+    task: &TaskMap<'_>,
     links: &[Link],
     gaps: u32,
-    graph: &Sdfg,
-    base: &Base,
     first: &Scope,
     last: &Scope,
 ) -> Result<Option<Vec<Track>>, NoMemory>
     ensures tracks { IfOk result (λ tracks. MatchOption tracks ⊤ (λ tracks. (steps : StepsNow) (values : List ℤ) (context : ℕ → Context)
-        → IsFromTo steps gaps (context_of (graph_tree graph.now) base.now first.now) (context_of (graph_tree graph.now) base.now last.now) values context → (k : ℕ) → k ≤ gaps → map (λ link. link_element (context k) link []) links.now ≡ map (λ track. Some (reference_on track k)) tracks.items)) }
+        → IsFromTo steps gaps (standing task.now first.now) (standing task.now last.now) values context → (k : ℕ) → k ≤ gaps → map (λ link. link_element (context k) link []) links.now ≡ map (λ track. Some (reference_on track k)) tracks.items)) }
     ensures count { IfOk result (λ tracks. MatchOption tracks ⊤ (λ tracks. length tracks.items ≡ length links.now)) }
 {
     let mut tracks = Vec::with_capacity(alloc, links.len())?;
     for link in links {
-        let Some(track) = track_of(alloc, link, gaps, graph, base, first, last)? else {
+        let Some(track) = track_of(alloc, task, link, gaps, first, last)? else {
             return Ok(None);
         };
         tracks.push(track)?;
@@ -127,7 +114,7 @@ fn tracks_of(
 }
 
 /// The values of a tasklet's variables.
-fn values_of_variables(
+pub(crate) fn values_of_variables(
     alloc: Global,
     variables: &[u32],
     steps: &Steps,
@@ -164,24 +151,20 @@ fn value_of_variable(variable: u32, steps: &Steps, first: &Env) -> Spaced
 /// The writes of the outputs in this order.
 fn writes_of(
     alloc: Global,
+    task: &TaskMap<'_>,
     order: &[u32],
-    ins: usize,
-    outs: &[Link],
     gaps: u32,
-    graph: &Sdfg,
-    base: &Base,
     first: &Scope,
     last: &Scope,
 ) -> Result<Option<Vec<Write>>, NoMemory>
     ensures order { IfOk result (λ writes. MatchOption writes ⊤ (λ writes. map (λ write. write.connector) writes.items ≡ order.now)) }
     ensures at { IfOk result (λ writes. MatchOption writes ⊤ (λ writes. (steps : StepsNow) (values : List ℤ) (context : ℕ → Context)
-        → IsFromTo steps gaps (context_of (graph_tree graph.now) base.now first.now) (context_of (graph_tree graph.now) base.now last.now) values context → (k : ℕ) → k ≤ gaps
-        → (links : List LinkNow) → length links ≡ ins → (value : ℕ → ℤ) → map (pending_of (context k) links outs.now) (output_effects value order.now) ≡ map (write_on value k) writes.items)) }
+        → IsFromTo steps gaps (standing task.now first.now) (standing task.now last.now) values context → (k : ℕ) → k ≤ gaps
+        → (value : ℕ → ℤ) → map (pending_of (context k) task.now.ins.now task.now.outs.now) (output_effects value order.now) ≡ map (write_on value k) writes.items)) }
 {
     let mut writes = Vec::with_capacity(alloc, order.len())?;
     for connector in order {
-        let Some(write) = write_of(alloc, *connector, ins, outs, gaps, graph, base, first, last)?
-        else {
+        let Some(write) = write_of(alloc, task, *connector, gaps, first, last)? else {
             return Ok(None);
         };
         writes.push(write)?;
@@ -192,30 +175,27 @@ fn writes_of(
 /// The write of an output; `None` where it is pushed into a stream.
 fn write_of(
     alloc: Global,
+    task: &TaskMap<'_>,
     connector: u32,
-    ins: usize,
-    outs: &[Link],
     gaps: u32,
-    graph: &Sdfg,
-    base: &Base,
     first: &Scope,
     last: &Scope,
 ) -> Result<Option<Write>, NoMemory>
     ensures connector { IfOk result (λ write. MatchOption write ⊤ (λ write. write.connector ≡ connector)) }
     ensures at { IfOk result (λ write. MatchOption write ⊤ (λ write. (steps : StepsNow) (values : List ℤ) (context : ℕ → Context)
-        → IsFromTo steps gaps (context_of (graph_tree graph.now) base.now first.now) (context_of (graph_tree graph.now) base.now last.now) values context → (k : ℕ) → k ≤ gaps
-        → (links : List LinkNow) → length links ≡ ins → (value : ℕ → ℤ) → pending_of (context k) links outs.now (record { connector = connector; at = []; value = value connector }) ≡ write_on value k write)) }
+        → IsFromTo steps gaps (standing task.now first.now) (standing task.now last.now) values context → (k : ℕ) → k ≤ gaps
+        → (value : ℕ → ℤ) → pending_of (context k) task.now.ins.now task.now.outs.now (record { connector = connector; at = []; value = value connector }) ≡ write_on value k write)) }
 {
-    let Some(output) = (connector as usize).checked_sub(ins) else {
+    let Some(output) = (connector as usize).checked_sub(task.ins.len()) else {
         return Ok(None);
     };
-    let Some(link) = outs.get(output) else {
+    let Some(link) = task.outs.get(output) else {
         return Ok(None);
     };
-    if is_stream(graph, link.memlet.container) {
+    if is_stream(task.graph, link.memlet.container) {
         return Ok(None);
     }
-    match track_of(alloc, link, gaps, graph, base, first, last)? {
+    match track_of(alloc, task, link, gaps, first, last)? {
         Some(to) => Ok(Some(Write {
             connector,
             by: link.memlet.resolution,

@@ -3,7 +3,9 @@ ghost use Rattle.std.specs.Option.{MatchOption};
 ghost use Rattle.std.specs.Bool.{⊤};
 ghost use Rattle.sd_graph.specs.TreeFold.{tasklet_tree};
 ghost use Rattle.sd_rows.specs.Code.{IsInstance, AreColumnsOf, IsFit};
+ghost use Rattle.sd_rows.specs.Map.{tree_of};
 
+use crate::map::TaskMap;
 use sd_columns::Columns;
 use sd_compile::{compile, is_named};
 use sd_graph::{Link, Tasklet};
@@ -26,18 +28,16 @@ impl Instance {
     /// branches; `None` of another one.
     pub(crate) fn of(
         alloc: Global,
-        tasklet: &Tasklet,
-        ins: &[Link],
-        outs: &[Link],
+        task: &TaskMap<'_>,
         points: u32,
     ) -> Result<Option<Instance>, NoMemory>
         ensures columns { IfOk result (λ instance. MatchOption instance ⊤ (λ instance. AreColumnsOf instance.code instance.columns)) }
-        ensures instance { IfOk result (λ instance. MatchOption instance ⊤ (λ instance. IsInstance (tasklet_tree tasklet.now) ins.now outs.now instance.code instance.frame)) }
+        ensures instance { IfOk result (λ instance. MatchOption instance ⊤ (λ instance. IsInstance (tree_of task.now) task.now.ins.now task.now.outs.now instance.code instance.frame)) }
     {
-        if !is_for(tasklet, ins, outs) {
+        if !is_for(task.tasklet, task.ins, task.outs) {
             return Ok(None);
         }
-        let code = compile(alloc, tasklet)?;
+        let code = compile(alloc, task.tasklet)?;
         if code.plain().is_none() {
             return Ok(None);
         }

@@ -1,14 +1,12 @@
-ghost use Rattle.std.specs.Prelude.{◌≡◌, ◌<◌, ◌^◌, ◌∷◌, [], ◌++◌, ℤ, List, ℕ, IfOk, OnOk};
+ghost use Rattle.std.specs.Prelude.{◌≡◌, ◌<◌, ◌^◌, ◌∷◌, [], ◌++◌, IfOk, OnOk};
 ghost use Rattle.std.specs.Option.{MatchOption};
 ghost use Rattle.std.specs.Bool.{⊤};
 ghost use Rattle.sd_range.specs.Range.{range_values, counted_from};
-ghost use Rattle.sd_graph.specs.PlainTree.{GraphTree};
-ghost use Rattle.sd_graph.specs.Unfold.{at_point};
-ghost use Rattle.sd_scope.specs.Standing.{context_of, IsInside};
-ghost use Rattle.sd_scope.specs.declared.base.Base.{Base as BaseNow};
-ghost use Rattle.sd_even.specs.Even.{spaced};
+ghost use Rattle.sd_scope.specs.Standing.{IsInside};
 ghost use Rattle.sd_rows.specs.Along.{step_to};
+ghost use Rattle.sd_rows.specs.Map.{standing, row_at};
 
+use crate::map::TaskMap;
 use sd_list::NoMemory;
 use sd_range::{Env, Range};
 use sd_scope::{Scope, checked_points, value_of};
@@ -49,23 +47,21 @@ impl Steps {
         i128::from(self.first).checked_add(further).ok_or(NoMemory)
     }
 
-    /// Goes to the point of this number of a row of a map that stands in `outer`.
+    /// Goes to the point of this number of a row of a map.
     pub(crate) fn go_to(
         &self,
         alloc: Global,
+        task: &TaskMap<'_>,
         k: u32,
         inner: &mut Scope,
-        outer: &Scope,
-        params: &[(u32, Range)],
         row: &[i128],
     ) -> Result<(), NoMemory>
-        ensures inside { (private : List ℕ) → IsInside private outer.now inner.old → OnOk result (IsInside private outer.now inner.new) }
-        ensures context { (tree : GraphTree) (base : BaseNow) (private : List ℕ) → IsInside private outer.now inner.old
-            → OnOk result (context_of tree base inner.new ≡ at_point (context_of tree base outer.now) params.now private (row.now ++ step_to self.now k ∷ [])) }
+        ensures inside { IsInside task.now.private.now task.now.scope.now inner.old → OnOk result (IsInside task.now.private.now task.now.scope.now inner.new) }
+        ensures context { IsInside task.now.private.now task.now.scope.now inner.old → OnOk result (standing task.now inner.new ≡ (row_at task.now row.now self.now).context k) }
     {
         let value = self.value(k)?;
         let point = followed_by(alloc, row, value)?;
-        inner.at_point(alloc, outer, params, point.as_slice())
+        inner.at_point(alloc, task.scope, task.params, point.as_slice())
     }
 }
 

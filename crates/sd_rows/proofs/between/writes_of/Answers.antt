@@ -19,21 +19,21 @@ loop-connector-preserved c =
     let is = get_or_default order number _ _ c.loop-connector-test.true in
     let here = found_so _ c.in_ok-write.field-0 write c.in-Some.is c.in_ok-write.ensures.connector in
     record {
-      at = λ steps values context way k within links many value.
-          made_more (λ connector. pending_of (context k) links c.args.outs.now (record { connector = connector; at = []; value = value connector })) (write_on value k) order writes number member write c.loop-connector-test.true is
-          (c.loop-connector.invariant.at steps values context way k within links many value)
-          (found_so _ c.in_ok-write.field-0 write c.in-Some.is c.in_ok-write.ensures.at steps values context way k within links many value)
+      at = λ steps values context way k within value.
+          made_more (λ connector. pending_of (context k) c.args.task.now.ins.now c.args.task.now.outs.now (record { connector = connector; at = []; value = value connector })) (write_on value k) order writes number member write c.loop-connector-test.true is
+          (c.loop-connector.invariant.at steps values context way k within value)
+          (found_so _ c.in_ok-write.field-0 write c.in-Some.is c.in_ok-write.ensures.at steps values context way k within value)
           ∙ ap (map (write_on value k)) (sym items);
       order = made_more (λ connector. connector) (λ (write : Write). write.connector) order writes number member write c.loop-connector-test.true is c.loop-connector.invariant.order (sym here)
           ∙ ap (map (λ (write : Write). write.connector)) (sym items);
     }
 
 pub returns-clause-at : goal.returns-clause-at
-returns-clause-at c steps values context way k within links many value =
+returns-clause-at c steps values context way k within value =
     let order = c.args.order.now in
-    map-map (pending_of (context k) links c.args.outs.now) (λ connector. record { connector = connector; at = []; value = value connector }) order
-    ∙ made_whole (λ connector. pending_of (context k) links c.args.outs.now (record { connector = connector; at = []; value = value connector })) (write_on value k) order c.loop-connector.writes.items
-    c.loop-connector.connector-index c.loop-connector-test.false (c.loop-connector.invariant.at steps values context way k within links many value)
+    map-map (pending_of (context k) c.args.task.now.ins.now c.args.task.now.outs.now) (λ connector. record { connector = connector; at = []; value = value connector }) order
+    ∙ made_whole (λ connector. pending_of (context k) c.args.task.now.ins.now c.args.task.now.outs.now (record { connector = connector; at = []; value = value connector })) (write_on value k) order c.loop-connector.writes.items
+    c.loop-connector.connector-index c.loop-connector-test.false (c.loop-connector.invariant.at steps values context way k within value)
 
 pub returns-clause-order : goal.returns-clause-order
 returns-clause-order c =

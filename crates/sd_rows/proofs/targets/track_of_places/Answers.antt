@@ -1,0 +1,30 @@
+use Rattle.std.proofs.Common.{◌≡◌, ◌<◌, ℕ, pos, [], ◌∷◌, Some, option_map, sym, ap, ◌∙◌, arith, to_z, of_z}
+use Rattle.std.specs.Int.{w128}
+use Rattle.std.proofs.lemmas.Int.{to_z-of_z}
+use Rattle.sd_graph.specs.TreeFold.{graph_tree}
+use Rattle.sd_graph.specs.Context.{link_element}
+use Rattle.sd_machine.specs.Stack.{reference_of}
+use Rattle.sd_even.proofs.Reached.{even_standing}
+use Rattle.sd_row.specs.declared.track.Track.{Track}
+use Rattle.sd_row.specs.Row.{reference_on}
+use Rattle.sd_rows.specs.declared.targets.Places.{Places}
+use Rattle.sd_rows.specs.Map.{standing}
+use Rattle.sd_rows.proofs.Matched.{matched}
+use Rattle.sd_rows.proofs.PlacesOfRange.{on_places}
+use Rattle.sd_rows.proofs.targets.track_of_places.Goals as goal
+
+pub returns-in-Some-spaced_between : goal.returns-in-Some-spaced_between
+returns-in-Some-spaced_between c =
+    let task = c.args.task.now in
+    let link = c.args.link.now in
+    let here = standing task c.args.here.now in
+    let gaps = c.in-Some.gaps in
+    let number_is : to_z w128 (of_z w128 c.from.result) ≡ pos gaps = to_z-of_z w128 c.from.result (record { sfits = c.from.type_inv }) ∙ c.from.ensures in
+    let begins : Some (reference_of c.in-Some-2.begin) ≡ link_element here link (pos 0 ∷ []) = sym (ap (option_map reference_of) c.in-Some-2.is) ∙ c.in_ok-begin.ensures in
+    let ends : Some (reference_of c.in-Some-3.end) ≡ link_element here link (pos gaps ∷ []) =
+    sym (ap (option_map reference_of) c.in-Some-3.is) ∙ c.in_ok-end.ensures ∙ ap (λ number. link_element here link (number ∷ [])) number_is in
+    matched _ (λ (places : Places). (place : ℕ) → place < places.count → link_element here link (pos place ∷ []) ≡ Some (reference_on places.to place)) c.places_on.result
+    (λ places told place within.
+    on_places here link gaps (even_standing (graph_tree task.graph.now) task.base.now c.args.here.now link.memlet.container) c.in-Some-2.begin c.in-Some-3.end begins ends
+    c.in-Some-spaced_between.elements c.in-Some-spaced_between.ensures place (omega (arith, within, told.1))
+    ∙ ap (λ (to : Track). Some (reference_on to place)) (sym told.0)) c.places_on.ensures
