@@ -1,0 +1,3 @@
+pub mod AccessText
+pub mod CheckText
+pub mod RaceText
