@@ -59,7 +59,7 @@ all_fine (function ∷ above) known placed callable affine few joined plain = (
   all_fine above known.1 placed.1 callable.1 affine.1 few.1 joined.1 plain.1,
 )
 
-source_fine : (source : ProgramTree) → IsWellFormed source → IsJoinedWhole source → AreFitting (reverse source.functions)
+pub source_fine : (source : ProgramTree) → IsWellFormed source → IsJoinedWhole source → AreFitting (reverse source.functions)
 source_fine source well whole =
     all_fine (reverse source.functions) well.known well.placed well.calls (all_turned (EveryOf (EachBound IsAffine)) source.functions well.affine)
     (all_turned (EveryOf HasFewParameters) source.functions well.parameters) (all_turned (EveryOf IsJoined) source.functions whole.joined) (all_turned (EveryOf HasPlainElement) source.functions whole.plain)
@@ -74,10 +74,10 @@ graphs_turned symbols (function ∷ above) =
     ∙ ap (λ graphs. (function.name, function_graph symbols (graph_named graphs) function) ∷ graphs) (graphs_turned symbols above)
 
 -- that of these programs, the latest first
-abbrev graph_latest : (symbols : List Name) → List FunctionTree → GraphTree
+abbrev pub graph_latest : (symbols : List Name) → List FunctionTree → GraphTree
 graph_latest symbols functions = latest (graphs_latest symbols functions)
 
-graph_turned : (source : ProgramTree) → graph_of source ≡ graph_latest source.symbols (reverse source.functions)
+pub graph_turned : (source : ProgramTree) → graph_of source ≡ graph_latest source.symbols (reverse source.functions)
 graph_turned source =
     ap (λ functions. latest (graphs_with source.symbols [] functions)) (sym (reverse-reverse source.functions))
     ∙ ap latest (graphs_turned source.symbols (reverse source.functions))
@@ -120,16 +120,26 @@ sizes_kept symbols function above sizes =
 abbrev Runs : GraphTree → (sizes : List ℤ) → Memory → (turns : ℕ) → Outcome Place Left → Type 0
 Runs tree sizes memory turns outcome = (least : ℕ) × ((more : ℕ) → big_run (sized_run sizes tree memory) (least + more) turns ≡ Some outcome)
 
+-- the size symbols with their values
+abbrev pub named_sizes : (symbols : List Name) → NamedSizes → Named ℤ
+named_sizes symbols sizes = map (λ symbol. (symbol, unwrap_or (in_force sizes symbol) (pos 0))) symbols
+
+pub values_latest : (symbols : List Name) (function : FunctionTree) (above : List FunctionTree) (sizes : NamedSizes) → values_of (named_sizes symbols sizes) ≡ sizes_in sizes (graph_latest symbols (function ∷ above))
+values_latest symbols function above sizes = values_kept symbols sizes ∙ sym (sizes_kept symbols function above sizes)
+
+pub tree_latest : (symbols : List Name) (function : FunctionTree) (above : List FunctionTree) (sizes : NamedSizes) → source_graph (named_sizes symbols sizes) (function ∷ above) ≡ graph_latest symbols (function ∷ above)
+tree_latest symbols function above sizes =
+    sym (latest_graph (named_sizes symbols sizes) (function ∷ above)) ∙ ap (λ symbols. graph_latest symbols (function ∷ above)) (symbols_kept symbols sizes)
+
 latest_runs : (symbols : List Name) (functions : List FunctionTree) → AreFitting functions → (sizes : NamedSizes) → HasExtentsThroughout (sizes_in sizes (graph_latest symbols functions)) (graph_latest symbols functions) →
     (most : ℕ) (memory : Memory) (turns : ℕ) (outcome : Outcome Place Left) →
-    left_by (says_last (map (λ symbol. (symbol, unwrap_or (in_force sizes symbol) (pos 0))) symbols) functions most (memory ∷ []) turns) ≡ Some outcome →
+    left_by (says_last (named_sizes symbols sizes) functions most (memory ∷ []) turns) ≡ Some outcome →
     Runs (graph_latest symbols functions) (sizes_in sizes (graph_latest symbols functions)) memory turns outcome
 latest_runs symbols [] fine sizes sized most memory turns outcome says = source_follows [] [] fine sized most memory turns outcome says
 latest_runs symbols (function ∷ above) fine sizes sized most memory turns outcome says =
-    let named : Named ℤ = map (λ symbol. (symbol, unwrap_or (in_force sizes symbol) (pos 0))) symbols in
-    let values : values_of named ≡ sizes_in sizes (graph_latest symbols (function ∷ above)) = values_kept symbols sizes ∙ sym (sizes_kept symbols function above sizes) in
-    let tree : source_graph named (function ∷ above) ≡ graph_latest symbols (function ∷ above) =
-    sym (latest_graph named (function ∷ above)) ∙ ap (λ symbols. graph_latest symbols (function ∷ above)) (symbols_kept symbols sizes) in
+    let named : Named ℤ = named_sizes symbols sizes in
+    let values = values_latest symbols function above sizes in
+    let tree = tree_latest symbols function above sizes in
     subst (λ values. Runs (graph_latest symbols (function ∷ above)) values memory turns outcome) values
     (subst (λ tree. Runs tree (values_of named) memory turns outcome) tree
     (source_follows named (function ∷ above) fine

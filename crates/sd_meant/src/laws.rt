@@ -9,12 +9,11 @@ ghost use Rattle.sd_graph.specs.Unfold.{run_of};
 ghost use Rattle.sd_graph.specs.declared.place.Place.{Place};
 ghost use Rattle.sd_valid.specs.SizeValues.{NamedSizes};
 ghost use Rattle.sd_valid.specs.Binding.{binding};
-ghost use Rattle.sd_program.specs.Every.{Everywhere};
 ghost use Rattle.sd_program.specs.WellFormed.{IsWellFormed};
 ghost use Rattle.sd_source.specs.SourceReading.{reads};
 ghost use Rattle.sd_elab.specs.Elaboration.{graph_of};
 ghost use Rattle.sd_says.specs.Says.{Says};
-ghost use Rattle.sd_tie_programs.specs.Joined.{HasPlainElement, IsJoinedWhole};
+ghost use Rattle.sd_tie_programs.specs.Joined.{IsJoinedWhole};
 
 /// The graph of a program, bound to sizes, does what its source says, over each memory and with each
 /// number of turns: the sequential run of the graph ends as is said, with the same memory and turns, the
@@ -34,13 +33,12 @@ pub fn a_graph_does_what_its_source_says()
 {}
 
 /// The graph of a text that is read to a program, bound to sizes, does what the program says, over each
-/// memory and with each number of turns, where no name of a consume scope's element has a `$`: what is
-/// said is run, and what is run is said.
+/// memory and with each number of turns: what is said is run, and what is run is said.
 pub fn a_graph_does_what_its_text_says()
     ensures said { (text : List ℕ) (program : ProgramTree) (sizes : NamedSizes) (bound : GraphTree) (memory : Memory) (turns : ℕ) (outcome : Outcome Place Left)
-        → reads text ≡ Ok program → Everywhere HasPlainElement program → binding (graph_of program) sizes ≡ Ok bound
+        → reads text ≡ Ok program → binding (graph_of program) sizes ≡ Ok bound
         → Says program sizes memory turns outcome → Sequential (run_of bound memory) turns outcome }
     ensures run { (text : List ℕ) (program : ProgramTree) (sizes : NamedSizes) (bound : GraphTree) (memory : Memory) (turns : ℕ) (outcome : Outcome Place Left)
-        → reads text ≡ Ok program → Everywhere HasPlainElement program → binding (graph_of program) sizes ≡ Ok bound
+        → reads text ≡ Ok program → binding (graph_of program) sizes ≡ Ok bound
         → Sequential (run_of bound memory) turns outcome → Says program sizes memory turns outcome }
 {}

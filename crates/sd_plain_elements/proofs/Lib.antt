@@ -1,0 +1,5 @@
+pub mod Words
+pub mod Heads
+pub mod Contexts
+pub mod Lines
+pub mod Read
