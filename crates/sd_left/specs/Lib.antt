@@ -1,0 +1,3 @@
+pub use Rattle.sd_tree.specs.Standing
+pub mod Kept
+pub mod Waits
