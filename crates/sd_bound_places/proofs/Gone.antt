@@ -1,5 +1,5 @@
 -- In a bound graph no size symbol is left, and every extent is a constant.
-use Rattle.std.proofs.Common.{◌≡◌, ◌∙◌, ℕ, ◌<◌, ◌≤◌, nat_lt, ℤ, List, [], ◌∷◌, map, length, Bool, true, false, not, ◌&&◌, if◌then◌else◌, cond, Option, Some, None, option_map, slice_index_or, refl, sym, ap, subst, arith}
+use Rattle.std.proofs.Common.{◌≡◌, ℕ, ◌<◌, ◌≤◌, nat_lt, ℤ, List, [], ◌∷◌, map, length, Bool, true, false, not, ◌&&◌, if◌then◌else◌, cond, Option, Some, None, option_map, slice_index_or, refl, sym, subst, arith}
 use Rattle.std.specs.Prelude.{⊤}
 use Rattle.std.specs.List.{AllByRecursion, list_all}
 use Rattle.sd_range.specs.Affine.{variable_value}
@@ -8,17 +8,16 @@ use Rattle.sd_range.specs.declared.range.Range.{Range}
 use Rattle.sd_range.specs.declared.subset.Dim.{Dim}
 use Rattle.sd_range.specs.declared.subset.Dim.TheVariants.{Index, Span}
 use Rattle.sd_graph.specs.PlainTree.{ValueTree, literal, variable, local, input, one, two, choice, ValueTrees, no_value, and_value, ActTree, set_local, assign, branch, ActTrees, no_act, and_act, TaskletTree, KindTree, task, map_scope, consume_scope, nested_graph, reduction, copy, GraphTree, graph, GuardTree, ExitTree}
-use Rattle.sd_graph.specs.TreeParts.{containers_of}
 use Rattle.sd_graph.specs.ContainerParts.{Containers}
 use Rattle.sd_graph.specs.declared.link.Link.{Link}
 use Rattle.sd_valid.specs.BoundExpression.{terms_left, bound_affine, bound_range, bound_dim, bound_link, bound_assignment, bound_param}
-use Rattle.sd_valid.specs.BoundCode.{names_symbol, bound_variable, bound_value, bound_values, bound_act, bound_acts, bound_tasklet}
+use Rattle.sd_valid.specs.BoundCode.{bound_value, bound_values, bound_act, bound_acts, bound_tasklet}
 use Rattle.sd_valid.specs.BoundTree.{bound_guard, bound_exit, bound_entry, bound_kind, bound_graph}
 use Rattle.sd_validity.specs.GraphParts.{symbols_in}
 use Rattle.sd_validity.specs.Places.{Thing, whole, leaving, doing, Place, all_places, places_of}
 use Rattle.sd_validity.specs.Parts.{is_empty, Tests, is_range_passed, is_dim_passed, is_link_passed, are_links_passed, are_params_passed, is_condition_passed, is_exit_passed, is_kind_passed, is_thing_passed}
-use Rattle.sd_validity.specs.SizesGone.{is_free, is_value_free, are_values_free, is_act_free, are_acts_free, is_code_free, are_extents_constant, sizes_tests, rule_8}
-use Rattle.sd_validity.specs.Failing.{Holds, failing}
+use Rattle.sd_validity.specs.SizesGone.{is_value_free, are_values_free, is_act_free, are_acts_free, are_extents_constant, sizes_tests, rule_8}
+use Rattle.sd_validity.specs.Failing.{Holds}
 use Rattle.sd_bound_places.specs.BoundPlace.{bound_thing, bound_place}
 use Rattle.sd_bound_places.specs.SizedExtents.{NamesFirst, HasSizedExtents, HasSizedExtentsThroughout}
 use Rattle.sd_bound_places.proofs.EachPlace.{AtPlace, graph_places}

@@ -1,5 +1,5 @@
 -- The graph of each place is the one at its path.
-use Rattle.std.proofs.Common.{◌≡◌, ◌∙◌, ◌⊎◌, inl, inr, ℕ, zero, suc, ◌+◌, List, [], ◌∷◌, ◌++◌, Option, Some, None, refl, ap, sym, subst, arith, append_assoc, append-nil, zero-add, add-zero}
+use Rattle.std.proofs.Common.{◌≡◌, ◌∙◌, ◌⊎◌, inl, inr, ℕ, suc, ◌+◌, List, [], ◌∷◌, ◌++◌, Option, Some, refl, ap, sym, arith, append_assoc, append-nil, zero-add, add-zero}
 use Rattle.std.specs.List.{AllByRecursion}
 use Rattle.sd_graph.specs.PlainTree.{KindTree, task, map_scope, consume_scope, nested_graph, reduction, copy, ItemTrees, no_item, and_item, StateTrees, no_state, and_state, GraphTree, graph, ExitTree}
 use Rattle.sd_validity.specs.Places.{Place, Scopes, no_scopes, in_map, in_consume, further, item_place, state_place, graph_place, places_in, item_places, state_places, places_of, all_places}
