@@ -1,26 +1,21 @@
 -- The graph of a program with sizes that are not refused.
-use Rattle.std.proofs.Common.{◌≡◌, ◌∙◌, inl, inr, ℕ, ◌≤◌, ℤ, List, [], ◌∷◌, map, length, take, Option, Some, None, Result, Ok, Err, reverse, refl, ap, sym, subst, arith}
+use Rattle.std.proofs.Common.{◌≡◌, ℕ, List, [], ◌∷◌, Option, Some, None, Result, Ok, Err, reverse, subst}
 use Rattle.std.specs.Prelude.{⊤}
 use Rattle.std.specs.List.{AllByRecursion}
-use Rattle.std.proofs.lemmas.List.{length-map, length-take}
-use Rattle.sd_lex.specs.PlainTree.{StatementTree, FunctionTree, ProgramTree}
-use Rattle.sd_graph.specs.PlainTree.{GraphTree, graph}
-use Rattle.sd_graph.specs.ContainerParts.{Containers}
+use Rattle.sd_lex.specs.PlainTree.{FunctionTree, ProgramTree}
+use Rattle.sd_graph.specs.PlainTree.{GraphTree}
 use Rattle.sd_program.specs.Names.{Name}
-use Rattle.sd_program.specs.Place.{Place}
 use Rattle.sd_program.specs.WellFormed.{IsWellFormed}
 use Rattle.sd_elab.specs.Elaboration.{graph_of}
 use Rattle.sd_valid.specs.declared.error.BindError.{BindError}
 use Rattle.sd_valid.specs.declared.error.BindError.TheVariants.{MissingSize, BadSize}
-use Rattle.sd_valid.specs.SizeValues.{NamedSizes, symbols_of, first_name, has_no_size, has_bad_size, sizes_in, value_of_size}
+use Rattle.sd_valid.specs.SizeValues.{NamedSizes, symbols_of, first_name, has_no_size, has_bad_size, sizes_in}
 use Rattle.sd_valid.specs.BoundTree.{bound_graph}
 use Rattle.sd_valid.specs.Limits.{all_containers, tally}
 use Rattle.sd_valid.specs.Binding.{binding, unless_refused, within_limits, with_sizes}
-use Rattle.sd_validity.specs.GraphParts.{variables_of, symbols_in}
 use Rattle.sd_validity.specs.StreamUse.{rule_4}
-use Rattle.sd_validity.specs.SizesGone.{rule_8}
 use Rattle.sd_validity.specs.Failing.{Holds}
-use Rattle.sd_made_places.proofs.Made.{Fitting, IsWhole}
+use Rattle.sd_made_places.proofs.Made.{Fitting}
 use Rattle.sd_made_places.proofs.ProgramMade.{IsTold, program_told}
 use Rattle.sd_made_places.proofs.Givens.{fitting}
 use Rattle.sd_made_places.proofs.Streams.{streams_in_place}

@@ -1,11 +1,11 @@
 -- What is said of every statement of a program, and of every place, is said of each statement in its place.
-use Rattle.std.proofs.Common.{◌≡◌, List, [], ◌∷◌, ◌++◌, Bool, true, false, reverse, refl, subst, sym}
+use Rattle.std.proofs.Common.{List, [], ◌∷◌, ◌++◌, reverse, subst, sym}
 use Rattle.std.proofs.lemmas.Grind.{reverse_onto}
 use Rattle.std.specs.List.{AllByRecursion}
 use Rattle.sd_lex.specs.PlainTree.{StatementTree, map_scope, tasklet, consume_scope, for_loop, while_loop, branch, tasklet_branch, Block, no_statement, and_statement, FunctionTree, ProgramTree}
 use Rattle.sd_lex.specs.StatementKind.{has_connector}
 use Rattle.sd_program.specs.Every.{Every, EveryIn, EveryOf, Everywhere}
-use Rattle.sd_program.specs.Place.{Place, past, past_all, in_map, in_tasklet, in_loop, in_consume, in_signature, in_function, EveryAt, EveryFrom, EveryOfFunction, EveryFunction, EveryPlace}
+use Rattle.sd_program.specs.Place.{Place, past, past_all, in_map, in_tasklet, in_loop, in_consume, in_signature, in_function, EveryAt, EveryFrom, EveryFunction, EveryPlace}
 use Rattle.sd_program.specs.Bounds.{EachBound}
 use Rattle.sd_program.specs.IsAffine.{IsAffine}
 use Rattle.sd_program.specs.Limits.{HasFewParameters}

@@ -1,21 +1,19 @@
 -- Names in force stand for containers that are there and are what the source knows of them, and for variables in force.
-use Rattle.std.proofs.Common.{◌≡◌, ◌∙◌, ◌⊎◌, inl, inr, ℕ, ◌+◌, ◌<◌, ◌≤◌, List, [], ◌∷◌, ◌++◌, length, Option, Some, None, unwrap_or, Bool, true, false, cond, nat_eq, refl, sym, subst, arith, bytes_eq}
+use Rattle.std.proofs.Common.{◌≡◌, ◌∙◌, ◌⊎◌, inl, inr, ℕ, ◌+◌, ◌<◌, ◌≤◌, List, [], ◌∷◌, ◌++◌, length, Option, Some, Bool, true, false, cond, nat_eq, refl, subst, arith, bytes_eq}
 use Rattle.std.proofs.lemmas.List.Folds.{list_any-append}
 use Rattle.sd_lex.specs.PlainTree.{Dimension}
 use Rattle.sd_graph.specs.PlainTree.{GraphTree}
-use Rattle.sd_graph.specs.TreeParts.{containers_of}
 use Rattle.sd_graph.specs.ContainerParts.{Containers, container_at, is_stream}
 use Rattle.sd_graph.specs.InForce.{IsInForce}
 use Rattle.sd_graph.specs.Wiring.{has_number}
 use Rattle.sd_graph.specs.declared.container.Container.{Container}
 use Rattle.sd_graph.proofs.Among.{nat_eq_same, or_first, or_second}
 use Rattle.sd_program.specs.Names.{Name, Named, in_force}
-use Rattle.sd_program.specs.Place.{Holder, of_dimensions, of_values, Place}
+use Rattle.sd_program.specs.Place.{Holder, of_dimensions, of_values}
 use Rattle.sd_in_force.specs.Names.{with_numbered}
 use Rattle.sd_in_force.specs.Ranges.{parameters_of}
-use Rattle.sd_task.specs.Table.{Table}
 use Rattle.sd_validity.specs.GraphParts.{variables_of, symbols_in}
-use Rattle.sd_validity.specs.Places.{Scopes, param_numbers}
+use Rattle.sd_validity.specs.Places.{param_numbers}
 
 -- ---- containers
 

@@ -1,35 +1,28 @@
 -- The links of items and conditions are sound.
-use Rattle.std.proofs.Common.{◌≡◌, inl, inr, ℕ, ◌<◌, pos, List, [], ◌∷◌, length, nat_abs, option_map, Option, Some, None, Bool, true, false, cond, ◌&&◌, refl, ap, sym, subst}
+use Rattle.std.proofs.Common.{◌≡◌, inr, ℕ, List, [], length, Option, Some, None, Bool, true, false, cond, refl, ap, sym, subst}
 use Rattle.std.specs.Prelude.{⊤}
 use Rattle.std.specs.List.{AllByRecursion}
 use Rattle.std.proofs.lemmas.Option.{same_Some}
-use Rattle.sd_lex.specs.PlainTree.{Expression, two, Expressions, element_at, StatementTree, argument_array, local_array, local_stream, assign, copy, reduce, map_scope, tasklet, consume_scope, call, for_loop, while_loop, branch, input, output, set, set_at, tasklet_branch, Block, FunctionTree}
-use Rattle.sd_lex.specs.declared.syntax.operator.TwoSign.TheVariants.{Add, Less}
+use Rattle.sd_lex.specs.PlainTree.{Expression, two, Expressions, element_at, StatementTree, assign, copy, reduce, map_scope, tasklet, consume_scope, call, while_loop, branch, Block, FunctionTree}
+use Rattle.sd_lex.specs.declared.syntax.operator.TwoSign.TheVariants.{Add}
 use Rattle.sd_num.specs.declared.resolution.Resolution.{Resolution}
 use Rattle.sd_num.specs.declared.resolution.Resolution.TheVariants.{Sum}
-use Rattle.sd_range.specs.declared.affine.Affine.{Affine}
 use Rattle.sd_graph.specs.PlainTree as plain
-use Rattle.sd_graph.specs.PlainTree.{KindTree, GraphTree, ExitTree, GuardTree}
+use Rattle.sd_graph.specs.PlainTree.{KindTree, GraphTree, ExitTree}
 use Rattle.sd_graph.specs.TreeParts.{containers_of}
-use Rattle.sd_graph.specs.ContainerParts.{Containers, container_at, is_stream}
+use Rattle.sd_graph.specs.ContainerParts.{container_at, is_stream}
 use Rattle.sd_graph.specs.InForce.{IsInForce}
-use Rattle.sd_graph.specs.Wiring.{has_number}
-use Rattle.sd_graph.specs.declared.container.Container.{Container}
 use Rattle.sd_graph.specs.declared.link.Link.{Link}
-use Rattle.sd_program.specs.Names.{Name, Named}
+use Rattle.sd_program.specs.Names.{Name}
 use Rattle.sd_program.specs.Place.{of_values, Place, in_tasklet, in_consume, length_of, EveryAt, EveryFrom}
 use Rattle.sd_program.specs.Known.{IsArrayOf, KnowsElements, IsPlaced, IsKnown}
-use Rattle.sd_task.specs.Table.{Table, container_number}
-use Rattle.sd_task.specs.ElementCode.{links_with, assignment, element_task, guard_of}
-use Rattle.sd_items.specs.Items.{taken_link}
+use Rattle.sd_task.specs.Table.{Table}
+use Rattle.sd_task.specs.ElementCode.{links_with, assignment, element_task}
 use Rattle.sd_items.specs.Kinds.{kind_of}
-use Rattle.sd_items.specs.Scopes.{taking_task}
-use Rattle.sd_tasklet_item.specs.Item.{inputs_of, outputs_of}
-use Rattle.sd_elab_laws.proofs.NamesKnown.{affine_knows}
 use Rattle.sd_validity.specs.Places.{Scopes, no_scopes, loops_at}
 use Rattle.sd_made_places.proofs.Named.{InAffine}
 use Rattle.sd_made_places.proofs.Held.{IsVariable}
-use Rattle.sd_made_places.proofs.Made.{Stands, Fitting, IsWhole, IsOfStatement, IsTaking, IsAsked, IsCondition}
+use Rattle.sd_made_places.proofs.Made.{Stands, Fitting, IsOfStatement, IsTaking, IsAsked, IsCondition}
 use Rattle.sd_made_places.proofs.Given.{so_from}
 use Rattle.sd_made_places.proofs.LinksMade.{ArePositive, IsSound, IsOfArray, found, subset_sound, element_sound, elements_sound, call_sound, lines_sound}
 

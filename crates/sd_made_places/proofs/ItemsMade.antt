@@ -1,22 +1,20 @@
 -- The items of statements are told, one for one.
-use Rattle.std.proofs.Common.{◌≡◌, ◌∙◌, ◌⊎◌, inl, inr, ℕ, ◌+◌, ◌<◌, ◌≤◌, pos, List, [], ◌∷◌, ◌++◌, length, Some, Bool, true, false, cond, ◌&&◌, nat_eq, refl, ap, sym, subst, arith}
-use Rattle.sd_lex.specs.PlainTree.{Dimension, Expressions, no_expression, and_expression, StatementTree, argument_array, local_array, local_stream, assign, copy, reduce, map_scope, tasklet, consume_scope, call, for_loop, while_loop, branch, input, output, set, set_at, tasklet_branch, Block, no_statement, and_statement, FunctionTree}
+use Rattle.std.proofs.Common.{◌≡◌, ◌∙◌, inl, inr, ℕ, ◌+◌, ◌<◌, ◌≤◌, pos, List, [], ◌∷◌, ◌++◌, length, Bool, true, false, cond, ◌&&◌, nat_eq, refl, ap, sym, subst, arith}
+use Rattle.sd_lex.specs.PlainTree.{Dimension, Expressions, no_expression, and_expression, StatementTree, argument_array, local_array, local_stream, assign, copy, reduce, map_scope, tasklet, consume_scope, call, for_loop, while_loop, branch, tasklet_branch, Block, no_statement, and_statement, FunctionTree}
 use Rattle.sd_lex.specs.StatementKind.{has_connector}
 use Rattle.sd_graph.specs.PlainTree as plain
 use Rattle.sd_graph.specs.PlainTree.{KindTree, ItemTrees, GraphTree}
 use Rattle.sd_graph.specs.TreeParts.{containers_of}
 use Rattle.sd_graph.specs.ContainerParts.{Containers, container_at}
-use Rattle.sd_graph.specs.InForce.{IsInForce}
 use Rattle.sd_graph.specs.Wiring.{has_number}
 use Rattle.sd_graph.specs.declared.container.Container.{Container}
 use Rattle.sd_graph.specs.declared.container.ContainerKind.TheVariants.{Private, PrivateStream}
 use Rattle.sd_graph.proofs.Among.{or_second}
-use Rattle.sd_program.specs.Names.{Name, Named, in_force}
+use Rattle.sd_program.specs.Names.{Name, Named}
 use Rattle.sd_program.specs.Affines.{affine_number, affines_of}
 use Rattle.sd_program.specs.Declared.{containers_in}
-use Rattle.sd_program.specs.Place.{Holder, of_dimensions, of_values, Place, scope, length_of, dimensions_of, past, in_map, in_tasklet, in_consume, behind, EveryAt, EveryFrom}
-use Rattle.sd_program.specs.Known.{StandsIn, StandsInScope, IsPlaced, IsKnown}
-use Rattle.sd_program.specs.Limits.{HasFewParameters}
+use Rattle.sd_program.specs.Place.{Holder, of_dimensions, of_values, Place, scope, length_of, dimensions_of, past, in_map, in_consume, behind, EveryAt, EveryFrom}
+use Rattle.sd_program.specs.Known.{StandsIn, StandsInScope, IsPlaced}
 use Rattle.sd_in_force.specs.Names.{with_numbered}
 use Rattle.sd_in_force.specs.Ranges.{extents_of, parameters_of}
 use Rattle.sd_task.specs.Table.{Table, with_container, with_variables}
@@ -24,14 +22,13 @@ use Rattle.sd_tasklet_item.specs.Item.{task_with, inputs_of, outputs_of}
 use Rattle.sd_items.specs.Counts.{variables_in, variables_in_all}
 use Rattle.sd_items.specs.NamesBehind.{own_before, own_of, table_behind}
 use Rattle.sd_items.specs.Items.{taken_link, items_with, items_of_body}
-use Rattle.sd_items.specs.Kinds.{kind_of}
 use Rattle.sd_containers.specs.Declarations.{with_element, containers_with, containers_with_all}
 use Rattle.sd_elab_laws.proofs.ContainersMade.{holds_here, Begins, first_begins, made_at, counted, element_longer, element_made}
 use Rattle.sd_validity.specs.GraphParts.{variables_of}
 use Rattle.sd_validity.specs.Places.{Scopes, in_map as in_map_of, in_consume as in_consume_of, loops_at, param_numbers}
 use Rattle.sd_bound_places.specs.Throughout.{InKind, InItems, Throughout}
-use Rattle.sd_made_places.proofs.Held.{IsOf, IsHeld, AreHeld, one_more_held, held_inside, in_first, in_second, has_first, IsVariable, AreVariables, variables_inside, numbered, are_params}
-use Rattle.sd_made_places.proofs.Made.{Stands, IsAround, Fitting, IsWhole, IsOfStatement, IsTaking, IsItem, IsExit}
+use Rattle.sd_made_places.proofs.Held.{IsOf, IsHeld, AreHeld, one_more_held, held_inside, in_first, in_second, has_first, AreVariables, variables_inside, numbered, are_params}
+use Rattle.sd_made_places.proofs.Made.{Stands, IsAround, Fitting, IsWhole, IsItem, IsExit}
 
 -- ---- what is in force
 

@@ -1,15 +1,11 @@
 -- The links that statements make: their containers are in force, their subsets have one end in each range and name variables in force.
-use Rattle.std.proofs.Common.{◌≡◌, ◌∙◌, ◌⊎◌, inl, inr, ℕ, zero, suc, ◌+◌, ◌<◌, ◌≤◌, ℤ, pos, List, [], ◌∷◌, ◌++◌, map, length, Option, Some, None, unwrap_or, Bool, true, false, cond, ◌&&◌, refl, ap, sym, subst, arith}
+use Rattle.std.proofs.Common.{◌≡◌, ◌∙◌, inl, inr, ℕ, zero, suc, ◌≤◌, List, [], ◌∷◌, map, length, Option, Some, None, unwrap_or, Bool, true, false, refl, ap, sym, subst, arith}
 use Rattle.std.specs.List.{AllByRecursion, list_all}
 use Rattle.std.proofs.lemmas.List.{length-map}
-use Rattle.sd_lex.specs.PlainTree.{Expression, number, named, element_at, one, two, choice, Expressions, no_expression, and_expression, Dimension, index, span, Memlet, StatementTree, assign, copy, reduce, call, input, output, Block, no_statement, and_statement}
-use Rattle.sd_lex.specs.declared.syntax.operator.TwoSign.TheVariants.{Add}
+use Rattle.sd_lex.specs.PlainTree.{Expression, number, named, element_at, one, two, choice, Expressions, no_expression, and_expression, Dimension, index, span, Memlet, StatementTree, input, output, Block, no_statement, and_statement}
 use Rattle.sd_num.specs.declared.resolution.Resolution.{Resolution}
-use Rattle.sd_num.specs.declared.resolution.Resolution.TheVariants.{Sum}
-use Rattle.sd_range.specs.Arithmetic.{affine_zero}
 use Rattle.sd_range.specs.declared.affine.Affine.{Affine}
-use Rattle.sd_range.specs.declared.subset.Dim.{Dim}
-use Rattle.sd_range.specs.declared.subset.Dim.TheVariants.{Index, Span}
+use Rattle.sd_range.specs.declared.subset.Dim.TheVariants.{Index}
 use Rattle.sd_graph.specs.PlainTree.{GraphTree}
 use Rattle.sd_graph.specs.TreeParts.{containers_of}
 use Rattle.sd_graph.specs.ContainerParts.{Containers, container_at, is_stream}
@@ -18,20 +14,20 @@ use Rattle.sd_graph.specs.declared.container.Container.{Container}
 use Rattle.sd_graph.specs.declared.link.Link.{Link}
 use Rattle.sd_program.specs.Names.{Name, Named, in_force}
 use Rattle.sd_program.specs.Affines.{affines_of}
-use Rattle.sd_program.specs.Place.{Holder, of_dimensions, of_values, task, Place, length_of, past, EveryAt, EveryFrom}
-use Rattle.sd_program.specs.Known.{IsArray, IsArrayOf, IsPart, IsTarget, KnowsElements, KnowsContainers, IsKnown, IsPlaced}
+use Rattle.sd_program.specs.Place.{Holder, of_dimensions, of_values, task, Place, length_of, past, EveryFrom}
+use Rattle.sd_program.specs.Known.{IsArrayOf, IsPart, IsTarget, KnowsElements, KnowsContainers, IsKnown, IsPlaced}
 use Rattle.sd_in_force.specs.Subsets.{whole, first_element, dim_of, dims_of, subset_of, are_units, first_or_whole, connector_subset}
 use Rattle.sd_task.specs.Table.{Table, container_number, extents_at}
-use Rattle.sd_task.specs.Links.{link_to, element_link, subset_link, memlet_link}
+use Rattle.sd_task.specs.Links.{element_link, subset_link, memlet_link}
 use Rattle.sd_task.specs.ElementCode.{input_name, links_with}
 use Rattle.sd_tasklet_item.specs.Item.{input_before, output_before, inputs_of, outputs_of}
-use Rattle.sd_items.specs.Items.{call_links, taken_link}
+use Rattle.sd_items.specs.Items.{call_links}
 use Rattle.sd_elab_laws.proofs.ContainersMade.{holds_here, same_behind}
 use Rattle.sd_validity.specs.Places.{Scopes}
 use Rattle.sd_validity.specs.Dimensions.{has_one_end}
 use Rattle.sd_bound_places.proofs.EachPlace.{all_joined}
 use Rattle.sd_made_places.proofs.Named.{InAffine, InDim, subset_named, connector_named, indices_named}
-use Rattle.sd_made_places.proofs.Held.{IsOf, AreHeld, IsVariable}
+use Rattle.sd_made_places.proofs.Held.{IsOf, IsVariable}
 use Rattle.sd_made_places.proofs.Made.{Stands}
 
 -- ---- subsets

@@ -6,7 +6,6 @@ use Rattle.sd_graph.specs.PlainTree.{KindTree, GraphTree, ExitTree}
 use Rattle.sd_graph.specs.TreeParts.{containers_of}
 use Rattle.sd_graph.specs.ContainerParts.{Containers, container_at}
 use Rattle.sd_graph.specs.Wiring.{has_number}
-use Rattle.sd_graph.specs.declared.container.Container.{Container}
 use Rattle.sd_graph.specs.declared.container.ContainerKind.TheVariants.{Private}
 use Rattle.sd_program.specs.Names.{Name, Named}
 use Rattle.sd_program.specs.Affines.{affine_number}

@@ -1,19 +1,19 @@
 -- The variables that affine expressions name are those that their names stand for.
-use Rattle.std.proofs.Common.{◌≡◌, ℕ, nat_eq, nat_lt, ℤ, pos, neg_ℤ, ◌+ℤ◌, ◌*ℤ◌, List, [], ◌∷◌, map, Option, Some, None, Bool, true, false, cond, if◌then◌else◌, refl}
+use Rattle.std.proofs.Common.{◌≡◌, ℕ, nat_eq, nat_lt, ℤ, pos, neg_ℤ, ◌+ℤ◌, ◌*ℤ◌, List, [], ◌∷◌, map, Option, Some, None, Bool, true, false, if◌then◌else◌, refl}
 use Rattle.std.specs.List.{AllByRecursion}
 use Rattle.std.specs.Ordering.{int_eq}
 use Rattle.sd_lex.specs.PlainTree.{Expression, number, named, element_at, one, two, choice, Expressions, no_expression, and_expression, Dimension, index, span}
 use Rattle.sd_lex.specs.declared.syntax.operator.OneSign.{OneSign}
-use Rattle.sd_lex.specs.declared.syntax.operator.OneSign.TheVariants.{Not, Neg, Inv}
+use Rattle.sd_lex.specs.declared.syntax.operator.OneSign.TheVariants.{Neg}
 use Rattle.sd_lex.specs.declared.syntax.operator.TwoSign.{TwoSign}
 use Rattle.sd_lex.specs.declared.syntax.operator.TwoSign.TheVariants.{Add, Sub, Mul}
-use Rattle.sd_range.specs.Arithmetic.{put_before, plus_term, combined, combination, affine_zero, affine_sum, affine_difference, affine_product}
+use Rattle.sd_range.specs.Arithmetic.{put_before, plus_term, combined, affine_zero, affine_difference, affine_product}
 use Rattle.sd_range.specs.declared.affine.Affine.{Affine}
 use Rattle.sd_range.specs.declared.range.Range.{Range}
 use Rattle.sd_range.specs.declared.subset.Dim.{Dim}
 use Rattle.sd_range.specs.declared.subset.Dim.TheVariants.{Index, Span}
 use Rattle.sd_program.specs.Names.{Name, Named, in_force}
-use Rattle.sd_program.specs.Affines.{affine_number, affine_variable, affine_name, product_of, affine_one, affine_two, affine_of, affines_of}
+use Rattle.sd_program.specs.Affines.{affine_number, affine_name, product_of, affine_one, affine_two, affine_of, affines_of}
 use Rattle.sd_in_force.specs.Ranges.{affine_or, range_between, range_of, extents_of}
 use Rattle.sd_in_force.specs.Subsets.{whole, first_element, dim_of, dims_of, subset_of, are_units, first_or_whole, connector_subset}
 

@@ -1,9 +1,8 @@
 -- Each place of the graph of a program is told.
-use Rattle.std.proofs.Common.{◌≡◌, ◌∙◌, inl, inr, ℕ, ◌+◌, ◌≤◌, List, [], ◌∷◌, ◌++◌, length, Option, Some, unwrap_or, Bool, true, false, cond, reverse, refl, ap, sym, subst, arith, bytes_eq, zero-add}
+use Rattle.std.proofs.Common.{◌≡◌, ◌∙◌, inl, inr, ℕ, ◌+◌, ◌≤◌, List, [], ◌∷◌, ◌++◌, length, Option, Some, unwrap_or, Bool, true, false, cond, reverse, refl, ap, subst, arith, bytes_eq, zero-add}
 use Rattle.std.proofs.lemmas.Grind.{reverse_onto}
 use Rattle.std.specs.List.{AllByRecursion}
-use Rattle.sd_lex.specs.PlainTree.{StatementTree, argument_array, map_scope, tasklet, consume_scope, for_loop, while_loop, branch, tasklet_branch, Block, no_statement, and_statement, FunctionTree, ProgramTree}
-use Rattle.sd_lex.specs.StatementKind.{has_connector}
+use Rattle.sd_lex.specs.PlainTree.{StatementTree, argument_array, Block, no_statement, and_statement, FunctionTree, ProgramTree}
 use Rattle.sd_graph.specs.PlainTree.{no_item, GraphTree}
 use Rattle.sd_graph.specs.TreeParts.{containers_of}
 use Rattle.sd_graph.specs.ContainerParts.{Containers}
@@ -12,7 +11,7 @@ use Rattle.sd_graph.specs.declared.container.ContainerKind.TheVariants.{Argument
 use Rattle.sd_program.specs.Names.{Name, Named, in_force}
 use Rattle.sd_program.specs.Declared.{containers_in_all}
 use Rattle.sd_program.specs.Place as place_of
-use Rattle.sd_program.specs.Place.{Holder, of_dimensions, dimensions_of, signature, Place, past, past_all, in_map, in_tasklet, in_loop, in_consume, in_signature, in_function, EveryAt, EveryFrom, EveryOfFunction, EveryFunction, EveryPlace}
+use Rattle.sd_program.specs.Place.{Holder, of_dimensions, dimensions_of, signature, Place, past, in_signature, in_function, EveryAt, EveryFrom, EveryOfFunction, EveryFunction, EveryPlace}
 use Rattle.sd_program.specs.Known.{StandsIn, IsPlaced}
 use Rattle.sd_program.specs.DeclaredNames.{container_names}
 use Rattle.sd_in_force.specs.Names.{with_numbered}
@@ -24,13 +23,12 @@ use Rattle.sd_elab.specs.Elaboration.{arguments_in_force, start_of, function_gra
 use Rattle.sd_elab_laws.proofs.ContainersMade.{holds_here, Begins, begins_itself, first_begins, counted, all_made}
 use Rattle.sd_loops_shown.proofs.FunctionShown.{function_shown, none_shown_first}
 use Rattle.sd_validity.specs.GraphParts.{variables_of, symbols_in}
-use Rattle.sd_validity.specs.Places.{loops_at}
 use Rattle.sd_bound_places.specs.Throughout.{Throughout}
 use Rattle.sd_made_places.proofs.Held.{AreHeld, none_held, one_more_held, AreVariables, numbered}
 use Rattle.sd_made_places.proofs.Variables.{all_names_longer}
 use Rattle.sd_made_places.proofs.Given.{so_at, so_from}
-use Rattle.sd_made_places.proofs.Made.{Stands, Fitting, IsWhole, IsItem, IsExit}
-use Rattle.sd_made_places.proofs.ItemsMade.{extents_counted, written_extents}
+use Rattle.sd_made_places.proofs.Made.{Fitting, IsWhole, IsItem, IsExit}
+use Rattle.sd_made_places.proofs.ItemsMade.{written_extents}
 use Rattle.sd_made_places.proofs.StatesMade.{whole_held, block_made}
 
 -- ---- arguments

@@ -1,18 +1,15 @@
 -- In the bound graph of a program no size symbol is left.
-use Rattle.std.proofs.Common.{◌≡◌, ◌∙◌, inl, inr, ℕ, suc, ◌<◌, ◌≤◌, ℤ, List, [], ◌∷◌, map, take, length, Result, Ok, reverse, refl, ap, sym, subst, arith}
+use Rattle.std.proofs.Common.{◌≡◌, ◌∙◌, inl, inr, ℕ, suc, ◌≤◌, List, [], ◌∷◌, take, length, Ok, reverse, refl, sym, subst, arith}
 use Rattle.std.specs.Prelude.{⊤}
 use Rattle.std.specs.List.{AllByRecursion}
 use Rattle.std.proofs.lemmas.List.{length-map, length-take}
-use Rattle.sd_lex.specs.PlainTree.{StatementTree, FunctionTree, ProgramTree}
+use Rattle.sd_lex.specs.PlainTree.{FunctionTree, ProgramTree}
 use Rattle.sd_graph.specs.PlainTree.{KindTree, task, map_scope, consume_scope, nested_graph, reduction, copy, ItemTrees, no_item, and_item, StateTrees, no_state, and_state, GraphTree, graph, ExitTree}
-use Rattle.sd_graph.specs.TreeParts.{containers_of}
 use Rattle.sd_program.specs.Names.{Name, Named}
-use Rattle.sd_program.specs.Place.{Place}
 use Rattle.sd_program.specs.WellFormed.{IsWellFormed}
 use Rattle.sd_items.specs.Graphs.{graph_named}
 use Rattle.sd_elab.specs.Elaboration.{function_graph, graphs_with, latest, graph_of}
-use Rattle.sd_valid.specs.SizeValues.{NamedSizes, symbols_of, sizes_in, value_of_size}
-use Rattle.sd_valid.specs.BoundTree.{bound_graph}
+use Rattle.sd_valid.specs.SizeValues.{NamedSizes, sizes_in, value_of_size}
 use Rattle.sd_valid.specs.Binding.{binding}
 use Rattle.sd_validity.specs.GraphParts.{variables_of, symbols_in}
 use Rattle.sd_validity.specs.SizesGone.{rule_8}

@@ -1,16 +1,16 @@
 -- The states of a program's block are told, one after another.
-use Rattle.std.proofs.Common.{◌≡◌, ◌∙◌, ◌⊎◌, inl, inr, ℕ, suc, ◌+◌, ◌<◌, ◌≤◌, List, [], ◌∷◌, ◌++◌, length, Some, Bool, true, false, nat_eq, refl, ap, sym, subst, arith, add-zero}
+use Rattle.std.proofs.Common.{◌≡◌, ◌∙◌, inl, inr, ℕ, suc, ◌+◌, ◌<◌, ◌≤◌, List, [], ◌∷◌, ◌++◌, length, true, false, refl, ap, sym, subst, arith, add-zero}
 use Rattle.std.specs.List.{AllByRecursion}
-use Rattle.sd_lex.specs.PlainTree.{StatementTree, argument_array, local_array, local_stream, assign, copy, reduce, map_scope, tasklet, consume_scope, call, for_loop, while_loop, branch, input, output, set, set_at, tasklet_branch, Block, no_statement, and_statement, FunctionTree}
+use Rattle.sd_lex.specs.PlainTree.{StatementTree, argument_array, local_array, local_stream, for_loop, while_loop, branch, tasklet_branch, Block, no_statement, and_statement, FunctionTree}
 use Rattle.sd_graph.specs.PlainTree.{ItemTrees, no_item, ExitTree, GraphTree}
 use Rattle.sd_graph.specs.TreeFold.{PlainState, states_listed}
 use Rattle.sd_graph.specs.TreeParts.{containers_of}
 use Rattle.sd_graph.specs.ContainerParts.{Containers, container_at}
-use Rattle.sd_graph.specs.InForce.{is_private, IsInForce}
+use Rattle.sd_graph.specs.InForce.{is_private}
 use Rattle.sd_graph.specs.Wiring.{has_number}
 use Rattle.sd_graph.specs.declared.container.Container.{Container}
 use Rattle.sd_graph.specs.declared.container.ContainerKind.TheVariants.{Transient, Stream}
-use Rattle.sd_program.specs.Names.{Name, Named, in_force}
+use Rattle.sd_program.specs.Names.{Name, Named}
 use Rattle.sd_program.specs.Declared.{states_in, states_in_all, states_in_other, containers_in, containers_in_all}
 use Rattle.sd_program.specs.Place as place_of
 use Rattle.sd_program.specs.Place.{Holder, of_dimensions, of_values, program, length_of, Place, past, past_all, in_loop, EveryAt, EveryFrom}
@@ -23,14 +23,14 @@ use Rattle.sd_items.specs.Counts.{variables_in, variables_in_all}
 use Rattle.sd_items.specs.NamesBehind.{table_behind_state, table_behind_all}
 use Rattle.sd_items.specs.Items.{items_with}
 use Rattle.sd_containers.specs.Declarations.{containers_with, containers_with_all}
-use Rattle.sd_states.specs.Exits.{plainly, setting, if_holds, back_to, stepped_on}
+use Rattle.sd_states.specs.Exits.{plainly, if_holds, back_to, stepped_on}
 use Rattle.sd_states.specs.Standing.{Standing, behind, behind_all, state_behind, with_loop_variable}
 use Rattle.sd_states.specs.States.{chained, chained_all, chained_other}
 use Rattle.sd_elab_laws.proofs.ContainersMade.{holds_here, Begins, first_begins, made_at, counted, all_made}
 use Rattle.sd_elab_laws.proofs.StateCounts.{one_counted, all_counted}
 use Rattle.sd_loops_shown.specs.Shown.{ShowsOne, ShowsAll, ShowsOther}
 use Rattle.sd_validity.specs.GraphParts.{variables_of, symbols_in}
-use Rattle.sd_validity.specs.Places.{Scopes, no_scopes, loops_at}
+use Rattle.sd_validity.specs.Places.{no_scopes, loops_at}
 use Rattle.sd_bound_places.specs.Throughout.{InItems, InStates, Throughout}
 use Rattle.sd_made_places.proofs.Held.{IsOf, IsHeld, AreHeld, one_more_held, in_first, in_second, has_first, AreVariables, variables_inside, numbered}
 use Rattle.sd_made_places.proofs.Made.{Stands, Fitting, IsWhole, IsItem, IsExit, IsLoop}

@@ -1,7 +1,7 @@
 -- Streams are only pushed into by tasklets and consumed.
-use Rattle.std.proofs.Common.{◌≡◌, ◌∙◌, ◌⊎◌, inl, inr, ℕ, ℤ, List, [], ◌∷◌, map, Option, Some, None, Bool, true, false, not, ◌&&◌, option_map, refl, ap, sym, subst}
+use Rattle.std.proofs.Common.{◌≡◌, ◌∙◌, inl, inr, ℕ, ℤ, List, [], ◌∷◌, map, true, not, refl, ap, sym, subst}
 use Rattle.std.specs.List.{AllByRecursion, list_all}
-use Rattle.sd_lex.specs.PlainTree.{Expression, named, two, StatementTree, for_loop, FunctionTree}
+use Rattle.sd_lex.specs.PlainTree.{Expression, named, two, StatementTree, FunctionTree}
 use Rattle.sd_lex.specs.declared.syntax.operator.TwoSign.TheVariants.{Less}
 use Rattle.sd_graph.specs.PlainTree as plain
 use Rattle.sd_graph.specs.PlainTree.{KindTree, GraphTree, graph, ExitTree}
@@ -9,23 +9,20 @@ use Rattle.sd_graph.specs.TreeParts.{containers_of}
 use Rattle.sd_graph.specs.ContainerParts.{container_at, is_stream}
 use Rattle.sd_graph.specs.declared.link.Link.{Link}
 use Rattle.sd_program.specs.Names.{Name}
-use Rattle.sd_program.specs.Place.{Place, EveryPlace}
-use Rattle.sd_program.specs.IsAffine.{IsAffine}
+use Rattle.sd_program.specs.Place.{Place}
 use Rattle.sd_task.specs.ElementCode.{links_with}
-use Rattle.sd_states.specs.Exits.{plainly, setting, if_holds, back_to}
 use Rattle.sd_elab_laws.proofs.NamesKnown.{affine_knows}
 use Rattle.sd_valid.specs.BoundExpression.{bound_link}
 use Rattle.sd_valid.specs.BoundTree.{bound_kind, bound_exit, bound_graph}
 use Rattle.sd_valid.proofs.SizedUses.{same_kinds}
 use Rattle.sd_validity.specs.Places.{Thing, whole, leaving, doing, Place as GraphPlace, Scopes, no_scopes, loops_at, all_places, places_of}
-use Rattle.sd_validity.specs.Parts.{container_of}
 use Rattle.sd_validity.specs.StreamUse.{is_of_array, are_of_arrays, is_condition_of_arrays, are_streams_in_place, rule_4}
 use Rattle.sd_validity.specs.Failing.{Holds}
 use Rattle.sd_bound_places.specs.BoundPlace.{bound_thing, bound_place}
 use Rattle.sd_bound_places.proofs.EachPlace.{AtThing, AtPlace, graph_places}
 use Rattle.sd_bound_places.proofs.Asked.{HoldsAt, none_fails, all_mapped}
 use Rattle.sd_bound_places.proofs.BoundPlaces.{graph_bound}
-use Rattle.sd_made_places.proofs.Made.{Fitting, IsWhole, IsItem, IsExit, IsCondition, IsGoing, IsPlain}
+use Rattle.sd_made_places.proofs.Made.{Fitting, IsWhole, IsItem, IsExit}
 use Rattle.sd_made_places.proofs.ProgramMade.{IsTold}
 use Rattle.sd_made_places.proofs.Extents.{extents_in_force}
 use Rattle.sd_made_places.proofs.LinksMade.{IsOfArray}

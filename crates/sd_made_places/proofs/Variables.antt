@@ -1,5 +1,5 @@
 -- How many variables a program has.
-use Rattle.std.proofs.Common.{◌≡◌, ℕ, ◌+◌, List, [], ◌∷◌, ◌++◌, length, arith, length-append}
+use Rattle.std.proofs.Common.{◌≡◌, ◌+◌, List, [], ◌∷◌, ◌++◌, length, arith, length-append}
 use Rattle.sd_lex.specs.PlainTree.{StatementTree, map_scope, consume_scope, for_loop, while_loop, branch, Block, no_statement, and_statement}
 use Rattle.sd_program.specs.Names.{Name}
 use Rattle.sd_items.specs.Counts.{variables_in, variables_in_all}
