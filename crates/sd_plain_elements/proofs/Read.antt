@@ -18,7 +18,7 @@ use Rattle.sd_blocks.specs.declared.refusal.Refusal.{Refusal}
 use Rattle.sd_source.specs.LinesReading.{program_of_lines}
 use Rattle.sd_source.specs.NodeRefusal.{limited, program_so_far}
 use Rattle.sd_source.specs.SourceReading.{reads_tokens, reads}
-use Rattle.sd_source.specs.TokenLines.{TokenLine, no_token, ended_by, with_token, lines_from, number_of, line_of_tokens, lines_of_tokens}
+use Rattle.sd_lines.specs.TokenLines.{TokenLine, no_token, ended_by, with_token, lines_from, number_of, line_of_tokens, lines_of_tokens}
 use Rattle.sd_program.specs.Every.{Everywhere}
 use Rattle.sd_tie_programs.specs.Joined.{HasPlainElement}
 use Rattle.sd_readable.proofs.kept.Trees.{all-more}
