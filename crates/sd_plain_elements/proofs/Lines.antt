@@ -16,7 +16,7 @@ use Rattle.sd_blocks.specs.Continuing.{goes_on, continued_by}
 use Rattle.sd_blocks.specs.Judging.{refused, statement_heads, steps_of, judged_one, judged_all, judged}
 use Rattle.sd_source.specs.LineReading.{stands_here, by_tokens, behind_last_block, behind_blocks, said, kind_at, line_read}
 use Rattle.sd_lines.specs.Lines.{Line, opens_tasklet}
-use Rattle.sd_lines.specs.LinesReading.{lines_read, at_end, program_in, program_by, program_of_lines}
+use Rattle.sd_source.specs.LinesReading.{lines_read, at_end, program_in, program_by, program_of_lines}
 use Rattle.sd_program.specs.Every.{Everywhere}
 use Rattle.sd_tie_programs.specs.Joined.{HasPlainElement}
 use Rattle.sd_readable.proofs.lines.Forms.{IfForm}
