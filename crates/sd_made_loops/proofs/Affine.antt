@@ -1,23 +1,22 @@
 -- Conditions and steps of loops, with sizes.
-use Rattle.std.proofs.Common.{◌≡◌, ◌∙◌, ◌⊎◌, inl, inr, ℕ, zero, suc, ◌<◌, ◌≤◌, nat_lt, nat_eq, ℤ, pos, ◌+ℤ◌, ◌*ℤ◌, int_le, List, [], ◌∷◌, map, length, Option, Some, None, option_map, Bool, true, false, not, ◌&&◌, ◌||◌, if◌then◌else◌, slice_get, slice_index_or, refl, ap, sym, subst, arith}
-use Rattle.std.specs.Ordering.{int_eq}
+use Rattle.std.proofs.Common.{◌≡◌, ◌∙◌, inl, inr, ℕ, zero, suc, ◌≤◌, nat_lt, nat_eq, ℤ, pos, ◌+ℤ◌, ◌*ℤ◌, int_le, List, [], ◌∷◌, map, length, Option, Some, None, option_map, Bool, true, false, ◌&&◌, ◌||◌, if◌then◌else◌, slice_get, slice_index_or, refl, ap, sym, subst, arith}
 use Rattle.std.proofs.lemmas.Int.{ints}
 use Rattle.std.proofs.lemmas.Option.{get_or_from_slice_get}
-use Rattle.sd_range.specs.Affine.{affine_value, variable_value}
+use Rattle.sd_range.specs.Affine.{variable_value}
 use Rattle.sd_range.specs.declared.affine.Affine.{Affine}
-use Rattle.sd_graph.specs.PlainTree.{ValueTree, literal, variable, local, input, one, two, choice, no_value, assign, no_act, and_act, ActTrees, GuardTree, ExitTree}
+use Rattle.sd_graph.specs.PlainTree.{ValueTree, literal, variable, local, input, one, two, choice, GuardTree, ExitTree}
 use Rattle.sd_graph.specs.declared.operator.OneSign.{OneSign}
 use Rattle.sd_graph.specs.declared.operator.OneSign.TheVariants.{Neg}
 use Rattle.sd_graph.specs.declared.operator.TwoSign.{TwoSign}
-use Rattle.sd_graph.specs.declared.operator.TwoSign.TheVariants.{Add, Sub, Mul, Less}
-use Rattle.sd_valid.specs.BoundExpression.{terms_left, bound_affine, bound_link}
-use Rattle.sd_valid.specs.BoundCode.{names_symbol, bound_variable, bound_value, bound_acts, bound_tasklet}
+use Rattle.sd_graph.specs.declared.operator.TwoSign.TheVariants.{Add, Sub, Mul}
+use Rattle.sd_valid.specs.BoundExpression.{bound_affine, bound_link}
+use Rattle.sd_valid.specs.BoundCode.{names_symbol, bound_value, bound_acts}
 use Rattle.sd_valid.specs.BoundTree.{bound_guard, bound_exit}
 use Rattle.sd_elab_laws.specs.AffineValue.{HasNumbersOnly, IsNegation, IsAffineJoin, IsAffineValue, IsBelow, IsConditionBelow}
 use Rattle.sd_elab_laws.specs.LoopShape.{IsStepOf, BeginsLoop}
 use Rattle.sd_validity.specs.Parts.{is_empty}
-use Rattle.sd_validity.specs.Compared.{Comparison, compared}
-use Rattle.sd_validity.specs.Transitions.{has_numbers_only, is_negation, is_affine_join, is_affine_value, is_number, is_below, is_condition_below, is_unconditional, begins_loop, is_alone, is_step_of}
+use Rattle.sd_validity.specs.Compared.{compared}
+use Rattle.sd_validity.specs.Transitions.{has_numbers_only, is_negation, is_affine_join, is_affine_value, is_below, is_condition_below, is_unconditional, begins_loop, is_step_of}
 
 module _ (sizes : List ℤ) (variables : List ℕ) where
   numbers_only : (value : ValueTree) → HasNumbersOnly value → has_numbers_only (bound_value sizes variables value) ≡ true

@@ -1,8 +1,8 @@
 -- Each variable has one begin.
-use Rattle.std.proofs.Common.{◌≡◌, ◌∙◌, ℕ, nat_eq, ℤ, List, [], ◌∷◌, ◌++◌, map, Some, Bool, true, false, not, ◌&&◌, ◌||◌, cond, refl, ap, sym, subst, bytes_eq, arith}
+use Rattle.std.proofs.Common.{◌≡◌, ◌∙◌, ℕ, nat_eq, List, [], ◌∷◌, ◌++◌, map, Some, Bool, true, false, not, ◌||◌, cond, refl, ap, sym, subst, bytes_eq, arith}
 use Rattle.std.proofs.lemmas.Option.{same_Some}
 use Rattle.std.proofs.lemmas.Slice.Eq.{bytes_eq-Decides}
-use Rattle.std.specs.List.{AllByRecursion, list_all, filter, flat_map}
+use Rattle.std.specs.List.{AllByRecursion, list_all, flat_map}
 use Rattle.sd_range.specs.declared.affine.Affine.{Affine}
 use Rattle.sd_graph.specs.PlainTree.{StateTrees, GraphTree, ExitTree}
 use Rattle.sd_graph.specs.TreeParts.{exits_at, states_of_graph}

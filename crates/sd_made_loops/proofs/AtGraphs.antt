@@ -1,7 +1,7 @@
 -- What holds of the states of a graph throughout holds of those of the graph of each place.
-use Rattle.std.proofs.Common.{◌≡◌, ℕ, suc, List, [], ◌∷◌, ◌++◌}
+use Rattle.std.proofs.Common.{ℕ, suc, List}
 use Rattle.std.specs.List.{AllByRecursion}
-use Rattle.sd_graph.specs.PlainTree.{KindTree, task, map_scope, consume_scope, nested_graph, reduction, copy, ItemTrees, no_item, and_item, StateTrees, no_state, and_state, GraphTree, graph, ExitTree}
+use Rattle.sd_graph.specs.PlainTree.{KindTree, task, map_scope, consume_scope, nested_graph, reduction, copy, ItemTrees, no_item, and_item, StateTrees, no_state, and_state, GraphTree, graph}
 use Rattle.sd_graph.specs.TreeParts.{count_states, exits_at, states_of_graph}
 use Rattle.sd_graph.specs.Upwards.{ExitsLeadUpwards, KindLeadsUpwards, ItemsLeadUpwards, StatesLeadUpwards, LeadsUpwards}
 use Rattle.sd_elab_laws.specs.Throughout.{KindThroughout, ItemsThroughout, StatesThroughout, Throughout}

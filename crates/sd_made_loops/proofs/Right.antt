@@ -1,5 +1,5 @@
 -- The transitions of a state of a bound graph are right.
-use Rattle.std.proofs.Common.{◌≡◌, ◌∙◌, ◌⊎◌, inl, inr, ℕ, zero, suc, ◌+◌, ◌<◌, ◌≤◌, nat_eq, nat_lt, ℤ, List, [], ◌∷◌, map, length, Bool, true, false, not, ◌&&◌, ◌||◌, if◌then◌else◌, refl, ap, sym, subst, arith}
+use Rattle.std.proofs.Common.{◌≡◌, ◌∙◌, ◌⊎◌, inl, inr, ℕ, zero, suc, ◌<◌, ◌≤◌, nat_eq, nat_lt, ℤ, List, [], ◌∷◌, map, length, Bool, true, false, not, ◌&&◌, ◌||◌, if◌then◌else◌, refl, ap, sym, subst, arith}
 use Rattle.std.specs.List.{AllByRecursion, list_all}
 use Rattle.sd_range.specs.declared.affine.Affine.{Affine}
 use Rattle.sd_graph.specs.PlainTree.{StateTrees, no_state, and_state, ExitTree}

@@ -1,16 +1,14 @@
 -- The transitions of the bound graph of a program are right.
-use Rattle.std.proofs.Common.{◌≡◌, ◌∙◌, ◌⊎◌, inl, inr, ℕ, zero, suc, ◌+◌, ◌<◌, ◌≤◌, ℤ, List, [], ◌∷◌, ◌++◌, map, length, Result, Ok, Bool, true, ◌&&◌, None, refl, ap, sym, subst, arith}
+use Rattle.std.proofs.Common.{◌≡◌, ◌∙◌, inl, inr, ℕ, ℤ, List, [], ◌∷◌, map, length, Ok, true, refl, ap, sym, subst, arith}
 use Rattle.std.specs.Prelude.{⊤}
 use Rattle.std.specs.List.{AllByRecursion, list_all}
-use Rattle.sd_lex.specs.PlainTree.{StatementTree, FunctionTree, ProgramTree}
+use Rattle.sd_lex.specs.PlainTree.{FunctionTree, ProgramTree}
 use Rattle.sd_range.specs.declared.affine.Affine.{Affine}
-use Rattle.sd_graph.specs.PlainTree.{StateTrees, no_state, GraphTree, graph, ExitTree, ItemTrees}
+use Rattle.sd_graph.specs.PlainTree.{StateTrees, no_state, GraphTree, graph, ExitTree}
 use Rattle.sd_graph.specs.TreeParts.{count_states, exits_at, states_of_graph}
 use Rattle.sd_graph.specs.Upwards.{ExitsLeadUpwards}
-use Rattle.sd_program.specs.Names.{Name}
-use Rattle.sd_program.specs.Place.{Place}
 use Rattle.sd_program.specs.WellFormed.{IsWellFormed}
-use Rattle.sd_elab.specs.Elaboration.{graph_of, states_of_function}
+use Rattle.sd_elab.specs.Elaboration.{graph_of}
 use Rattle.sd_valid.specs.BoundExpression.{bound_assignment}
 use Rattle.sd_valid.specs.BoundTree.{bound_exit, bound_states, bound_graph}
 use Rattle.sd_valid.specs.SizeValues.{NamedSizes, sizes_in}
