@@ -1,15 +1,12 @@
 -- What the bound graph of a program names is in force where it is named.
-use Rattle.std.proofs.Common.{◌≡◌, ◌∙◌, ◌⊎◌, inl, inr, ℕ, ◌+◌, ◌<◌, ◌≤◌, ℤ, List, [], ◌∷◌, ◌++◌, map, length, Result, Ok, Option, Some, None, option_map, Bool, true, false, cond, ◌&&◌, refl, ap, sym, subst, arith}
+use Rattle.std.proofs.Common.{◌≡◌, ◌∙◌, inl, inr, ℕ, ◌+◌, ◌<◌, ◌≤◌, ℤ, List, [], ◌∷◌, map, length, Ok, Some, Bool, true, false, cond, ◌&&◌, refl, sym, subst, arith}
 use Rattle.std.specs.Prelude.{⊤}
 use Rattle.std.specs.List.{AllByRecursion, list_all, flat_map}
 use Rattle.std.proofs.lemmas.Option.{same_Some}
 use Rattle.std.proofs.lemmas.List.Folds.{list_all-append}
-use Rattle.sd_lex.specs.PlainTree.{Expression, named, element_at, two, Dimension, Expressions, StatementTree, assign, copy, reduce, map_scope, tasklet, consume_scope, call, for_loop, while_loop, branch, Block, FunctionTree, ProgramTree}
+use Rattle.sd_lex.specs.PlainTree.{Expression, named, element_at, two, Dimension, Expressions, StatementTree, assign, copy, reduce, map_scope, tasklet, consume_scope, call, Block, FunctionTree, ProgramTree}
 use Rattle.sd_lex.specs.declared.syntax.operator.TwoSign.TheVariants.{Add, Less}
-use Rattle.sd_num.specs.declared.resolution.Resolution.{Resolution}
-use Rattle.sd_num.specs.declared.resolution.Resolution.TheVariants.{Sum}
 use Rattle.sd_range.specs.Arithmetic.{affine_zero}
-use Rattle.sd_range.specs.declared.affine.Affine.{Affine}
 use Rattle.sd_range.specs.declared.range.Range.{Range}
 use Rattle.sd_graph.specs.PlainTree as plain
 use Rattle.sd_graph.specs.PlainTree.{KindTree, ItemTrees, GraphTree, ExitTree}
@@ -17,11 +14,11 @@ use Rattle.sd_graph.specs.TreeParts.{containers_of}
 use Rattle.sd_graph.specs.ContainerParts.{container_at}
 use Rattle.sd_graph.specs.declared.link.Link.{Link}
 use Rattle.sd_graph.specs.Wiring.{has_number}
-use Rattle.sd_program.specs.Names.{Name, Named, in_force}
+use Rattle.sd_program.specs.Names.{Name}
 use Rattle.sd_program.specs.Place as source
 use Rattle.sd_program.specs.Known.{KnowsElements}
 use Rattle.sd_program.specs.WellFormed.{IsWellFormed}
-use Rattle.sd_in_force.specs.Ranges.{affine_or, range_of, parameters_of}
+use Rattle.sd_in_force.specs.Ranges.{affine_or, parameters_of}
 use Rattle.sd_task.specs.Table.{Table}
 use Rattle.sd_task.specs.ElementCode.{links_with, used_with, element_task, guard_of}
 use Rattle.sd_tasklet_names.specs.UsedNames.{connectors_from}
@@ -29,25 +26,24 @@ use Rattle.sd_tasklet_item.specs.Item.{task_with, inputs_of, outputs_of}
 use Rattle.sd_items.specs.Counts.{variables_in}
 use Rattle.sd_items.specs.Items.{taken_link}
 use Rattle.sd_items.specs.Kinds.{kind_of}
-use Rattle.sd_items.specs.Scopes.{taking_task}
-use Rattle.sd_states.specs.Exits.{plainly, setting, if_holds, back_to, stepped_on}
+use Rattle.sd_states.specs.Exits.{if_holds, stepped_on}
 use Rattle.sd_elab.specs.Elaboration.{graph_of}
 use Rattle.sd_elab_laws.proofs.NamesKnown.{affine_knows}
-use Rattle.sd_valid.specs.BoundExpression.{bound_link, bound_param, bound_assignment, bound_affine}
-use Rattle.sd_valid.specs.BoundTree.{bound_kind, bound_exit, bound_guard, bound_graph}
+use Rattle.sd_valid.specs.BoundExpression.{bound_link, bound_param}
+use Rattle.sd_valid.specs.BoundTree.{bound_kind, bound_exit, bound_graph}
 use Rattle.sd_valid.specs.SizeValues.{NamedSizes, sizes_in}
 use Rattle.sd_valid.specs.Binding.{binding}
 use Rattle.sd_validity.specs.GraphParts.{variables_of}
 use Rattle.sd_validity.specs.Places.{Thing, whole, leaving, doing, Place, Scopes, no_scopes, loops_at, param_numbers, all_places, places_of}
-use Rattle.sd_validity.specs.Parts.{is_link_passed, are_links_passed, is_condition_passed, is_exit_passed, is_kind_passed, is_thing_passed}
-use Rattle.sd_validity.specs.NamesInForce.{is_stream_in_force, is_there, is_variable_in_force, params_at, set_at, names_tests, are_given_there, are_names_in_force}
+use Rattle.sd_validity.specs.Parts.{is_link_passed, are_links_passed, is_exit_passed, is_kind_passed, is_thing_passed}
+use Rattle.sd_validity.specs.NamesInForce.{is_stream_in_force, is_there, params_at, set_at, names_tests, are_names_in_force}
 use Rattle.sd_bound_places.specs.BoundPlace.{bound_thing, bound_place}
 use Rattle.sd_bound_places.proofs.EachPlace.{AtThing, AtPlace, graph_places}
 use Rattle.sd_bound_places.proofs.Asked.{all_mapped}
 use Rattle.sd_bound_places.proofs.BoundPlaces.{graph_bound}
-use Rattle.sd_made_places.proofs.Named.{InAffine, InRange, InDim, affine_named, or_named, range_named}
+use Rattle.sd_made_places.proofs.Named.{InAffine, InRange, or_named, range_named}
 use Rattle.sd_made_places.proofs.Held.{IsVariable, AreVariables}
-use Rattle.sd_made_places.proofs.Made.{Stands, Fitting, IsWhole, IsOfStatement, IsTaking, IsItem, IsExit}
+use Rattle.sd_made_places.proofs.Made.{Stands, Fitting, IsWhole, IsItem, IsExit}
 use Rattle.sd_made_places.proofs.ProgramMade.{IsTold}
 use Rattle.sd_made_places.proofs.Extents.{extents_in_force}
 use Rattle.sd_made_places.proofs.LinksMade.{ArePositive}
@@ -56,7 +52,7 @@ use Rattle.sd_made_places.proofs.Bound.{AnyFunction, bound_is, told}
 use Rattle.sd_graph_paths.proofs.Found.{all_both}
 use Rattle.sd_graph_paths.proofs.Free.{HasNoScopes, HasNoScopesAt, graph_free}
 use Rattle.sd_made_names.proofs.Used.{expression_used, all_acts_used}
-use Rattle.sd_made_names.proofs.Passed.{IsHere, there_bound, variable_bound, used_bound, affine_bound, params_bound, container_bound, link_bound}
+use Rattle.sd_made_names.proofs.Passed.{IsHere, there_bound, used_bound, affine_bound, params_bound, container_bound, link_bound}
 
 -- ---- the code and the parameters of an item name variables in force
 

@@ -1,6 +1,6 @@
 -- What names variables in force does so with sizes.
-use Rattle.std.proofs.Common.{◌≡◌, ◌⊎◌, inl, inr, ℕ, ◌<◌, nat_lt, ℤ, List, [], ◌∷◌, map, length, Bool, true, false, not, ◌&&◌, ◌||◌, cond, refl, ap, sym, subst, arith}
-use Rattle.std.specs.List.{AllByRecursion, list_all, filter}
+use Rattle.std.proofs.Common.{◌≡◌, ◌⊎◌, inl, inr, ℕ, ◌<◌, nat_lt, ℤ, List, [], ◌∷◌, map, length, Bool, true, false, not, ◌||◌, cond, refl, ap, sym, subst, arith}
+use Rattle.std.specs.List.{AllByRecursion, list_all}
 use Rattle.sd_range.specs.declared.affine.Affine.{Affine}
 use Rattle.sd_range.specs.declared.range.Range.{Range}
 use Rattle.sd_range.specs.declared.subset.Dim.{Dim}
@@ -18,7 +18,7 @@ use Rattle.sd_valid.specs.BoundTree.{bound_entry, bound_graph}
 use Rattle.sd_valid.proofs.SizedUses.{same_kinds}
 use Rattle.sd_validity.specs.GraphParts.{variables_of, symbols_in}
 use Rattle.sd_validity.specs.Places.{Place}
-use Rattle.sd_validity.specs.Parts.{container_of, is_range_passed, is_dim_passed, is_link_passed, are_links_passed, are_params_passed}
+use Rattle.sd_validity.specs.Parts.{is_range_passed, is_dim_passed, is_link_passed, are_params_passed}
 use Rattle.sd_validity.specs.NamesInForce.{is_container_in_force, is_there, is_variable_in_force, names_tests}
 use Rattle.sd_bound_places.specs.BoundPlace.{bound_place}
 use Rattle.sd_made_places.proofs.Named.{InTerms, InAffine, InRange, InDim}

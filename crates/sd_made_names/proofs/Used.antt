@@ -1,9 +1,9 @@
 -- The variables that code uses are those that its names stand for.
-use Rattle.std.proofs.Common.{◌≡◌, ℕ, ◌+◌, List, [], ◌∷◌, ◌++◌, nat_eq, Option, Some, None, Bool, true, false, cond, if◌then◌else◌, refl}
+use Rattle.std.proofs.Common.{◌≡◌, ℕ, ◌+◌, List, [], ◌∷◌, ◌++◌, nat_eq, Option, Some, None, Bool, true, false, if◌then◌else◌, refl}
 use Rattle.std.specs.List.{AllByRecursion, list_any}
 use Rattle.sd_lex.specs.PlainTree.{Expression, number, named, element_at, one, two, choice, Expressions, no_expression, and_expression, StatementTree, set, set_at, tasklet_branch, Block, no_statement, and_statement}
 use Rattle.sd_program.specs.Names.{Name, Named, in_force}
-use Rattle.sd_task.specs.UsedVariables.{with_used, with_variable}
+use Rattle.sd_task.specs.UsedVariables.{with_variable}
 use Rattle.sd_task.specs.ElementCode.{used_with}
 use Rattle.sd_tasklet_names.specs.UsedNames.{named_variable, locals_behind, next_behind, next_behind_all, used_value, used_values, used_acts, used_acts_all}
 use Rattle.sd_bound_places.proofs.EachPlace.{all_joined}
