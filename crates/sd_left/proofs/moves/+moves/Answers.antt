@@ -1,4 +1,4 @@
-use Rattle.std.proofs.Common.{◌≡◌, ℕ, ◌+◌, ◌∷◌, [], List, map, Bool, true, false, cond, ◌||◌, ◌&&◌, nat_eq, length, refl, sym, ap, ◌∙◌, subst, arith}
+use Rattle.std.proofs.Common.{◌≡◌, ℕ, ◌+◌, ◌∷◌, [], List, map, Bool, true, cond, ◌||◌, ◌&&◌, nat_eq, length, refl, sym, ap, ◌∙◌, subst, arith}
 use Rattle.std.proofs.lemmas.Result.{IfOk-weaker}
 use Rattle.sd_work.specs.Memory.{waiting}
 use Rattle.sd_work.specs.Residual.{Term, Points, list, flags_of, is_ready}
