@@ -1,13 +1,17 @@
 """Programs of `sdfg`, called on the arrays of a Python program.
 
 `run(program, turns=None, **sizes_and_arrays)` gives the arrays after the run: NumPy arrays where such were given, else
-lists. `graph(program, **sizes_and_arrays)` gives the graph that is run, which a notebook draws. The program is a path, a text, or a function under `@dace.program` of the stand-in `luthkemb.dace`. Sizes that
-follow from the shapes of arrays need not be given. What the program refuses is raised, by a class for each status.
+lists. `graph(program, **sizes_and_arrays)` gives the graph that is run, which a notebook draws, and
+`check(program, **sizes_and_arrays)` makes its race check. The program is a path, a text, or a function under
+`@dace.program` of the stand-in `luthkemb.dace`. Sizes that follow from the shapes of arrays need not be given. What the
+program refuses is raised, by a class for each status.
 """
 from . import dace
+from .accesses import ScopeAccess
 from .commands import CALLS
 from .picture import Picture
 from .refusals import (
+    Access,
     ArraysRefused,
     BadWords,
     DoesNotFit,
@@ -18,6 +22,7 @@ from .refusals import (
     OutOfMemory,
     ProgramFailed,
     ProgramNotFound,
+    Race,
     ReadFault,
     Refused,
     SourceRefused,
@@ -28,6 +33,7 @@ from .refusals import (
 
 __version__ = "0.1.0"
 __all__ = [
+    "Access",
     "ArraysRefused",
     "BadWords",
     "DoesNotFit",
@@ -39,8 +45,10 @@ __all__ = [
     "Picture",
     "ProgramFailed",
     "ProgramNotFound",
+    "Race",
     "ReadFault",
     "Refused",
+    "ScopeAccess",
     "SourceRefused",
     "TooLong",
     "TurnsSpent",

@@ -8,6 +8,7 @@ from dataclasses import dataclass, field
 from pathlib import Path
 from typing import Any, Callable, Mapping
 
+from .accesses import ScopeAccess, read_accesses
 from .arrays import is_size, read_arrays, shape_of, write_entries
 from .picture import Picture
 from .programs import ended
@@ -87,6 +88,11 @@ def read_picture(output: bytes, _: Entries) -> Picture:
     return Picture(output.decode())
 
 
+def read_check(output: bytes, _: Entries) -> list[ScopeAccess]:
+    """Gives what the race check tells of an accepted program, or raises `ValueError`."""
+    return read_accesses(output.decode())
+
+
 def number(value: Any, _: Path) -> str:
     """Writes the number of an option."""
     return str(operator.index(value))
@@ -103,6 +109,11 @@ COMMANDS: dict[str, Command] = {
         "print",
         read_picture,
         "Gives the graph of a program, with the sizes of these arrays; it prints as its text, and a notebook draws it.",
+    ),
+    "check": Command(
+        "check",
+        read_check,
+        "Makes the race check of a program, with the sizes of these arrays, and gives what each of its scopes accesses.",
     ),
 }
 CALLS = {name: call_of(name, command) for name, command in COMMANDS.items()}

@@ -155,6 +155,44 @@ class ArraysRefused(Refused, ValueError):
         return f"arrays error {self.number}{name}: {self.meaning}"
 
 
+@dataclass(frozen=True)
+class Access:
+    """What the node of this number does to a container of its graph.
+
+    `mode` is `read`, `write`, `push`, `take` or the name of a resolution.
+    """
+
+    mode: str
+    container: str
+    node: int
+
+    def __str__(self) -> str:
+        return f"{self.mode} {self.container} by {self.node}"
+
+
+@dataclass(eq=False)
+class Race(Refused):
+    """The race check refuses the program: points or elements of a scope may touch the same in any order.
+
+    `scope` is the path of the scope, of states and nodes, and `first` and `second` are its first two accesses that the
+    check does not accept together. Nothing was run.
+    """
+
+    scope: str
+    first: Access
+    second: Access
+
+    status = 6
+    form = r"race at ([\d.]+): (\w+) (\S+) by (\d+), (\w+) (\S+) by (\d+)"
+
+    @classmethod
+    def of(cls, found: re.Match[str], source: Source) -> Refused:
+        return cls(found[1], Access(found[2], found[3], int(found[4])), Access(found[5], found[6], int(found[7])))
+
+    def __str__(self) -> str:
+        return f"race at {self.scope}: {self.first}, {self.second}"
+
+
 @dataclass
 class Frame:
     """Where a fault stood in one program: the line, counted in `file` if there is one, and the variables in force."""
@@ -247,6 +285,7 @@ KINDS: tuple[type[Refused], ...] = (
     BadWords,
     SourceRefused,
     ArraysRefused,
+    Race,
     Fault,
     TurnsSpent,
     ReadFault,

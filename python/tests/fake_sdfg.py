@@ -5,6 +5,7 @@
   # fake: STATEMENTS    Python statements over the sizes and arrays, which are printed after them
   # fake turns B        the run wants so many turns
   # fake graph TEXT     the text of the graph, with / between its lines
+  # fake check TEXT     what the race check tells, so too
 
 The true program passes comments over, and comes to the same answer by the rest of the source.
 """
@@ -24,6 +25,7 @@ ANSWER = re.compile(r"# fake (-?\d+) ?([^\r\n]*)")
 STATEMENTS = re.compile(r"# fake: (.*)")
 TURNS = re.compile(r"# fake turns (\d+)")
 GRAPH = re.compile(r"# fake graph (.*)")
+CHECK = re.compile(r"# fake check (.*)")
 SYMBOL = re.compile(r"^(\w+) = dace\.symbol\('\w+'\)$", re.MULTILINE)
 FUNCTION = re.compile(r"^def \w+\((.*)\):$", re.MULTILINE)
 ARGUMENT = re.compile(r"(\w+): dace\.int64(?:\[([^]]*)\])?")
@@ -46,7 +48,7 @@ def read(name: str, most: int) -> str:
 
 def files_of(words: list[str]) -> list[str]:
     turns = words[4] if len(words) == 5 and words[3] == "--turns" else "1"
-    known = len(words) in {"run": (3, 5), "print": (3,)}.get("".join(words[:1]), ()) and turns.isdecimal()
+    known = len(words) in {"run": (3, 5), "print": (3,), "check": (3,)}.get("".join(words[:1]), ()) and turns.isdecimal()
     if not known or not 1 <= int(turns) <= 2**40 or any(it[:1] in ("", "-") for it in words[1:3]):
         raise Ended(2, "bad words")
     return words[1:3]
@@ -94,6 +96,8 @@ def answer(words: list[str]) -> str:
         array_line(*argument, names)
     if words[0] == "print":
         return GRAPH.findall(source)[-1].replace("/", "\n")
+    if words[0] == "check":
+        return CHECK.findall(source)[-1].replace("/", "\n")
     wanted, turns = TURNS.search(source), int(words[4]) if len(words) == 5 else MOST_TURNS
     if wanted and int(wanted[1]) > turns:
         raise Ended(8, f"turns spent {turns}")

@@ -1,5 +1,5 @@
 -- How a call ends, from what was written.
-use Rattle.std.proofs.Common.{◌≡◌, ℕ, List, [], Option, Some, None, Result, Ok, Err, OnOk, OnErr, IsErrOf, refl, ap, sym, ◌∙◌, subst, inl, inr, append-nil, IfSome}
+use Rattle.std.proofs.Common.{◌≡◌, ◌⊎◌, ℕ, List, [], Option, Some, None, Result, Ok, Err, OnOk, OnErr, IsErrOf, refl, ap, sym, ◌∙◌, subst, inl, inr, append-nil, IfSome}
 use Rattle.std.specs.Option.{option_map_or}
 use Rattle.std.specs.Prelude.{⊤}
 use Rattle.sd_io.specs.Count.{HasRisen}
@@ -8,15 +8,17 @@ use Rattle.sd_io.specs.declared.sink.SinkError.{SinkError}
 use Rattle.sd_io.specs.declared.sink.SinkError.TheVariants.{Failed, Memory}
 use Rattle.sd_work.specs.Run.{Left, Sequential}
 use Rattle.sd_work.specs.Step.{Outcome}
+use Rattle.sd_graph.specs.PlainTree.{GraphTree}
 use Rattle.sd_graph.specs.declared.place.Place.{Place}
+use Rattle.sd_race.specs.Race.{Race, IsRaceOf}
 use Rattle.sd_tool.specs.Written.{written_status}
 use Rattle.sd_tool.specs.Work.{Work, run_of_work}
-use Rattle.sd_tool.specs.Answers.{ShelfUse, Answer, Answers, answer_of_run, listed, status_of, text_of}
+use Rattle.sd_tool.specs.Answers.{ShelfUse, Answer, Answers, answer_of_run, raced, TellsRace, status_of, text_of}
 use Rattle.sd_tool.specs.Ending.{answer_of}
 use Rattle.sd_tool.specs.declared.ending.Ending.{Ending}
 use Rattle.sd_tool.specs.declared.ending.Ending.TheVariants as endings
 use Rattle.sd_tool.specs.Ends.{SinkUse, Ends, written, sink_failed, cut_short, no_memory, Writes, WritesPrefix}
-use Rattle.sd_tool.specs.Headline.{Prints, Lists}
+use Rattle.sd_tool.specs.Headline.{Prints}
 use Rattle.sd_tool.specs.Report.{reported}
 use Rattle.sd_tool.specs.declared.report.Report.{Report}
 use Rattle.sd_tool.specs.declared.report.Report.TheVariants as reports
@@ -33,6 +35,7 @@ ends_written words shelf sink answer text (Err Memory) answers is whole prefix r
 pub status_of_report : (report : Report) → status_of (reported report) ≡ 0
 status_of_report (reports.Arrays after) = refl
 status_of_report (reports.Graph bound) = refl
+status_of_report (reports.Accepted bound) = refl
 
 -- the text of an ending was to be written
 ends_as_told : (words : List (List ℕ)) (shelf : ShelfUse) (sink : SinkUse) (told : Option Answer) (text : List ℕ) (wrote : Result ⊤ SinkError) → (told ≡ None → ⊥) → IfSome told (Answers words shelf) → text ≡ option_map_or text_of told [] →
@@ -47,6 +50,7 @@ has_answer endings.Memory other none = other refl
 has_answer endings.BadWords other none = cc
 has_answer (endings.Source refusal) other none = cc
 has_answer (endings.Arrays refusal) other none = cc
+has_answer (endings.Race bound race) other none = cc
 has_answer (endings.Fault place kind) other none = cc
 has_answer (endings.Spent turns) other none = cc
 has_answer (endings.ReadFault name) other none = cc
@@ -62,20 +66,26 @@ pub Appends-nothing : (taken : Option (List ℕ)) → Appends taken taken []
 Appends-nothing None = tt
 Appends-nothing (Some bytes) = ap Some (sym (append-nil bytes))
 
--- where only the answer of the run can come and the sink did not fail, it is printed, or memory was wanting
+-- where only one answer can come and the sink did not fail, its text is written whole and the status is its own, or memory was wanting
+pub written_from_end : (words : List (List ℕ)) (shelf : ShelfUse) (sink : SinkUse) (status : ℕ) (only : Answer) → ((answer : Answer) → Answers words shelf answer → answer ≡ only) → ¬ HasRisen sink.faults_before sink.faults_after →
+    Ends words shelf sink status → ((status ≡ status_of only) × Writes sink (text_of only)) ⊎ (status ≡ 1)
+written_from_end words shelf sink status only one quiet (written answer answers whole is) = inl (is ∙ ap status_of (one answer answers), subst (λ a. Writes sink (text_of a)) (one answer answers) whole)
+written_from_end words shelf sink status only one quiet (sink_failed answer answers prefix rose is) = absurd (quiet rose)
+written_from_end words shelf sink status only one quiet (cut_short answer answers prefix is) = inr is
+written_from_end words shelf sink status only one quiet (no_memory nothing is) = inr is
+
+-- where this is the answer of the run, it is printed
 pub prints_from_end : (words : List (List ℕ)) (shelf : ShelfUse) (sink : SinkUse) (status : ℕ) (work : Work) (turns : ℕ) (outcome : Outcome Place Left) → Sequential (run_of_work work) turns outcome →
     ((answer : Answer) → Answers words shelf answer → answer ≡ answer_of_run work.tree turns outcome) → ¬ HasRisen sink.faults_before sink.faults_after → Ends words shelf sink status →
     Prints work turns sink status
-prints_from_end words shelf sink status work turns outcome ends one quiet (written answer answers whole is) =
-    record { outcome = outcome; ends = ends; printed = inl (is ∙ ap status_of (one answer answers), subst (λ a. Writes sink (text_of a)) (one answer answers) whole) }
-prints_from_end words shelf sink status work turns outcome ends one quiet (sink_failed answer answers prefix rose is) = absurd (quiet rose)
-prints_from_end words shelf sink status work turns outcome ends one quiet (cut_short answer answers prefix is) = record { outcome = outcome; ends = ends; printed = inr is }
-prints_from_end words shelf sink status work turns outcome ends one quiet (no_memory nothing is) = record { outcome = outcome; ends = ends; printed = inr is }
+prints_from_end words shelf sink status work turns outcome ends one quiet end =
+    record { outcome = outcome; ends = ends; printed = written_from_end words shelf sink status (answer_of_run work.tree turns outcome) one quiet end }
 
--- where only the text of the graph can come and the sink did not fail, it is written, or memory was wanting
-pub lists_from_end : (words : List (List ℕ)) (shelf : ShelfUse) (sink : SinkUse) (status : ℕ) (work : Work) → ((answer : Answer) → Answers words shelf answer → answer ≡ listed work.tree) →
-    ¬ HasRisen sink.faults_before sink.faults_after → Ends words shelf sink status → Lists work sink status
-lists_from_end words shelf sink status work one quiet (written answer answers whole is) = inl (is ∙ ap status_of (one answer answers), subst (λ a. Writes sink (text_of a)) (one answer answers) whole)
-lists_from_end words shelf sink status work one quiet (sink_failed answer answers prefix rose is) = absurd (quiet rose)
-lists_from_end words shelf sink status work one quiet (cut_short answer answers prefix is) = inr is
-lists_from_end words shelf sink status work one quiet (no_memory nothing is) = inr is
+-- where only the race of a graph can be told and the sink did not fail, it is, or memory was wanting
+pub race_from_end : (words : List (List ℕ)) (shelf : ShelfUse) (sink : SinkUse) (status : ℕ) (tree : GraphTree) → ((answer : Answer) → Answers words shelf answer → TellsRace tree answer) → ¬ HasRisen sink.faults_before sink.faults_after →
+    Ends words shelf sink status → ((status ≡ 6) × (race : Race) × IsRaceOf tree race × Writes sink (text_of (raced tree race))) ⊎ (status ≡ 1)
+race_from_end words shelf sink status tree only quiet (written answer answers whole is) =
+    let told = only answer answers in inl (is ∙ ap status_of told.is, told.race, told.is_race, subst (λ a. Writes sink (text_of a)) told.is whole)
+race_from_end words shelf sink status tree only quiet (sink_failed answer answers prefix rose is) = absurd (quiet rose)
+race_from_end words shelf sink status tree only quiet (cut_short answer answers prefix is) = inr is
+race_from_end words shelf sink status tree only quiet (no_memory nothing is) = inr is

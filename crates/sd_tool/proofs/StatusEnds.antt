@@ -8,14 +8,17 @@ use Rattle.sd_work.specs.Step.{Outcome, Done, Faulted, Spent}
 use Rattle.sd_work.proofs.Outcomes.{Run-unique}
 use Rattle.sd_graph.specs.PlainTree.{GraphTree}
 use Rattle.sd_graph.specs.declared.place.Place.{Place}
+use Rattle.sd_race.specs.Pairs.{IsGraphAccepted}
+use Rattle.sd_race.specs.Race.{Race}
+use Rattle.sd_race.proofs.FirstLaws.{no-race, one-race}
 use Rattle.sd_blocks.specs.declared.refusal.Refusal.{Refusal}
 use Rattle.sd_tool.specs.declared.ending.ArraysRefusal.{ArraysRefusal}
-use Rattle.sd_tool.specs.Command.{Command, to_run, to_print, Call, IsCall}
+use Rattle.sd_tool.specs.Command.{Command, to_run, to_print, to_check, MakesRaceCheck, Call, IsCall}
 use Rattle.sd_tool.specs.Work.{Work, source_graph, prepared, run_of_work}
-use Rattle.sd_tool.specs.Answers.{ShelfUse, Answer, done, faulted, turns_spent, listed, bad_words, source_refused, arrays_refused, read_fault, too_long, Reads, Unread, faulty, longer, ReadsSource, Answers, no_command, no_source, no_program, no_arrays, no_work, answered, answer_of_run, Tells, status_of, text_of}
+use Rattle.sd_tool.specs.Answers.{ShelfUse, Answer, done, faulted, turns_spent, listed, checked, raced, bad_words, source_refused, arrays_refused, read_fault, too_long, Reads, Unread, faulty, longer, ReadsSource, Answers, no_command, no_source, no_program, no_arrays, no_work, answered, answer_of_run, TellsRun, TellsRace, UnlessRace, Tells, status_of, text_of}
 use Rattle.sd_tool.specs.Ends.{SinkUse, Ends, written, sink_failed, cut_short, no_memory, Writes, WritesPrefix}
 use Rattle.sd_tool.specs.Told.{TellsSource, TellsArrays, Asks}
-use Rattle.sd_tool.specs.Statuses.{NamesNothing, HasNoProgram, HasNoWork, Runs, ListsGraph, IsFile, EndsAs, Statuses}
+use Rattle.sd_tool.specs.Statuses.{NamesNothing, HasNoProgram, HasNoWork, Runs, ListsGraph, AcceptsGraph, HasRace, IsFile, EndsAs, EndsWithRace, Statuses}
 use Rattle.sd_tool.proofs.Reading.{IsCall-unique, same_Ok, same_Err, Ok_or_Err}
 use Rattle.sd_tool.proofs.ToldFiles.{not_unread, read_content}
 use Rattle.sd_tool.proofs.StatusRows.{Cause, cause}
@@ -27,6 +30,14 @@ ends_as words shelf sink status only one (written answer answers whole is) =
 ends_as words shelf sink status only one (sink_failed answer answers prefix rose is) = inr (inl (is, rose))
 ends_as words shelf sink status only one (cut_short answer answers prefix is) = inr (inr is)
 ends_as words shelf sink status only one (no_memory nothing is) = inr (inr is)
+
+-- where only the race of a graph can be told, the call ends with it
+pub ends_with_race : (words : List (List ℕ)) (shelf : ShelfUse) (sink : SinkUse) (status : ℕ) (tree : GraphTree) → ((answer : Answer) → Answers words shelf answer → TellsRace tree answer) → Ends words shelf sink status → EndsWithRace tree sink status
+ends_with_race words shelf sink status tree only (written answer answers whole is) =
+    let told = only answer answers in inl (told.race, told.is_race, is ∙ ap status_of told.is, subst (λ a. Writes sink (text_of a)) told.is whole)
+ends_with_race words shelf sink status tree only (sink_failed answer answers prefix rose is) = inr (inl (is, rose))
+ends_with_race words shelf sink status tree only (cut_short answer answers prefix is) = inr (inr is)
+ends_with_race words shelf sink status tree only (no_memory nothing is) = inr (inr is)
 
 -- a written answer, with its cause
 pub record Wrote (words : List (List ℕ)) (shelf : ShelfUse) (sink : SinkUse) (status : ℕ) : Type 0 where
@@ -51,11 +62,13 @@ told words shelf sink status w = (w.is, w.answers, cause words shelf w.answers, 
 
 module _ (words : List (List ℕ)) (shelf : ShelfUse) (sink : SinkUse) where
   zero_at : (answer : Answer) → Told words shelf sink 0 answer →
-      ((work : Work) × (turns : ℕ) × (left : Left) × Runs words shelf work turns (Done left) × Writes sink (text_of (done work.tree left.memory))) ⊎ ((work : Work) × ListsGraph words shelf work × Writes sink (text_of (listed work.tree)))
+      ((work : Work) × (turns : ℕ) × (left : Left) × Runs words shelf work turns (Done left) × Writes sink (text_of (done work.tree left.memory))) ⊎ ((work : Work) × ListsGraph words shelf work × Writes sink (text_of (listed work.tree))) ⊎ ((work : Work) × AcceptsGraph words shelf work × Writes sink (text_of (checked work.tree)))
   zero_at (done tree memory) t = inl (t.2.0, t.2.1, t.2.2, t.2.3, subst (λ a. Writes sink (text_of a)) t.2.4 t.3)
   zero_at (faulted fault) t = absurd (let e = t.0 in omega arith)
   zero_at (turns_spent turns) t = absurd (let e = t.0 in omega arith)
-  zero_at (listed tree) t = inr (t.2.0, t.2.1, subst (λ g. Writes sink (text_of (listed g))) t.2.2 t.3)
+  zero_at (listed tree) t = inr (inl (t.2.0, t.2.1, subst (λ g. Writes sink (text_of (listed g))) t.2.2 t.3))
+  zero_at (checked tree) t = inr (inr (t.2.0, t.2.1, subst (λ g. Writes sink (text_of (checked g))) t.2.2 t.3))
+  zero_at (raced tree race) t = absurd (let e = t.0 in omega arith)
   zero_at bad_words t = absurd (let e = t.0 in omega arith)
   zero_at (source_refused refusal) t = absurd (let e = t.0 in omega arith)
   zero_at (arrays_refused refusal) t = absurd (let e = t.0 in omega arith)
@@ -67,6 +80,8 @@ module _ (words : List (List ℕ)) (shelf : ShelfUse) (sink : SinkUse) where
   seven_at (faulted fault) t = (t.2.0, t.2.1, fault, t.2.2, t.3)
   seven_at (turns_spent turns) t = absurd (let e = t.0 in omega arith)
   seven_at (listed tree) t = absurd (let e = t.0 in omega arith)
+  seven_at (checked tree) t = absurd (let e = t.0 in omega arith)
+  seven_at (raced tree race) t = absurd (let e = t.0 in omega arith)
   seven_at bad_words t = absurd (let e = t.0 in omega arith)
   seven_at (source_refused refusal) t = absurd (let e = t.0 in omega arith)
   seven_at (arrays_refused refusal) t = absurd (let e = t.0 in omega arith)
@@ -78,17 +93,34 @@ module _ (words : List (List ℕ)) (shelf : ShelfUse) (sink : SinkUse) where
   eight_at (faulted fault) t = absurd (let e = t.0 in omega arith)
   eight_at (turns_spent turns) t = (t.2.0, t.2.1, t.2.2, subst (λ given. Writes sink (text_of (turns_spent given))) t.2.3 t.3)
   eight_at (listed tree) t = absurd (let e = t.0 in omega arith)
+  eight_at (checked tree) t = absurd (let e = t.0 in omega arith)
+  eight_at (raced tree race) t = absurd (let e = t.0 in omega arith)
   eight_at bad_words t = absurd (let e = t.0 in omega arith)
   eight_at (source_refused refusal) t = absurd (let e = t.0 in omega arith)
   eight_at (arrays_refused refusal) t = absurd (let e = t.0 in omega arith)
   eight_at (read_fault name) t = absurd (let e = t.0 in omega arith)
   eight_at (too_long name) t = absurd (let e = t.0 in omega arith)
 
+  six_at : (answer : Answer) → Told words shelf sink 6 answer → (work : Work) × (race : Race) × HasRace words shelf work race × Writes sink (text_of (raced work.tree race))
+  six_at (done tree memory) t = absurd (let e = t.0 in omega arith)
+  six_at (faulted fault) t = absurd (let e = t.0 in omega arith)
+  six_at (turns_spent turns) t = absurd (let e = t.0 in omega arith)
+  six_at (listed tree) t = absurd (let e = t.0 in omega arith)
+  six_at (checked tree) t = absurd (let e = t.0 in omega arith)
+  six_at (raced tree race) t = (t.2.0, race, t.2.1, subst (λ g. Writes sink (text_of (raced g race))) t.2.2 t.3)
+  six_at bad_words t = absurd (let e = t.0 in omega arith)
+  six_at (source_refused refusal) t = absurd (let e = t.0 in omega arith)
+  six_at (arrays_refused refusal) t = absurd (let e = t.0 in omega arith)
+  six_at (read_fault name) t = absurd (let e = t.0 in omega arith)
+  six_at (too_long name) t = absurd (let e = t.0 in omega arith)
+
   two_at : (answer : Answer) → Told words shelf sink 2 answer → NamesNothing words × Writes sink (text_of bad_words)
   two_at (done tree memory) t = absurd (let e = t.0 in omega arith)
   two_at (faulted fault) t = absurd (let e = t.0 in omega arith)
   two_at (turns_spent turns) t = absurd (let e = t.0 in omega arith)
   two_at (listed tree) t = absurd (let e = t.0 in omega arith)
+  two_at (checked tree) t = absurd (let e = t.0 in omega arith)
+  two_at (raced tree race) t = absurd (let e = t.0 in omega arith)
   two_at bad_words t = (t.2, t.3)
   two_at (source_refused refusal) t = absurd (let e = t.0 in omega arith)
   two_at (arrays_refused refusal) t = absurd (let e = t.0 in omega arith)
@@ -100,6 +132,8 @@ module _ (words : List (List ℕ)) (shelf : ShelfUse) (sink : SinkUse) where
   three_at (faulted fault) t = absurd (let e = t.0 in omega arith)
   three_at (turns_spent turns) t = absurd (let e = t.0 in omega arith)
   three_at (listed tree) t = absurd (let e = t.0 in omega arith)
+  three_at (checked tree) t = absurd (let e = t.0 in omega arith)
+  three_at (raced tree race) t = absurd (let e = t.0 in omega arith)
   three_at bad_words t = absurd (let e = t.0 in omega arith)
   three_at (source_refused refusal) t = (refusal, t.2, t.3)
   three_at (arrays_refused refusal) t = absurd (let e = t.0 in omega arith)
@@ -111,6 +145,8 @@ module _ (words : List (List ℕ)) (shelf : ShelfUse) (sink : SinkUse) where
   four_at (faulted fault) t = absurd (let e = t.0 in omega arith)
   four_at (turns_spent turns) t = absurd (let e = t.0 in omega arith)
   four_at (listed tree) t = absurd (let e = t.0 in omega arith)
+  four_at (checked tree) t = absurd (let e = t.0 in omega arith)
+  four_at (raced tree race) t = absurd (let e = t.0 in omega arith)
   four_at bad_words t = absurd (let e = t.0 in omega arith)
   four_at (source_refused refusal) t = absurd (let e = t.0 in omega arith)
   four_at (arrays_refused refusal) t = (refusal, t.2, t.3)
@@ -122,6 +158,8 @@ module _ (words : List (List ℕ)) (shelf : ShelfUse) (sink : SinkUse) where
   nine_at (faulted fault) t = absurd (let e = t.0 in omega arith)
   nine_at (turns_spent turns) t = absurd (let e = t.0 in omega arith)
   nine_at (listed tree) t = absurd (let e = t.0 in omega arith)
+  nine_at (checked tree) t = absurd (let e = t.0 in omega arith)
+  nine_at (raced tree race) t = absurd (let e = t.0 in omega arith)
   nine_at bad_words t = absurd (let e = t.0 in omega arith)
   nine_at (source_refused refusal) t = absurd (let e = t.0 in omega arith)
   nine_at (arrays_refused refusal) t = absurd (let e = t.0 in omega arith)
@@ -133,6 +171,8 @@ module _ (words : List (List ℕ)) (shelf : ShelfUse) (sink : SinkUse) where
   eleven_at (faulted fault) t = absurd (let e = t.0 in omega arith)
   eleven_at (turns_spent turns) t = absurd (let e = t.0 in omega arith)
   eleven_at (listed tree) t = absurd (let e = t.0 in omega arith)
+  eleven_at (checked tree) t = absurd (let e = t.0 in omega arith)
+  eleven_at (raced tree race) t = absurd (let e = t.0 in omega arith)
   eleven_at bad_words t = absurd (let e = t.0 in omega arith)
   eleven_at (source_refused refusal) t = absurd (let e = t.0 in omega arith)
   eleven_at (arrays_refused refusal) t = absurd (let e = t.0 in omega arith)
@@ -186,11 +226,30 @@ module _ (words : List (List ℕ)) (shelf : ShelfUse) (call : Call) (source : Li
   long_at_source long answer (no_work other tree arrays found reads read has) = absurd (too_long_to_read other reads.source long reads.asked reads.reads)
   long_at_source long answer (answered other work comes tells) = absurd (too_long_to_read other comes.source.source long comes.source.asked comes.source.reads)
 
+-- a run tells one outcome
+run_unique : (work : Work) (turns : ℕ) (a b : Answer) → TellsRun work turns a → TellsRun work turns b → a ≡ b
+run_unique work turns a b x y = x.is ∙ ap (answer_of_run work.tree turns) (Run-unique (run_of_work work) turns [] x.outcome y.outcome x.ends y.ends) ∙ sym y.is
+
+-- a graph is accepted or has one race
+verdict_unique : (tree : GraphTree) {P Q : Type 0} (a b : Answer) → (P → Q → a ≡ b) → UnlessRace tree P a → UnlessRace tree Q b → a ≡ b
+verdict_unique tree a b one (inl x) (inl y) = one x.1 y.1
+verdict_unique tree a b one (inl x) (inr y) = absurd (no-race tree y.race x.0 y.is_race)
+verdict_unique tree a b one (inr x) (inl y) = absurd (no-race tree x.race y.0 x.is_race)
+verdict_unique tree a b one (inr x) (inr y) = x.is ∙ ap (raced tree) (one-race tree x.race y.race x.is_race y.is_race) ∙ sym y.is
+
 -- a command answers one thing of its work
 Tells-unique : (work : Work) (command : Command) (a b : Answer) → Tells work command a → Tells work command b → a ≡ b
-Tells-unique work (to_run turns) a b x y =
-    x.is ∙ ap (answer_of_run work.tree turns) (Run-unique (run_of_work work) turns [] x.outcome y.outcome x.ends y.ends) ∙ sym y.is
+Tells-unique work (to_run turns) a b x y = verdict_unique work.tree a b (run_unique work turns a b) x y
 Tells-unique work to_print a b x y = x ∙ sym y
+Tells-unique work to_check a b x y = verdict_unique work.tree a b (λ is other. is ∙ sym other) x y
+
+-- of a graph that is not accepted a command that makes the race check tells the race
+race_told : (work : Work) (command : Command) (answer : Answer) → MakesRaceCheck command → ¬ IsGraphAccepted work.tree → Tells work command answer → TellsRace work.tree answer
+race_told work (to_run turns) answer checks refused (inl tells) = absurd (refused tells.0)
+race_told work (to_run turns) answer checks refused (inr tells) = tells
+race_told work to_print answer checks refused tells = absurd checks
+race_told work to_check answer checks refused (inl tells) = absurd (refused tells.0)
+race_told work to_check answer checks refused (inr tells) = tells
 
 -- where the arrays file is told and quiet too
 module _ (words : List (List ℕ)) (shelf : ShelfUse) (call : Call) (source : List ℕ) (tree : GraphTree) (arrays : List ℕ) (tells : TellsArrays words shelf call source tree arrays) where
@@ -225,21 +284,21 @@ module _ (words : List (List ℕ)) (shelf : ShelfUse) (call : Call) (source : Li
   refused_arrays refusal within is answer (answered other work comes tells) =
       absurd (Ok_or_Err (prepared tree arrays) work refusal (sym (comes_again other comes.tree comes.arrays comes.source comes.reads) ∙ comes.is) is)
 
-  -- what one command answers of one work
-  same_told : (other : Call) (work found : Work) (only answer : Answer) → other ≡ call → found ≡ work → Tells work call.command only → Tells found other.command answer → answer ≡ only
-  same_told other work found only answer same is told here =
-      Tells-unique work call.command answer only (subst (λ c. Tells work c.command answer) same (subst (λ w. Tells w other.command answer) is here)) told
+  -- what another call tells, this one does
+  same_told : (other : Call) (work found : Work) (answer : Answer) → other ≡ call → found ≡ work → Tells found other.command answer → Tells work call.command answer
+  same_told other work found answer same is here = subst (λ c. Tells work c.command answer) same (subst (λ w. Tells w other.command answer) is here)
 
-  pub told_only : (work : Work) (only : Answer) → length arrays ≤ 2 ^ 26 → prepared tree arrays ≡ Ok work → Tells work call.command only → (answer : Answer) → Answers words shelf answer → answer ≡ only
-  told_only work only within is told answer (no_command nothing) = absurd (nothing call tells.before.asked)
-  told_only work only within is told answer (no_source other asked why) = absurd (not_source other asked why)
-  told_only work only within is told answer (no_program other bytes found asked reads has) = absurd (not_program other bytes found asked reads has)
-  told_only work only within is told answer (no_arrays other found reads why) = absurd (not_arrays other found within reads why)
-  told_only work only within is told answer (no_work other found bytes error reads read has) =
+  -- only what the command tells of the work is answered
+  pub told_alone : (work : Work) → length arrays ≤ 2 ^ 26 → prepared tree arrays ≡ Ok work → (answer : Answer) → Answers words shelf answer → Tells work call.command answer
+  told_alone work within is answer (no_command nothing) = absurd (nothing call tells.before.asked)
+  told_alone work within is answer (no_source other asked why) = absurd (not_source other asked why)
+  told_alone work within is answer (no_program other bytes found asked reads has) = absurd (not_program other bytes found asked reads has)
+  told_alone work within is answer (no_arrays other found reads why) = absurd (not_arrays other found within reads why)
+  told_alone work within is answer (no_work other found bytes error reads read has) =
       absurd (Ok_or_Err (prepared tree arrays) work error is (sym (comes_again other found bytes reads read) ∙ has))
-  told_only work only within is told answer (answered other found comes here) =
-      same_told other work found only answer (same_call words shelf call source tells.before other comes.source.asked)
-      (same_Ok (prepared tree arrays) found work (sym (comes_again other comes.tree comes.arrays comes.source comes.reads) ∙ comes.is) is) told here
+  told_alone work within is answer (answered other found comes here) =
+      same_told other work found answer (same_call words shelf call source tells.before other comes.source.asked)
+      (same_Ok (prepared tree arrays) found work (sym (comes_again other comes.tree comes.arrays comes.source comes.reads) ∙ comes.is) is) here
 
   arrays_too_long : (other : Call) (bytes : List ℕ) → 2 ^ 26 < length arrays → IsCall words other → Reads shelf other.arrays (2 ^ 26) bytes → ⊥
   arrays_too_long other bytes long asked reads =
@@ -274,6 +333,8 @@ ten_at (done tree memory) e = omega arith
 ten_at (faulted fault) e = omega arith
 ten_at (turns_spent turns) e = omega arith
 ten_at (listed tree) e = omega arith
+ten_at (checked tree) e = omega arith
+ten_at (raced tree race) e = omega arith
 ten_at bad_words e = omega arith
 ten_at (source_refused refusal) e = omega arith
 ten_at (arrays_refused refusal) e = omega arith
@@ -286,6 +347,8 @@ one_at (done tree memory) e = omega arith
 one_at (faulted fault) e = omega arith
 one_at (turns_spent turns) e = omega arith
 one_at (listed tree) e = omega arith
+one_at (checked tree) e = omega arith
+one_at (raced tree race) e = omega arith
 one_at bad_words e = omega arith
 one_at (source_refused refusal) e = omega arith
 one_at (arrays_refused refusal) e = omega arith
@@ -311,17 +374,30 @@ at_status words shelf sink status number rows ten one ends is =
     let w = wrote words shelf sink number ten one (subst (Ends words shelf sink) is ends) in
     rows w.answer (told words shelf sink number w)
 
--- what a call asks for has one answer
-pub one_answer : (words : List (List ℕ)) (shelf : ShelfUse) (call : Call) (work : Work) (only : Answer) → Asks words shelf call work → Tells work call.command only → (answer : Answer) → Answers words shelf answer → answer ≡ only
-one_answer words shelf call work only asks told = told_only words shelf call asks.source asks.tree asks.arrays asks.tells work only asks.within asks.comes told
+-- only what a call asks for is answered
+asked_alone : (words : List (List ℕ)) (shelf : ShelfUse) (call : Call) (work : Work) → Asks words shelf call work → (answer : Answer) → Answers words shelf answer → Tells work call.command answer
+asked_alone words shelf call work asks = told_alone words shelf call asks.source asks.tree asks.arrays asks.tells work asks.within asks.comes
 
--- a run that is asked for tells its outcome
-pub asked_run : (call : Call) (work : Work) (turns : ℕ) (outcome : Outcome Place Left) → call.command ≡ to_run turns → Sequential (run_of_work work) turns outcome → Tells work call.command (answer_of_run work.tree turns outcome)
-asked_run call work turns outcome is ends = subst (λ c. Tells work c (answer_of_run work.tree turns outcome)) (sym is) (record { outcome = outcome; ends = ends; is = refl })
+-- and it has one answer
+pub one_answer : (words : List (List ℕ)) (shelf : ShelfUse) (call : Call) (work : Work) (only : Answer) → Asks words shelf call work → Tells work call.command only → (answer : Answer) → Answers words shelf answer → answer ≡ only
+one_answer words shelf call work only asks told = λ answer answers. Tells-unique work call.command answer only (asked_alone words shelf call work asks answer answers) told
+
+-- or tells a race of a graph that is not accepted
+pub one_race : (words : List (List ℕ)) (shelf : ShelfUse) (call : Call) (work : Work) → Asks words shelf call work → MakesRaceCheck call.command → ¬ IsGraphAccepted work.tree → (answer : Answer) → Answers words shelf answer → TellsRace work.tree answer
+one_race words shelf call work asks checks refused = λ answer answers. race_told work call.command answer checks refused (asked_alone words shelf call work asks answer answers)
+
+-- a run of an accepted graph that is asked for tells its outcome
+pub asked_run : (call : Call) (work : Work) (turns : ℕ) (outcome : Outcome Place Left) → call.command ≡ to_run turns → IsGraphAccepted work.tree → Sequential (run_of_work work) turns outcome → Tells work call.command (answer_of_run work.tree turns outcome)
+asked_run call work turns outcome is accepted ends =
+    subst (λ c. Tells work c (answer_of_run work.tree turns outcome)) (sym is) (inl (accepted, record { outcome = outcome; ends = ends; is = refl }))
 
 -- a text that is asked for is that of the graph
 pub asked_text : (call : Call) (work : Work) → call.command ≡ to_print → Tells work call.command (listed work.tree)
 asked_text call work is = subst (λ c. Tells work c (listed work.tree)) (sym is) refl
+
+-- the race check of an accepted graph tells its accesses
+pub asked_check : (call : Call) (work : Work) → call.command ≡ to_check → IsGraphAccepted work.tree → Tells work call.command (checked work.tree)
+asked_check call work is accepted = subst (λ c. Tells work c (checked work.tree)) (sym is) (inl (accepted, refl))
 
 -- all of it
 pub statuses : (words : List (List ℕ)) (shelf : ShelfUse) (sink : SinkUse) (status : ℕ) → Ends words shelf sink status → Statuses words shelf sink status
@@ -329,9 +405,12 @@ statuses words shelf sink status ends = record {
   zero = at_status words shelf sink status 0 (zero_at words shelf sink) (λ e. omega arith) (λ e. omega arith) ends;
   seven = at_status words shelf sink status 7 (seven_at words shelf sink) (λ e. omega arith) (λ e. omega arith) ends;
   eight = at_status words shelf sink status 8 (eight_at words shelf sink) (λ e. omega arith) (λ e. omega arith) ends;
-  run_where = λ call work turns outcome asks is ran.
-      ends_as words shelf sink status (answer_of_run work.tree turns outcome) (one_answer words shelf call work (answer_of_run work.tree turns outcome) asks (asked_run call work turns outcome is ran)) ends;
+  run_where = λ call work turns outcome asks is accepted ran.
+      ends_as words shelf sink status (answer_of_run work.tree turns outcome) (one_answer words shelf call work (answer_of_run work.tree turns outcome) asks (asked_run call work turns outcome is accepted ran)) ends;
   listed_where = λ call work asks is. ends_as words shelf sink status (listed work.tree) (one_answer words shelf call work (listed work.tree) asks (asked_text call work is)) ends;
+  checked_where = λ call work asks is accepted. ends_as words shelf sink status (checked work.tree) (one_answer words shelf call work (checked work.tree) asks (asked_check call work is accepted)) ends;
+  six = at_status words shelf sink status 6 (six_at words shelf sink) (λ e. omega arith) (λ e. omega arith) ends;
+  six_where = λ call work asks checks refused. ends_with_race words shelf sink status work.tree (one_race words shelf call work asks checks refused) ends;
   two = at_status words shelf sink status 2 (two_at words shelf sink) (λ e. omega arith) (λ e. omega arith) ends;
   two_where = λ nothing. ends_as words shelf sink status bad_words (bad_words_only words shelf nothing) ends;
   three = at_status words shelf sink status 3 (three_at words shelf sink) (λ e. omega arith) (λ e. omega arith) ends;

@@ -5,10 +5,10 @@ use Rattle.sd_io.specs.Shelf.{IsToldLonger}
 use Rattle.sd_work.specs.Run.{Left}
 use Rattle.sd_work.specs.Step.{Outcome, Done, Faulted, Spent}
 use Rattle.sd_graph.specs.declared.place.Place.{Place}
-use Rattle.sd_tool.specs.Command.{Command, to_run, to_print, Call}
+use Rattle.sd_tool.specs.Command.{Command, to_run, to_print, to_check, MakesRaceCheck, Call}
 use Rattle.sd_tool.specs.Work.{Work}
-use Rattle.sd_tool.specs.Answers.{ShelfUse, Answer, done, faulted, turns_spent, listed, bad_words, source_refused, arrays_refused, read_fault, too_long, Unread, faulty, longer, Comes, Answers, no_command, no_source, no_program, no_arrays, no_work, answered, answer_of_run, Tells}
-use Rattle.sd_tool.specs.Statuses.{NamesNothing, HasNoProgram, HasNoWork, Runs, ListsGraph, IsFile}
+use Rattle.sd_tool.specs.Answers.{ShelfUse, Answer, done, faulted, turns_spent, listed, checked, raced, bad_words, source_refused, arrays_refused, read_fault, too_long, Unread, faulty, longer, Comes, Answers, no_command, no_source, no_program, no_arrays, no_work, answered, answer_of_run, TellsRace, Tells}
+use Rattle.sd_tool.specs.Statuses.{NamesNothing, HasNoProgram, HasNoWork, Runs, ListsGraph, AcceptsGraph, HasRace, IsFile}
 
 -- the cause of each answer
 abbrev pub Cause : List (List ℕ) → ShelfUse → Answer → Type 0
@@ -16,6 +16,8 @@ Cause words shelf (done tree memory) = (work : Work) × (turns : ℕ) × (left :
 Cause words shelf (faulted fault) = (work : Work) × (turns : ℕ) × Runs words shelf work turns (Faulted fault)
 Cause words shelf (turns_spent turns) = (work : Work) × (given : ℕ) × Runs words shelf work given Spent × (turns ≡ given)
 Cause words shelf (listed tree) = (work : Work) × ListsGraph words shelf work × (tree ≡ work.tree)
+Cause words shelf (checked tree) = (work : Work) × AcceptsGraph words shelf work × (tree ≡ work.tree)
+Cause words shelf (raced tree race) = (work : Work) × HasRace words shelf work race × (tree ≡ work.tree)
 Cause words shelf bad_words = NamesNothing words
 Cause words shelf (source_refused refusal) = HasNoProgram words shelf refusal
 Cause words shelf (arrays_refused refusal) = HasNoWork words shelf refusal
@@ -31,11 +33,19 @@ ran words shelf work turns (Done left) runs = (work, turns, left, runs, refl)
 ran words shelf work turns (Faulted fault) runs = (work, turns, runs)
 ran words shelf work turns Spent runs = (work, turns, runs, refl)
 
+raced_so : (words : List (List ℕ)) (shelf : ShelfUse) (call : Call) (work : Work) (answer : Answer) → Comes words shelf call work → MakesRaceCheck call.command → TellsRace work.tree answer → Cause words shelf answer
+raced_so words shelf call work answer comes checks tells =
+    subst (Cause words shelf) (sym tells.is) (work, record { call = call; comes = comes; checks = checks; is_race = tells.is_race }, refl)
+
 -- what a command answers
 told : (words : List (List ℕ)) (shelf : ShelfUse) (call : Call) (work : Work) (command : Command) (answer : Answer) → Comes words shelf call work → call.command ≡ command → Tells work command answer → Cause words shelf answer
-told words shelf call work (to_run turns) answer comes asks tells =
-    subst (Cause words shelf) (sym tells.is) (ran words shelf work turns tells.outcome (record { call = call; comes = comes; asks = asks; ends = tells.ends }))
+told words shelf call work (to_run turns) answer comes asks (inl tells) =
+    subst (Cause words shelf) (sym tells.1.is) (ran words shelf work turns tells.1.outcome (record { call = call; comes = comes; asks = asks; accepted = tells.0; ends = tells.1.ends }))
+told words shelf call work (to_run turns) answer comes asks (inr tells) = raced_so words shelf call work answer comes (subst MakesRaceCheck (sym asks) tt) tells
 told words shelf call work to_print answer comes asks tells = subst (Cause words shelf) (sym tells) (work, record { call = call; comes = comes; asks = asks }, refl)
+told words shelf call work to_check answer comes asks (inl tells) =
+    subst (Cause words shelf) (sym tells.1) (work, record { call = call; comes = comes; asks = asks; accepted = tells.0 }, refl)
+told words shelf call work to_check answer comes asks (inr tells) = raced_so words shelf call work answer comes (subst MakesRaceCheck (sym asks) tt) tells
 
 pub cause : (words : List (List ℕ)) (shelf : ShelfUse) {answer : Answer} → Answers words shelf answer → Cause words shelf answer
 cause words shelf (no_command none) = none

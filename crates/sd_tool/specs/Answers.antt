@@ -1,5 +1,5 @@
 -- What a call answers: which answer comes where, and what is written of it.
-use Rattle.std.specs.Prelude.{◌≡◌, ℕ, ◌^◌, ◌≤◌, List, ◌++◌, length, Option, Ok, Err, codes}
+use Rattle.std.specs.Prelude.{◌≡◌, ◌⊎◌, ℕ, ◌^◌, ◌≤◌, List, ◌++◌, length, Option, Ok, Err, codes}
 use Rattle.std.specs.Fmt.{decimal}
 use Rattle.sd_io.specs.Count.{HasRisen}
 use Rattle.sd_io.specs.Shelf.{IsTold, IsToldLonger}
@@ -12,17 +12,23 @@ use Rattle.sd_graph.specs.declared.place.Place.{Place}
 use Rattle.sd_blocks.specs.declared.refusal.Refusal.{Refusal}
 use Rattle.sd_print.specs.FaultText.{fault_text}
 use Rattle.sd_graph_text.specs.GraphText.{graph_text}
+use Rattle.sd_race.specs.Pairs.{IsGraphAccepted}
+use Rattle.sd_race.specs.Race.{Race, IsRaceOf}
+use Rattle.sd_race_text.specs.CheckText.{check_text}
+use Rattle.sd_race_text.specs.RaceText.{race_text}
 use Rattle.sd_tool.specs.declared.ending.ArraysRefusal.{ArraysRefusal}
-use Rattle.sd_tool.specs.Command.{Command, to_run, to_print, Call, IsCall}
+use Rattle.sd_tool.specs.Command.{Command, to_run, to_print, to_check, Call, IsCall}
 use Rattle.sd_tool.specs.Work.{Work, source_graph, prepared, run_of_work}
 use Rattle.sd_tool.specs.AnswerText.{line, done_text, source_text, arrays_text}
 
--- the arrays after a run that is done, its fault, or that its turns are spent; the text of a graph; or why there is neither
+-- the arrays after a run that is done, its fault, or that its turns are spent; the text of a graph; what the race check tells of it; or why there is none of these
 pub data Answer : Type 0 where
   done : (tree : GraphTree) → (memory : Memory) → Answer
   faulted : Fault Place → Answer
   turns_spent : (turns : ℕ) → Answer
   listed : (tree : GraphTree) → Answer
+  checked : (tree : GraphTree) → Answer
+  raced : (tree : GraphTree) → (race : Race) → Answer
   bad_words : Answer
   source_refused : Refusal → Answer
   arrays_refused : ArraysRefusal → Answer
@@ -34,6 +40,8 @@ status_of (done tree memory) = 0
 status_of (faulted fault) = 7
 status_of (turns_spent turns) = 8
 status_of (listed tree) = 0
+status_of (checked tree) = 0
+status_of (raced tree race) = 6
 status_of bad_words = 2
 status_of (source_refused refusal) = 3
 status_of (arrays_refused refusal) = 4
@@ -45,6 +53,8 @@ text_of (done tree memory) = done_text tree memory
 text_of (faulted fault) = line (fault_text fault.place fault.kind)
 text_of (turns_spent turns) = line (codes "turns spent " ++ decimal turns)
 text_of (listed tree) = graph_text tree
+text_of (checked tree) = check_text tree
+text_of (raced tree race) = line (race_text tree race)
 text_of bad_words = line (codes "bad words")
 text_of (source_refused refusal) = source_text refusal
 text_of (arrays_refused refusal) = arrays_text refusal
@@ -63,10 +73,21 @@ pub record TellsRun (work : Work) (turns : ℕ) (answer : Answer) : Type 0 where
   pub ends : Sequential (run_of_work work) turns outcome
   pub is : answer ≡ answer_of_run work.tree turns outcome
 
+-- the graph has a race, and the answer tells it
+pub record TellsRace (tree : GraphTree) (answer : Answer) : Type 0 where
+  pub race : Race
+  pub is_race : IsRaceOf tree race
+  pub is : answer ≡ raced tree race
+
+-- the race check goes first: the graph is accepted and this is told, or its race is
+abbrev pub UnlessRace : GraphTree → (told : Type 0) → Answer → Type 0
+UnlessRace tree told answer = (IsGraphAccepted tree × told) ⊎ TellsRace tree answer
+
 -- what a command answers of the work that its files come to
 abbrev pub Tells : Work → Command → Answer → Type 0
-Tells work (to_run turns) answer = TellsRun work turns answer
+Tells work (to_run turns) answer = UnlessRace work.tree (TellsRun work turns answer) answer
 Tells work to_print answer = answer ≡ listed work.tree
+Tells work to_check answer = UnlessRace work.tree (answer ≡ checked work.tree) answer
 
 -- what a shelf tells, and the counts of each name before and after it was used
 pub record ShelfUse : Type 0 where

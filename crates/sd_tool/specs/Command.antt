@@ -1,19 +1,20 @@
 -- The words of a call: a command, a source, an arrays file and, behind them, what the command wants besides.
-use Rattle.std.specs.Prelude.{◌≡◌, ℕ, ◌^◌, ◌≤◌, List, [], ◌∷◌, Bool, false, not, ◌==◌, IsTrue, codes}
+use Rattle.std.specs.Prelude.{◌≡◌, ℕ, ◌^◌, ◌≤◌, List, [], ◌∷◌, Bool, false, not, ◌==◌, IsTrue, codes, ⊤}
 use Rattle.std.specs.Str.Parse.{IsNumeral, digits_value}
 use Rattle.sd_tool.specs.declared.command.Asked.{Asked}
 use Rattle.sd_tool.specs.declared.command.Command as asked_command
-use Rattle.sd_tool.specs.declared.command.Command.TheVariants.{Run, Print}
+use Rattle.sd_tool.specs.declared.command.Command.TheVariants.{Run, Print, Check}
 
 -- a word that names a file: it is not empty and does not begin with a dash
 abbrev pub is_file_word : List ℕ → Bool
 is_file_word [] = false
 is_file_word (first ∷ rest) = not (first == 45)
 
--- what is wanted of the two files: a run that may spend so many turns, or the text of their graph
+-- what is wanted of the two files: a run that may spend so many turns, the text of their graph, or its race check
 pub data Command : Type 0 where
   to_run : (turns : ℕ) → Command
   to_print : Command
+  to_check : Command
 
 -- the names of the two files, and what is wanted of them
 pub record Call : Type 0 where
@@ -24,6 +25,7 @@ pub record Call : Type 0 where
 abbrev pub command_of : asked_command.Command → Command
 command_of (Run turns) = to_run turns
 command_of Print = to_print
+command_of Check = to_check
 
 abbrev pub call_of : Asked → Call
 call_of asked = record { source = asked.source.now; arrays = asked.arrays.now; command = command_of asked.command }
@@ -42,10 +44,17 @@ GiveTurns (name ∷ []) turns = ⊥
 GiveTurns (name ∷ value ∷ []) turns = (name ≡ codes "--turns") × IsBudget value turns
 GiveTurns (name ∷ value ∷ other ∷ others) turns = ⊥
 
--- the first word and those behind the files are this command: `run` with its turns, or `print` alone
+-- the first word and those behind the files are this command: `run` with its turns, or `print` or `check` alone
 abbrev pub IsCommand : (word : List ℕ) → (options : List (List ℕ)) → Command → Type 0
 IsCommand word options (to_run turns) = (word ≡ codes "run") × GiveTurns options turns
 IsCommand word options to_print = (word ≡ codes "print") × (options ≡ [])
+IsCommand word options to_check = (word ≡ codes "check") × (options ≡ [])
+
+-- the command makes the race check
+abbrev pub MakesRaceCheck : Command → Type 0
+MakesRaceCheck (to_run turns) = ⊤
+MakesRaceCheck to_print = ⊥
+MakesRaceCheck to_check = ⊤
 
 -- the words are a command with the names of these files
 pub record IsCall (words : List (List ℕ)) (call : Call) : Type 0 where

@@ -2,8 +2,10 @@
 use Rattle.std.specs.Prelude.{◌≡◌, ⊤, Option, Some, None, Result, Ok, Err}
 use Rattle.std.specs.Option.{option_map_or}
 use Rattle.sd_work.specs.Move.{fault_at}
+use Rattle.sd_graph.specs.TreeFold.{graph_tree}
+use Rattle.sd_check.specs.Found.{race_of}
 use Rattle.sd_tool.specs.Work.{input_refusal, binding_refusal}
-use Rattle.sd_tool.specs.Answers.{Answer, faulted, turns_spent, bad_words, source_refused, arrays_refused, read_fault, too_long}
+use Rattle.sd_tool.specs.Answers.{Answer, faulted, turns_spent, raced, bad_words, source_refused, arrays_refused, read_fault, too_long}
 use Rattle.sd_parse.specs.ErrorNumber.{refusal_of}
 use Rattle.sd_parse.specs.declared.error.SourceError.{SourceError}
 use Rattle.sd_valid.specs.declared.error.BindError.{BindError}
@@ -11,7 +13,7 @@ use Rattle.sd_valid.specs.declared.error.BindError.TheVariants as binds
 use Rattle.sd_json.specs.declared.error.InputError.{InputError}
 use Rattle.sd_json.specs.declared.error.InputError.TheVariants as inputs
 use Rattle.sd_tool.specs.declared.ending.Ending.{Ending}
-use Rattle.sd_tool.specs.declared.ending.Ending.TheVariants.{Memory, BadWords, Source, Arrays, Fault, Spent, ReadFault, TooLong}
+use Rattle.sd_tool.specs.declared.ending.Ending.TheVariants.{Memory, BadWords, Source, Arrays, Race, Fault, Spent, ReadFault, TooLong}
 
 -- the answer; want of memory is none
 abbrev pub answer_of : Ending → Option Answer
@@ -19,6 +21,7 @@ answer_of Memory = None
 answer_of BadWords = Some bad_words
 answer_of (Source refusal) = Some (source_refused refusal)
 answer_of (Arrays refusal) = Some (arrays_refused refusal)
+answer_of (Race bound race) = Some (raced (graph_tree bound.graph) (race_of race))
 answer_of (Fault place kind) = Some (faulted (fault_at place kind))
 answer_of (Spent turns) = Some (turns_spent turns)
 answer_of (ReadFault name) = Some (read_fault name.now)

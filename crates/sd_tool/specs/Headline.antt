@@ -4,7 +4,11 @@ use Rattle.sd_work.specs.Run.{Left, Sequential}
 use Rattle.sd_work.specs.Step.{Outcome}
 use Rattle.sd_graph.specs.declared.place.Place.{Place}
 use Rattle.sd_graph_text.specs.GraphText.{graph_text}
+use Rattle.sd_race.specs.Race.{Race, IsRaceOf}
+use Rattle.sd_race_text.specs.CheckText.{check_text}
+use Rattle.sd_race_text.specs.RaceText.{race_text}
 use Rattle.sd_tool.specs.Work.{Work, run_of_work}
+use Rattle.sd_tool.specs.AnswerText.{line}
 use Rattle.sd_tool.specs.Answers.{answer_of_run, status_of, text_of}
 use Rattle.sd_tool.specs.Ends.{SinkUse, Writes}
 
@@ -17,3 +21,11 @@ pub record Prints (work : Work) (turns : ℕ) (sink : SinkUse) (status : ℕ) : 
 -- the text of the work's graph is written whole and the status is 0, or memory was wanting
 abbrev pub Lists : Work → SinkUse → (status : ℕ) → Type 0
 Lists work sink status = ((status ≡ 0) × Writes sink (graph_text work.tree)) ⊎ (status ≡ 1)
+
+-- what the race check tells of the work's graph, which is accepted, is written whole and the status is 0, or memory was wanting
+abbrev pub Accepts : Work → SinkUse → (status : ℕ) → Type 0
+Accepts work sink status = ((status ≡ 0) × Writes sink (check_text work.tree)) ⊎ (status ≡ 1)
+
+-- the race of the work's graph is written whole, as a line, and the status is 6, or memory was wanting
+abbrev pub TellsItsRace : Work → SinkUse → (status : ℕ) → Type 0
+TellsItsRace work sink status = ((status ≡ 6) × (race : Race) × IsRaceOf work.tree race × Writes sink (line (race_text work.tree race))) ⊎ (status ≡ 1)

@@ -7,11 +7,13 @@ use Rattle.sd_work.specs.Run.{Left, Sequential}
 use Rattle.sd_work.specs.Step.{Outcome, Done, Faulted, Spent}
 use Rattle.sd_graph.specs.PlainTree.{GraphTree}
 use Rattle.sd_graph.specs.declared.place.Place.{Place}
+use Rattle.sd_race.specs.Pairs.{IsGraphAccepted}
+use Rattle.sd_race.specs.Race.{Race, IsRaceOf}
 use Rattle.sd_blocks.specs.declared.refusal.Refusal.{Refusal}
 use Rattle.sd_tool.specs.declared.ending.ArraysRefusal.{ArraysRefusal}
-use Rattle.sd_tool.specs.Command.{to_run, to_print, Call, IsCall}
+use Rattle.sd_tool.specs.Command.{to_run, to_print, to_check, MakesRaceCheck, Call, IsCall}
 use Rattle.sd_tool.specs.Work.{Work, source_graph, prepared, run_of_work}
-use Rattle.sd_tool.specs.Answers.{ShelfUse, Answer, done, faulted, turns_spent, listed, bad_words, source_refused, arrays_refused, read_fault, too_long, Reads, ReadsSource, Comes, Answers, answer_of_run, status_of, text_of}
+use Rattle.sd_tool.specs.Answers.{ShelfUse, Answer, done, faulted, turns_spent, listed, checked, raced, bad_words, source_refused, arrays_refused, read_fault, too_long, Reads, ReadsSource, Comes, Answers, answer_of_run, status_of, text_of}
 use Rattle.sd_tool.specs.Ends.{SinkUse, Writes, WritesPrefix}
 use Rattle.sd_tool.specs.Told.{TellsSource, TellsArrays, Asks}
 
@@ -36,11 +38,12 @@ pub record HasNoWork (words : List (List ℕ)) (shelf : ShelfUse) (refusal : Arr
   pub reads : Reads shelf call.arrays (2 ^ 26) arrays
   pub is : prepared tree arrays ≡ Err refusal
 
--- the files come to this work, and a run of it with so many turns is asked for, whose outcome is this
+-- the files come to this work, whose graph is accepted, and a run of it with so many turns is asked for, whose outcome is this
 pub record Runs (words : List (List ℕ)) (shelf : ShelfUse) (work : Work) (turns : ℕ) (outcome : Outcome Place Left) : Type 0 where
   pub call : Call
   pub comes : Comes words shelf call work
   pub asks : call.command ≡ to_run turns
+  pub accepted : IsGraphAccepted work.tree
   pub ends : Sequential (run_of_work work) turns outcome
 
 -- the files come to this work, and the text of its graph is asked for
@@ -48,6 +51,20 @@ pub record ListsGraph (words : List (List ℕ)) (shelf : ShelfUse) (work : Work)
   pub call : Call
   pub comes : Comes words shelf call work
   pub asks : call.command ≡ to_print
+
+-- the files come to this work, whose graph is accepted, and its race check is asked for
+pub record AcceptsGraph (words : List (List ℕ)) (shelf : ShelfUse) (work : Work) : Type 0 where
+  pub call : Call
+  pub comes : Comes words shelf call work
+  pub asks : call.command ≡ to_check
+  pub accepted : IsGraphAccepted work.tree
+
+-- the files come to this work, and the command makes the race check of its graph, which has this race
+pub record HasRace (words : List (List ℕ)) (shelf : ShelfUse) (work : Work) (race : Race) : Type 0 where
+  pub call : Call
+  pub comes : Comes words shelf call work
+  pub checks : MakesRaceCheck call.command
+  pub is_race : IsRaceOf work.tree race
 
 -- the name is a file in the words, with its limit
 abbrev pub IsFile : List (List ℕ) → List ℕ → ℕ → Type 0
@@ -60,15 +77,26 @@ EndsAs answer sink status =
     ⊎ ((status ≡ 10) × HasRisen sink.faults_before sink.faults_after)
     ⊎ (status ≡ 1)
 
+-- so it ends with the race of a graph
+abbrev pub EndsWithRace : GraphTree → SinkUse → ℕ → Type 0
+EndsWithRace tree sink status =
+    ((race : Race) × IsRaceOf tree race × (status ≡ 6) × Writes sink (text_of (raced tree race)))
+    ⊎ ((status ≡ 10) × HasRisen sink.faults_before sink.faults_after)
+    ⊎ (status ≡ 1)
+
 pub record Statuses (words : List (List ℕ)) (shelf : ShelfUse) (sink : SinkUse) (status : ℕ) : Type 0 where
-  -- 0 only where the sequential run that is asked for is done, or where the text of the graph is asked for
-  pub zero : status ≡ 0 → ((work : Work) × (turns : ℕ) × (left : Left) × Runs words shelf work turns (Done left) × Writes sink (text_of (done work.tree left.memory))) ⊎ ((work : Work) × ListsGraph words shelf work × Writes sink (text_of (listed work.tree)))
+  -- 0 only where the sequential run that is asked for is done, where the text of the graph is asked for, or where its race check is and accepts it
+  pub zero : status ≡ 0 → ((work : Work) × (turns : ℕ) × (left : Left) × Runs words shelf work turns (Done left) × Writes sink (text_of (done work.tree left.memory))) ⊎ ((work : Work) × ListsGraph words shelf work × Writes sink (text_of (listed work.tree))) ⊎ ((work : Work) × AcceptsGraph words shelf work × Writes sink (text_of (checked work.tree)))
   -- 7 and 8 only where the run that is asked for has a fault, or wants a turn when none is left
   pub seven : status ≡ 7 → (work : Work) × (turns : ℕ) × (fault : Fault Place) × Runs words shelf work turns (Faulted fault) × Writes sink (text_of (faulted fault))
   pub eight : status ≡ 8 → (work : Work) × (turns : ℕ) × Runs words shelf work turns Spent × Writes sink (text_of (turns_spent turns))
   -- and exactly there
-  pub run_where : (call : Call) (work : Work) (turns : ℕ) (outcome : Outcome Place Left) → Asks words shelf call work → call.command ≡ to_run turns → Sequential (run_of_work work) turns outcome → EndsAs (answer_of_run work.tree turns outcome) sink status
+  pub run_where : (call : Call) (work : Work) (turns : ℕ) (outcome : Outcome Place Left) → Asks words shelf call work → call.command ≡ to_run turns → IsGraphAccepted work.tree → Sequential (run_of_work work) turns outcome → EndsAs (answer_of_run work.tree turns outcome) sink status
   pub listed_where : (call : Call) (work : Work) → Asks words shelf call work → call.command ≡ to_print → EndsAs (listed work.tree) sink status
+  pub checked_where : (call : Call) (work : Work) → Asks words shelf call work → call.command ≡ to_check → IsGraphAccepted work.tree → EndsAs (checked work.tree) sink status
+  -- 6 exactly where the graph is not accepted and the command makes the race check: with the race of the graph
+  pub six : status ≡ 6 → (work : Work) × (race : Race) × HasRace words shelf work race × Writes sink (text_of (raced work.tree race))
+  pub six_where : (call : Call) (work : Work) → Asks words shelf call work → MakesRaceCheck call.command → ¬ IsGraphAccepted work.tree → EndsWithRace work.tree sink status
   -- 2 exactly where the words are not those of the command
   pub two : status ≡ 2 → NamesNothing words × Writes sink (text_of bad_words)
   pub two_where : NamesNothing words → EndsAs bad_words sink status

@@ -1,11 +1,12 @@
 ghost use Rattle.std.specs.Prelude.{◌≡◌, ◌≤◌, ℕ, List, map, IfOk, IfErr, IfSome, OnOk, OnErr, IsErrOf, string_bytes};
 ghost use Rattle.sd_io.specs.Count.{HasRisen};
 ghost use Rattle.sd_io.specs.Sink.{Appends, AppendsPrefix};
+ghost use Rattle.sd_race.specs.Pairs.{IsGraphAccepted};
 ghost use Rattle.sd_tool.specs.Answers.{ShelfUse, Reads, Unread, Comes, Answers, shelf_use};
-ghost use Rattle.sd_tool.specs.Command.{Call, IsCall, to_run, to_print, call_of};
+ghost use Rattle.sd_tool.specs.Command.{Call, IsCall, to_run, to_print, to_check, MakesRaceCheck, call_of};
 ghost use Rattle.sd_tool.specs.Ending.{answer_of};
 ghost use Rattle.sd_tool.specs.Ends.{Ends, sink_use};
-ghost use Rattle.sd_tool.specs.Headline.{Prints, Lists};
+ghost use Rattle.sd_tool.specs.Headline.{Prints, Lists, Accepts, TellsItsRace};
 ghost use Rattle.sd_tool.specs.Report.{reported};
 ghost use Rattle.sd_tool.specs.Statuses.{Statuses};
 ghost use Rattle.sd_tool.specs.Told.{Asks};
@@ -139,7 +140,8 @@ fn perform<S: Shelf, K: Sink>(alloc: Global, words: &[String], shelf: &mut S, ou
 }
 
 /// Does what the words ask: runs a source from the shelf on its arrays and writes the outcome into the sink, or
-/// writes the text of its graph, or why there is neither. Answers the exit status.
+/// writes the text of its graph, or what the race check tells of it, or why there is none of these. Answers the
+/// exit status. A graph that the race check refuses is not run.
 ///
 /// The words are those after the program's name. Nothing is started or waited for yet, so the runtime and
 /// the gate are not used.
@@ -151,12 +153,14 @@ pub fn sdfg<R, S: Shelf, K: Sink, G: Gate>(
     out: &mut K,
     _gate: &G,
 ) -> u8
-    // The words ask for a run of two files that are told, within their limits and in their forms; no count of
-    // theirs or of the sink rises. Then the sequential run of the source's graph, with its sizes and over its
-    // arrays, has an outcome; its text is appended and the status is its own, or memory is wanting.
+    // The words ask for a run of two files that are told, within their limits and in their forms; the race check
+    // accepts the source's graph with its sizes; no count of the files or of the sink rises. Then the sequential run
+    // of this graph over its arrays has an outcome; its text is appended and the status is its own, or memory is
+    // wanting.
     ensures headline { (call : Call) (turns : ℕ) (work : Work)
         → Asks (map string_bytes words.now) (shelf_use S.told S.faults S.overruns shelf.old shelf.new) call work
         → call.command ≡ to_run turns
+        → IsGraphAccepted work.tree
         → ¬ HasRisen (K.faults out.old) (K.faults out.new)
         → Prints work turns (sink_use K.taken K.faults out.old out.new) result }
 
@@ -167,6 +171,24 @@ pub fn sdfg<R, S: Shelf, K: Sink, G: Gate>(
         → call.command ≡ to_print
         → ¬ HasRisen (K.faults out.old) (K.faults out.new)
         → Lists work (sink_use K.taken K.faults out.old out.new) result }
+
+    // The words ask for the race check of such files, and it accepts their graph. Then exactly what each scope
+    // accesses is appended, and that the graph is accepted, and the status is 0, or memory is wanting.
+    ensures verdict { (call : Call) (work : Work)
+        → Asks (map string_bytes words.now) (shelf_use S.told S.faults S.overruns shelf.old shelf.new) call work
+        → call.command ≡ to_check
+        → IsGraphAccepted work.tree
+        → ¬ HasRisen (K.faults out.old) (K.faults out.new)
+        → Accepts work (sink_use K.taken K.faults out.old out.new) result }
+
+    // The words ask for a run or the race check of such files, and their graph is not accepted. Then exactly its
+    // race is appended, the first pair of accesses that is not accepted, and the status is 6, or memory is wanting.
+    ensures race { (call : Call) (work : Work)
+        → Asks (map string_bytes words.now) (shelf_use S.told S.faults S.overruns shelf.old shelf.new) call work
+        → MakesRaceCheck call.command
+        → ¬ IsGraphAccepted work.tree
+        → ¬ HasRisen (K.faults out.old) (K.faults out.new)
+        → TellsItsRace work (sink_use K.taken K.faults out.old out.new) result }
 
     // Which answer comes where, and what is written of it; want of memory alone is free.
     ensures answers { Ends (map string_bytes words.now) (shelf_use S.told S.faults S.overruns shelf.old shelf.new)

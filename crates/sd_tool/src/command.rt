@@ -15,6 +15,8 @@ pub(crate) enum Command {
     Run(u64),
     /// The text of their graph.
     Print,
+    /// The race check of their graph.
+    Check,
 }
 
 /// The files of a call, and what is asked of them.
@@ -69,6 +71,7 @@ fn command_in(word: &str, options: &[String]) -> Option<Command>
     match word {
         "run" => Some(Command::Run(turns(options)?)),
         "print" if options.is_empty() => Some(Command::Print),
+        "check" if options.is_empty() => Some(Command::Check),
         _ => None,
     }
 }

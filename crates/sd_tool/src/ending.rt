@@ -4,11 +4,13 @@ ghost use Rattle.sd_tool.specs.declared.ending.Ending.TheVariants.{Memory};
 ghost use Rattle.sd_tool.specs.Answers.{status_of, text_of};
 ghost use Rattle.sd_tool.specs.Ending.{answer_of, source_ending, input_ending, binding_ending};
 
-use sd_graph::{FaultKind, Place};
+use sd_check::Race;
+use sd_graph::{Bound, FaultKind, Place};
 use sd_json::InputError;
 use sd_list::{NoMemory, Text};
 use sd_parse::{Refusal, SourceError};
 use sd_print::fault_text;
+use sd_race_text::race_text;
 use sd_valid::BindError;
 use std::alloc::Global;
 
@@ -30,6 +32,8 @@ pub(crate) enum Ending<'a> {
     Source(Refusal),
     /// The arrays file is refused, or its sizes or its shapes.
     Arrays(ArraysRefusal),
+    /// The race check refuses the graph, for this race of it.
+    Race(Bound, Race),
     /// The run has a fault.
     Fault(Place, FaultKind),
     /// The run wants more turns than these.
@@ -104,6 +108,7 @@ impl Ending<'_> {
             Ending::BadWords => 2,
             Ending::Source(_) => 3,
             Ending::Arrays(_) => 4,
+            Ending::Race(..) => 6,
             Ending::Fault(..) => 7,
             Ending::Spent(_) => 8,
             Ending::ReadFault(_) => 9,
@@ -131,6 +136,10 @@ impl Ending<'_> {
                     name: Some(name),
                 },
             ) => writeln!(line, "arrays error {number} {}", name.as_str())?,
+            Ending::Race(bound, race) => {
+                line.push_str(race_text(alloc, bound, race)?.as_str())?;
+                line.push_str("\n")?;
+            }
             Ending::Fault(place, kind) => {
                 line.push_str(fault_text(alloc, place, *kind)?.as_str())?;
                 line.push_str("\n")?;

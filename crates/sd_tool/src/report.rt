@@ -4,6 +4,7 @@ ghost use Rattle.sd_io.specs.Sink.{Appends, AppendsPrefix};
 ghost use Rattle.sd_graph.specs.TreeFold.{graph_tree};
 ghost use Rattle.sd_graph.specs.Upwards.{LeadsUpwards};
 ghost use Rattle.sd_graph_text.specs.GraphText as listing;
+ghost use Rattle.sd_race_text.specs.CheckText as checking;
 ghost use Rattle.sd_tool.specs.AnswerText.{done_text};
 ghost use Rattle.sd_tool.specs.Answers.{Tells, text_of};
 ghost use Rattle.sd_tool.specs.Command.{command_of};
@@ -14,11 +15,12 @@ ghost use Rattle.sd_tool.specs.Workspace.{work_of};
 use crate::command::Command;
 use crate::ending::Ending;
 use crate::output;
-use crate::workspace::{Workspace, run};
+use crate::workspace::{Workspace, accepted, run};
 use sd_graph::Bound;
 use sd_graph_text::graph_text;
 use sd_io::{Sink, SinkError};
 use sd_json::array_line;
+use sd_race_text::check_text;
 use std::alloc::Global;
 
 /// What a command gives that nothing refuses.
@@ -28,6 +30,8 @@ pub(crate) enum Report {
     Arrays(Workspace),
     /// A graph, whose text is wanted.
     Graph(Bound),
+    /// An accepted graph, of which the accesses of its scopes are wanted.
+    Accepted(Bound),
 }
 
 /// Writes the line of each argument, one after another; only one line is made at a time.
@@ -59,9 +63,22 @@ fn write_graph<K: Sink>(alloc: Global, out: &mut K, bound: &Bound) -> Result<(),
     }
 }
 
+/// Writes what the race check tells of an accepted graph.
+fn write_accesses<K: Sink>(alloc: Global, out: &mut K, bound: &Bound) -> Result<(), SinkError>
+    ensures ok { OnOk result (Appends (K.taken out.old) (K.taken out.new) (checking.check_text (graph_tree bound.now.graph))) }
+    ensures err { OnErr result (AppendsPrefix (K.taken out.old) (K.taken out.new) (checking.check_text (graph_tree bound.now.graph))) }
+    ensures failed { IsErrOf result SinkError.Failed → HasRisen (K.faults out.old) (K.faults out.new) }
+    ensures faults_never_fall { K.faults out.old ≤ K.faults out.new }
+{
+    match check_text(alloc, bound) {
+        Ok(accesses) => output::write_text(out, accesses.as_bytes()),
+        Err(_) => Err(SinkError::Memory),
+    }
+}
+
 impl Report {
-    /// What a command gives of a graph and its memory, or why it gives nothing. The memory of a graph whose text
-    /// is wanted is let go.
+    /// What a command gives of a graph and its memory, or why it gives nothing. All but `print` make the race check
+    /// first. The memory of a graph that is not run is let go.
     pub(crate) fn of<'a>(
         alloc: Global,
         command: Command,
@@ -72,10 +89,17 @@ impl Report {
         ensures refuses { IfErr result (λ ending. IfSome (answer_of ending) (Tells (work_of opened) (command_of command))) }
     {
         match command {
-            Command::Run(turns) => Ok(Report::Arrays(run(alloc, opened, turns)?)),
+            Command::Run(turns) => {
+                let opened = accepted(alloc, opened)?;
+                Ok(Report::Arrays(run(alloc, opened, turns)?))
+            }
             Command::Print => {
                 let Workspace { bound, .. } = opened;
                 Ok(Report::Graph(bound))
+            }
+            Command::Check => {
+                let Workspace { bound, .. } = accepted(alloc, opened)?;
+                Ok(Report::Accepted(bound))
             }
         }
     }
@@ -90,6 +114,7 @@ impl Report {
         match self {
             Report::Arrays(after) => write_arrays(alloc, out, after),
             Report::Graph(bound) => write_graph(alloc, out, bound),
+            Report::Accepted(bound) => write_accesses(alloc, out, bound),
         }
     }
 }

@@ -1,12 +1,14 @@
 ghost use Rattle.std.specs.Prelude.{◌≡◌, ◌≤◌, ◌^◌, Ok, length, IfOk, IfErr, IfSome};
 ghost use Rattle.sd_graph.specs.TreeFold.{graph_tree};
 ghost use Rattle.sd_graph.specs.Upwards.{LeadsUpwards};
-ghost use Rattle.sd_tool.specs.Answers.{source_refused, arrays_refused, done, TellsRun};
+ghost use Rattle.sd_race.specs.Pairs.{IsGraphAccepted};
+ghost use Rattle.sd_tool.specs.Answers.{source_refused, arrays_refused, done, TellsRun, TellsRace};
 ghost use Rattle.sd_tool.specs.Ending.{answer_of, Refuses};
 ghost use Rattle.sd_tool.specs.Work as definition;
 ghost use Rattle.sd_tool.specs.Workspace.{work_of};
 
 use crate::ending::Ending;
+use sd_check::{RaceError, check};
 use sd_elab::elaborate;
 use sd_graph::{Bound, Sdfg};
 use sd_json::read_arrays;
@@ -52,6 +54,20 @@ pub(crate) fn prepared<'a>(
     drop(graph);
     let memory = given.into_memory(alloc, &bound)?;
     Ok(Workspace { bound, memory })
+}
+
+/// The same again where the race check accepts the graph, else its race. Then the memory is let go.
+pub(crate) fn accepted<'a>(alloc: Global, opened: Workspace) -> Result<Workspace, Ending<'a>>
+    ensures same { IfOk result (λ after. work_of after ≡ work_of opened) }
+    ensures accepted { IfOk result (λ after. IsGraphAccepted (graph_tree after.bound.graph)) }
+    ensures refused { IfErr result (λ ending. IfSome (answer_of ending) (TellsRace (graph_tree opened.bound.graph))) }
+{
+    let Workspace { bound, memory } = opened;
+    match check(alloc, &bound) {
+        Ok(()) => Ok(Workspace { bound, memory }),
+        Err(RaceError::At(race)) => Err(Ending::Race(bound, race)),
+        Err(RaceError::Memory) => Err(Ending::Memory),
+    }
 }
 
 /// Runs the graph over its memory, with so many turns at most: the memory after it, or its fault, or that

@@ -1,3 +1,4 @@
+use crate::sources::source;
 use sd_io::{MemShelf, MemSink, Open};
 use sd_tool::sdfg;
 use std::alloc::Global;
@@ -80,4 +81,19 @@ pub(crate) fn number(line: &str, place: usize) -> u64 {
         .unwrap_or("")
         .parse()
         .unwrap_or(255)
+}
+
+/// The rows of a table that have another answer. Each row has the name of the source that `a.py` holds, the words, what
+/// `a.json` holds, the status, and the text that is written.
+pub(crate) fn wrong_rows(alloc: Global, rows: &str) -> Result<String, Fail> {
+    let mut wrong = String::new(alloc);
+    for row in rows.split("===\n") {
+        let (name, row) = cut(row);
+        let (words, row) = cut(row);
+        let (arrays, row) = cut(row);
+        let (status, text) = cut(row);
+        let found = called(alloc, words, source(name), arrays)?;
+        note(&mut wrong, arrays, &found, number(status, 0), text)?;
+    }
+    Ok(wrong)
 }

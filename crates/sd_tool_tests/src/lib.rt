@@ -8,6 +8,8 @@ mod devices;
 #[cfg(test)]
 mod listings;
 #[cfg(test)]
+mod races;
+#[cfg(test)]
 mod rows;
 #[cfg(test)]
 mod sources;

@@ -1,10 +1,9 @@
-use crate::call::{called, cut, note, number};
+use crate::call::{called, note, wrong_rows};
 use crate::sources::source;
 use std::alloc::Global;
 use std::test::Fail;
 
-/// Calls and what comes of them. Each has the name of the source that `a.py` holds, the words, what `a.json` holds, the
-/// status, and the text that is written.
+/// Calls that are no commands, that are refused, and runs. `races.rt` has those of the race check.
 const ROWS: &str = r#"INC
 run,a.py,a.json
 {"N":3,"A":[1,2,3],"B":[0,0,0]}
@@ -362,7 +361,7 @@ print,a.py,a.json,a.json
 bad words
 ===
 INC
-check,a.py,a.json
+plan,a.py,a.json
 {"N":3,"A":[1,2,3],"B":[0,0,0]}
 2
 bad words
@@ -599,23 +598,9 @@ run,a.py,a.json
 arrays error 18 Y
 "#;
 
-/// The rows that have another answer.
-fn wrong_rows(alloc: Global) -> Result<String, Fail> {
-    let mut wrong = String::new(alloc);
-    for row in ROWS.split("===\n") {
-        let (name, row) = cut(row);
-        let (words, row) = cut(row);
-        let (arrays, row) = cut(row);
-        let (status, text) = cut(row);
-        let found = called(alloc, words, source(name), arrays)?;
-        note(&mut wrong, arrays, &found, number(status, 0), text)?;
-    }
-    Ok(wrong)
-}
-
 #[test]
 fn calls_have_their_answers(rt: HostRuntime) -> Result<(), Fail> {
-    assert_eq!(rt; wrong_rows(rt.alloc())?.as_str(), "");
+    assert_eq!(rt; wrong_rows(rt.alloc(), ROWS)?.as_str(), "");
     Ok(())
 }
 

@@ -231,6 +231,175 @@ def ordered(A: dace.int64[17], B: dace.int64[9]):
         B[i] = T[0]
         T[0] = 5
         B[i + 1] = T[0]
+=== SHIFTED each element is read by the point before
+import dace
+N = dace.symbol('N')
+@dace.program
+def sh(A: dace.int64[N]):
+    for i in dace.map[0:N-1]:
+        A[i] = A[i+1]
+=== OVERLAPPED the last element written is the first one read
+import dace
+N = dace.symbol('N')
+@dace.program
+def sh(A: dace.int64[N]):
+    for i in dace.map[0:5]:
+        A[i] = A[i+4]
+=== STEPPED steps that are larger than the distance
+import dace
+N = dace.symbol('N')
+@dace.program
+def pairs(A: dace.int64[N]):
+    for i in dace.map[0:N:2]:
+        A[i] = A[i+1]
+=== REVERSED an array from its end
+import dace
+N = dace.symbol('N')
+@dace.program
+def back(A: dace.int64[N]):
+    for i in dace.map[0:N]:
+        A[i] = A[N-1-i]
+=== ONE_PLACE each point writes one element
+import dace
+N = dace.symbol('N')
+@dace.program
+def last(A: dace.int64[N], total: dace.int64[1]):
+    for i in dace.map[0:N]:
+        total[0] = A[i]
+=== ONE_SUM each point adds to one element
+import dace
+N = dace.symbol('N')
+@dace.program
+def sums(A: dace.int64[N], total: dace.int64[1]):
+    for i in dace.map[0:N]:
+        total[0] += A[i]
+=== TWO_RESOLUTIONS a sum and a greatest value of one element
+import dace
+N = dace.symbol('N')
+@dace.program
+def mixed(A: dace.int64[N], total: dace.int64[1]):
+    for i in dace.map[0:N]:
+        total[0] += A[i]
+        with dace.tasklet:
+            a << A[i]
+            most >> total(1, lambda x, y: max(x, y))[0]
+            most = a
+=== ACROSS a row into one element
+import dace
+N = dace.symbol('N')
+M = dace.symbol('M')
+@dace.program
+def across(B: dace.int64[N, M], A: dace.int64[N]):
+    for i, j in dace.map[0:N, 0:M]:
+        A[i] = B[i, j]
+=== SIDEWAYS each row one element further
+import dace
+N = dace.symbol('N')
+@dace.program
+def sideways(A: dace.int64[N, N+1]):
+    for i, j in dace.map[0:N, 0:N]:
+        A[i, j] = A[i, j+1]
+=== INNER a map in a map that writes one element
+import dace
+N = dace.symbol('N')
+@dace.program
+def inner(A: dace.int64[N, N], B: dace.int64[N]):
+    for i in dace.map[0:N]:
+        for j in dace.map[0:N]:
+            B[i] = A[i, j]
+=== CALLED a program with a race, called for each row
+import dace
+M = dace.symbol('M')
+@dace.program
+def shift(X: dace.int64[M]):
+    for i in dace.map[0:M-1]:
+        X[i] = X[i+1]
+@dace.program
+def rows(A: dace.int64[2, M]):
+    for r in dace.map[0:2]:
+        shift(A[r, 0:M])
+=== BLOCKS a block from the next one, in a loop
+import dace
+T = dace.symbol('T')
+@dace.program
+def blocks(A: dace.int64[4*T+4]):
+    for t in range(T):
+        for i in dace.map[0:4]:
+            A[4*t+i] = A[4*t+i+4]
+=== WHOLE two elements that no constant parts
+import dace
+@dace.program
+def whole(A: dace.int64[4], B: dace.int64[4]):
+    for t in range(4):
+        for i in dace.map[0:4]:
+            B[i] = A[t] + A[0]
+=== THREE three maps, of which the last two have races
+import dace
+N = dace.symbol('N')
+@dace.program
+def three(A: dace.int64[N], T: dace.int64[N]):
+    for i in dace.map[0:N]:
+        T[i] = A[i]
+    for i in dace.map[0:N-1]:
+        T[i] = T[i+1]
+    for i in dace.map[0:N-1]:
+        A[i] = A[i+1]
+=== KEPT a map that pushes, and a pool that counts
+import dace
+N = dace.symbol('N')
+@dace.program
+def keep(A: dace.int64[N], count: dace.int64[1]):
+    S = dace.define_stream(dace.int64, 1)
+    for i in dace.map[0:N]:
+        with dace.tasklet:
+            a << A[i]
+            s >> S(-1)
+            if a > 1:
+                s = a
+    @dace.consume(S, 4)
+    def each(e, p):
+        c >> count(-1, lambda x, y: x + y)[0]
+        c = 1
+=== LAST_OF_POOL the last value of a pool stays
+import dace
+@dace.program
+def divs(A: dace.int64[3], R: dace.int64[1]):
+    S = dace.define_stream(dace.int64, 1)
+    with dace.tasklet:
+        a << A[0:3]
+        s >> S(-1)
+        s = a[0]
+        s = a[1]
+        s = a[2]
+    @dace.consume(S, 4)
+    def scope(e, p):
+        r >> R(-1, lambda x, y: y)[0]
+        if e > 10:
+            r = e // (e - 20)
+        else:
+            r = 7 // e
+=== READING_POOL a pool that reads what it sums
+import dace
+@dace.program
+def acc(A: dace.int64[3], R: dace.int64[1]):
+    S = dace.define_stream(dace.int64, 1)
+    with dace.tasklet:
+        a << A[0:3]
+        s >> S(-1)
+        s = a[0]
+        s = a[1]
+    @dace.consume(S, 4)
+    def scope(e, p):
+        old << R[0]
+        r >> R(-1, lambda x, y: x + y)[0]
+        r = old + e
+=== FAULTY_RACE a race and a division by zero
+import dace
+N = dace.symbol('N')
+@dace.program
+def faulty(A: dace.int64[N]):
+    for i in dace.map[0:N-1]:
+        A[i] = A[i+1] // 0
 === SYMBOLS no program
 import dace
 N = dace.symbol('N')
