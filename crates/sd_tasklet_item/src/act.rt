@@ -65,8 +65,7 @@ fn act(
 {
     match statement {
         Statement::Set { name, value, .. } => {
-            let act = assignment(alloc, variables, connectors, locals, used, name, value)?;
-            Ok(Some(act))
+            Ok(Some(assignment(alloc, variables, connectors, locals, used, name, value)?))
         }
         Statement::SetAt {
             name,
