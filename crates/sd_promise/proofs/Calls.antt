@@ -1,0 +1,60 @@
+-- What a call prints of its files.
+use Rattle.std.proofs.Common.{◌≡◌, ◌⊎◌, inl, inr, ℕ, List, sym, subst}
+use Rattle.sd_io.specs.Count.{HasRisen}
+use Rattle.sd_work.specs.Move.{Fault}
+use Rattle.sd_work.specs.Run.{Left}
+use Rattle.sd_work.specs.Step.{Outcome, Done, Faulted, Spent}
+use Rattle.sd_graph.specs.declared.place.Place.{Place}
+use Rattle.sd_tool.specs.Command.{Call, to_run}
+use Rattle.sd_tool.specs.Work.{Work}
+use Rattle.sd_tool.specs.Answers.{ShelfUse, listed, answer_of_run, text_of}
+use Rattle.sd_tool.specs.Ends.{SinkUse, Writes}
+use Rattle.sd_tool.specs.Headline.{Prints}
+use Rattle.sd_tool.specs.Statuses.{Statuses, Runs, ListsGraph, EndsAs}
+use Rattle.sd_tool.specs.Told.{Asks}
+use Rattle.sd_promise.specs.Promise.{FilesSay, PrintsWhatIsSaid, EndsAsSaid, RunWasSaid}
+use Rattle.sd_promise.proofs.Files.{run_is_said, said_is_run, status_told}
+
+module _ (words : List (List ℕ)) (shelf : ShelfUse) (sink : SinkUse) (status : ℕ) where
+  pub printed_is_said : (call : Call) (work : Work) (turns : ℕ) (asks : Asks words shelf call work) → Prints work turns sink status → PrintsWhatIsSaid asks.source asks.arrays turns sink status
+  printed_is_said call work turns asks prints = record {
+    outcome = prints.outcome;
+    printed = text_of (answer_of_run work.tree turns prints.outcome);
+    said = run_is_said asks.source asks.arrays asks.tree work turns prints.outcome asks.tells.has_graph asks.comes prints.ends;
+    ends = subst (λ own. ((status ≡ own) × Writes sink (text_of (answer_of_run work.tree turns prints.outcome))) ⊎ (status ≡ 1)) (status_told work.tree turns prints.outcome) prints.printed;
+  }
+
+  pub said_is_printed : (call : Call) (work : Work) (turns : ℕ) (outcome : Outcome Place Left) (printed : List ℕ) → Statuses words shelf sink status → (asks : Asks words shelf call work) → call.command ≡ to_run turns →
+      FilesSay asks.source asks.arrays turns outcome printed → EndsAsSaid outcome printed sink status
+  said_is_printed call work turns outcome printed statuses asks command said =
+      let runs = said_is_run asks.source asks.arrays asks.tree work turns outcome printed asks.tells.has_graph asks.comes said in
+      let ends : EndsAs (answer_of_run work.tree turns outcome) sink status = statuses.run_where call work turns outcome asks command runs.0 in
+      subst (λ text. EndsAsSaid outcome text sink status) (sym runs.1)
+      (subst (λ own. ((status ≡ own) × Writes sink (text_of (answer_of_run work.tree turns outcome))) ⊎ ((status ≡ 10) × HasRisen sink.faults_before sink.faults_after) ⊎ (status ≡ 1)) (status_told work.tree turns outcome) ends)
+
+  run_was_said : (work : Work) (turns : ℕ) (outcome : Outcome Place Left) → Runs words shelf work turns outcome → Writes sink (text_of (answer_of_run work.tree turns outcome)) → RunWasSaid words shelf sink outcome
+  run_was_said work turns outcome runs writes = record {
+    call = runs.call;
+    turns = turns;
+    asked = runs.comes.source.asked;
+    asks = runs.asks;
+    text = runs.comes.source.source;
+    arrays = runs.comes.arrays;
+    text_read = runs.comes.source.reads;
+    arrays_read = runs.comes.reads;
+    printed = text_of (answer_of_run work.tree turns outcome);
+    said = run_is_said runs.comes.source.source runs.comes.arrays runs.comes.tree work turns outcome runs.comes.source.is runs.comes.is runs.ends;
+    writes = writes;
+  }
+
+  pub done_was_said : Statuses words shelf sink status → status ≡ 0 → ((left : Left) × RunWasSaid words shelf sink (Done left)) ⊎ ((work : Work) × ListsGraph words shelf work × Writes sink (text_of (listed work.tree)))
+  done_was_said statuses is = elim (statuses.zero is) [
+    | inl run ↦ inl (run.2, run_was_said run.0 run.1 (Done run.2) run.3 run.4)
+    | inr list ↦ inr list
+  ]
+
+  pub fault_was_said : Statuses words shelf sink status → status ≡ 7 → (fault : Fault Place) × RunWasSaid words shelf sink (Faulted fault)
+  fault_was_said statuses is = let run = statuses.seven is in (run.2, run_was_said run.0 run.1 (Faulted run.2) run.3 run.4)
+
+  pub spent_was_said : Statuses words shelf sink status → status ≡ 8 → RunWasSaid words shelf sink Spent
+  spent_was_said statuses is = let run = statuses.eight is in run_was_said run.0 run.1 Spent run.2 run.3

@@ -1,0 +1,51 @@
+-- What the files of a call say, and that a call prints it.
+use Rattle.std.specs.Prelude.{◌≡◌, ◌⊎◌, ℕ, ◌^◌, List, Ok}
+use Rattle.sd_io.specs.Count.{HasRisen}
+use Rattle.sd_lex.specs.PlainTree.{ProgramTree}
+use Rattle.sd_work.specs.Run.{Left}
+use Rattle.sd_work.specs.Step.{Outcome}
+use Rattle.sd_graph.specs.declared.place.Place.{Place}
+use Rattle.sd_source.specs.SourceReading.{reads}
+use Rattle.sd_json.specs.Given.{Contents}
+use Rattle.sd_says.specs.Says.{Says}
+use Rattle.sd_tool.specs.Command.{Call, IsCall, to_run}
+use Rattle.sd_tool.specs.Answers.{ShelfUse, Reads}
+use Rattle.sd_tool.specs.Ends.{SinkUse, Writes}
+use Rattle.sd_promise.specs.Source.{file_read, memory_given, text_said, status_said}
+
+-- the text is a source, the bytes are an arrays file of it, and with these arrays, sizes and turns the source says this outcome, whose text is this
+pub record FilesSay (text arrays : List ℕ) (turns : ℕ) (outcome : Outcome Place Left) (printed : List ℕ) : Type 0 where
+  pub source : ProgramTree
+  pub contents : Contents
+  pub reading : reads text ≡ Ok source
+  pub given : file_read source arrays ≡ Ok contents
+  pub says : Says source contents.sizes (memory_given source contents) turns outcome
+  pub is : printed ≡ text_said source contents.sizes turns outcome
+
+-- the files say an outcome; its text is written whole and the status is its own, or memory was wanting
+pub record PrintsWhatIsSaid (text arrays : List ℕ) (turns : ℕ) (sink : SinkUse) (status : ℕ) : Type 0 where
+  pub outcome : Outcome Place Left
+  pub printed : List ℕ
+  pub said : FilesSay text arrays turns outcome printed
+  pub ends : ((status ≡ status_said outcome) × Writes sink printed) ⊎ (status ≡ 1)
+
+-- the text of an outcome is written whole and the status is its own; or the sink failed, or memory was wanting
+abbrev pub EndsAsSaid : Outcome Place Left → (printed : List ℕ) → SinkUse → (status : ℕ) → Type 0
+EndsAsSaid outcome printed sink status =
+    ((status ≡ status_said outcome) × Writes sink printed)
+    ⊎ ((status ≡ 10) × HasRisen sink.faults_before sink.faults_after)
+    ⊎ (status ≡ 1)
+
+-- the words ask for a run of two files that were read, which say this outcome, and its text was written
+pub record RunWasSaid (words : List (List ℕ)) (shelf : ShelfUse) (sink : SinkUse) (outcome : Outcome Place Left) : Type 0 where
+  pub call : Call
+  pub turns : ℕ
+  pub asked : IsCall words call
+  pub asks : call.command ≡ to_run turns
+  pub text : List ℕ
+  pub arrays : List ℕ
+  pub text_read : Reads shelf call.source (2 ^ 20) text
+  pub arrays_read : Reads shelf call.arrays (2 ^ 26) arrays
+  pub printed : List ℕ
+  pub said : FilesSay text arrays turns outcome printed
+  pub writes : Writes sink printed

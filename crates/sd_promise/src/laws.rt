@@ -1,0 +1,42 @@
+ghost use Rattle.std.specs.Prelude.{◌≡◌, ◌⊎◌, ℕ, List, Ok};
+ghost use Rattle.sd_work.specs.Move.{Fault};
+ghost use Rattle.sd_work.specs.Run.{Left, Sequential};
+ghost use Rattle.sd_work.specs.Step.{Outcome, Done, Faulted, Spent};
+ghost use Rattle.sd_graph.specs.PlainTree.{GraphTree};
+ghost use Rattle.sd_graph.specs.declared.place.Place.{Place};
+ghost use Rattle.sd_tool.specs.Command.{Call, to_run};
+ghost use Rattle.sd_tool.specs.Work.{Work, source_graph, prepared, run_of_work};
+ghost use Rattle.sd_tool.specs.Answers.{ShelfUse, listed, answer_of_run, text_of};
+ghost use Rattle.sd_tool.specs.Ends.{SinkUse, Writes};
+ghost use Rattle.sd_tool.specs.Headline.{Prints};
+ghost use Rattle.sd_tool.specs.Statuses.{Statuses, ListsGraph};
+ghost use Rattle.sd_tool.specs.Told.{Asks};
+ghost use Rattle.sd_promise.specs.Promise.{FilesSay, PrintsWhatIsSaid, EndsAsSaid, RunWasSaid};
+
+/// Where a text has a graph and an arrays file fits it, the files say exactly what the sequential run of
+/// their work comes to, and the text of that is the one that is told of the run.
+pub fn files_say_what_their_graph_runs()
+    ensures run { (text arrays : List ℕ) (tree : GraphTree) (work : Work) (turns : ℕ) (outcome : Outcome Place Left)
+        → source_graph text ≡ Ok tree → prepared tree arrays ≡ Ok work
+        → Sequential (run_of_work work) turns outcome → FilesSay text arrays turns outcome (text_of (answer_of_run work.tree turns outcome)) }
+    ensures said { (text arrays : List ℕ) (tree : GraphTree) (work : Work) (turns : ℕ) (outcome : Outcome Place Left) (printed : List ℕ)
+        → source_graph text ≡ Ok tree → prepared tree arrays ≡ Ok work → FilesSay text arrays turns outcome printed
+        → Sequential (run_of_work work) turns outcome × (printed ≡ text_of (answer_of_run work.tree turns outcome)) }
+{}
+
+/// What a run prints is what its source says. Where two files are told and fit, what is printed is the text of
+/// an outcome that the source says with the sizes and arrays of the file (`prints`), and the text of what the
+/// source says is printed (`said`). Status 0 of a run, 7 and 8 come only where the source says that all is done, or this
+/// fault at this place, or that the turns are spent (`done`, `fault`, `spent`).
+pub fn run_prints_what_the_source_says()
+    ensures prints { (words : List (List ℕ)) (shelf : ShelfUse) (sink : SinkUse) (status : ℕ) (call : Call) (work : Work) (turns : ℕ) (asks : Asks words shelf call work)
+        → Prints work turns sink status → PrintsWhatIsSaid asks.source asks.arrays turns sink status }
+    ensures said { (words : List (List ℕ)) (shelf : ShelfUse) (sink : SinkUse) (status : ℕ) (call : Call) (work : Work) (turns : ℕ) (outcome : Outcome Place Left) (printed : List ℕ)
+        → Statuses words shelf sink status → (asks : Asks words shelf call work) → call.command ≡ to_run turns
+        → FilesSay asks.source asks.arrays turns outcome printed → EndsAsSaid outcome printed sink status }
+    ensures done { (words : List (List ℕ)) (shelf : ShelfUse) (sink : SinkUse) (status : ℕ) → Statuses words shelf sink status → status ≡ 0
+        → ((left : Left) × RunWasSaid words shelf sink (Done left)) ⊎ ((work : Work) × ListsGraph words shelf work × Writes sink (text_of (listed work.tree))) }
+    ensures fault { (words : List (List ℕ)) (shelf : ShelfUse) (sink : SinkUse) (status : ℕ) → Statuses words shelf sink status → status ≡ 7
+        → (fault : Fault Place) × RunWasSaid words shelf sink (Faulted fault) }
+    ensures spent { (words : List (List ℕ)) (shelf : ShelfUse) (sink : SinkUse) (status : ℕ) → Statuses words shelf sink status → status ≡ 8 → RunWasSaid words shelf sink Spent }
+{}
