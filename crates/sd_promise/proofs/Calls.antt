@@ -5,12 +5,13 @@ use Rattle.sd_work.specs.Move.{Fault}
 use Rattle.sd_work.specs.Run.{Left}
 use Rattle.sd_work.specs.Step.{Outcome, Done, Faulted, Spent}
 use Rattle.sd_graph.specs.declared.place.Place.{Place}
+use Rattle.sd_race.specs.Pairs.{IsGraphAccepted}
 use Rattle.sd_tool.specs.Command.{Call, to_run}
 use Rattle.sd_tool.specs.Work.{Work}
-use Rattle.sd_tool.specs.Answers.{ShelfUse, listed, answer_of_run, text_of}
+use Rattle.sd_tool.specs.Answers.{ShelfUse, listed, checked, answer_of_run, text_of}
 use Rattle.sd_tool.specs.Ends.{SinkUse, Writes}
 use Rattle.sd_tool.specs.Headline.{Prints}
-use Rattle.sd_tool.specs.Statuses.{Statuses, Runs, ListsGraph, EndsAs}
+use Rattle.sd_tool.specs.Statuses.{Statuses, Runs, ListsGraph, AcceptsGraph, EndsAs}
 use Rattle.sd_tool.specs.Told.{Asks}
 use Rattle.sd_promise.specs.Promise.{FilesSay, PrintsWhatIsSaid, EndsAsSaid, RunWasSaid}
 use Rattle.sd_promise.proofs.Files.{run_is_said, said_is_run, status_told}
@@ -24,11 +25,11 @@ module _ (words : List (List ℕ)) (shelf : ShelfUse) (sink : SinkUse) (status :
     ends = subst (λ own. ((status ≡ own) × Writes sink (text_of (answer_of_run work.tree turns prints.outcome))) ⊎ (status ≡ 1)) (status_told work.tree turns prints.outcome) prints.printed;
   }
 
-  pub said_is_printed : (call : Call) (work : Work) (turns : ℕ) (outcome : Outcome Place Left) (printed : List ℕ) → Statuses words shelf sink status → (asks : Asks words shelf call work) → call.command ≡ to_run turns →
+  pub said_is_printed : (call : Call) (work : Work) (turns : ℕ) (outcome : Outcome Place Left) (printed : List ℕ) → Statuses words shelf sink status → (asks : Asks words shelf call work) → call.command ≡ to_run turns → IsGraphAccepted work.tree →
       FilesSay asks.source asks.arrays turns outcome printed → EndsAsSaid outcome printed sink status
-  said_is_printed call work turns outcome printed statuses asks command said =
+  said_is_printed call work turns outcome printed statuses asks command accepted said =
       let runs = said_is_run asks.source asks.arrays asks.tree work turns outcome printed asks.tells.has_graph asks.comes said in
-      let ends : EndsAs (answer_of_run work.tree turns outcome) sink status = statuses.run_where call work turns outcome asks command runs.0 in
+      let ends : EndsAs (answer_of_run work.tree turns outcome) sink status = statuses.run_where call work turns outcome asks command accepted runs.0 in
       subst (λ text. EndsAsSaid outcome text sink status) (sym runs.1)
       (subst (λ own. ((status ≡ own) × Writes sink (text_of (answer_of_run work.tree turns outcome))) ⊎ ((status ≡ 10) × HasRisen sink.faults_before sink.faults_after) ⊎ (status ≡ 1)) (status_told work.tree turns outcome) ends)
 
@@ -47,10 +48,10 @@ module _ (words : List (List ℕ)) (shelf : ShelfUse) (sink : SinkUse) (status :
     writes = writes;
   }
 
-  pub done_was_said : Statuses words shelf sink status → status ≡ 0 → ((left : Left) × RunWasSaid words shelf sink (Done left)) ⊎ ((work : Work) × ListsGraph words shelf work × Writes sink (text_of (listed work.tree)))
+  pub done_was_said : Statuses words shelf sink status → status ≡ 0 → ((left : Left) × RunWasSaid words shelf sink (Done left)) ⊎ ((work : Work) × ListsGraph words shelf work × Writes sink (text_of (listed work.tree))) ⊎ ((work : Work) × AcceptsGraph words shelf work × Writes sink (text_of (checked work.tree)))
   done_was_said statuses is = elim (statuses.zero is) [
     | inl run ↦ inl (run.2, run_was_said run.0 run.1 (Done run.2) run.3 run.4)
-    | inr list ↦ inr list
+    | inr other ↦ inr other
   ]
 
   pub fault_was_said : Statuses words shelf sink status → status ≡ 7 → (fault : Fault Place) × RunWasSaid words shelf sink (Faulted fault)

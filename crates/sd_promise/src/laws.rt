@@ -6,10 +6,11 @@ ghost use Rattle.sd_graph.specs.PlainTree.{GraphTree};
 ghost use Rattle.sd_graph.specs.declared.place.Place.{Place};
 ghost use Rattle.sd_tool.specs.Command.{Call, to_run};
 ghost use Rattle.sd_tool.specs.Work.{Work, source_graph, prepared, run_of_work};
-ghost use Rattle.sd_tool.specs.Answers.{ShelfUse, listed, answer_of_run, text_of};
+ghost use Rattle.sd_race.specs.Pairs.{IsGraphAccepted};
+ghost use Rattle.sd_tool.specs.Answers.{ShelfUse, listed, checked, answer_of_run, text_of};
 ghost use Rattle.sd_tool.specs.Ends.{SinkUse, Writes};
 ghost use Rattle.sd_tool.specs.Headline.{Prints};
-ghost use Rattle.sd_tool.specs.Statuses.{Statuses, ListsGraph};
+ghost use Rattle.sd_tool.specs.Statuses.{Statuses, ListsGraph, AcceptsGraph};
 ghost use Rattle.sd_tool.specs.Told.{Asks};
 ghost use Rattle.sd_promise.specs.Promise.{FilesSay, PrintsWhatIsSaid, EndsAsSaid, RunWasSaid};
 
@@ -32,10 +33,10 @@ pub fn run_prints_what_the_source_says()
     ensures prints { (words : List (List ℕ)) (shelf : ShelfUse) (sink : SinkUse) (status : ℕ) (call : Call) (work : Work) (turns : ℕ) (asks : Asks words shelf call work)
         → Prints work turns sink status → PrintsWhatIsSaid asks.source asks.arrays turns sink status }
     ensures said { (words : List (List ℕ)) (shelf : ShelfUse) (sink : SinkUse) (status : ℕ) (call : Call) (work : Work) (turns : ℕ) (outcome : Outcome Place Left) (printed : List ℕ)
-        → Statuses words shelf sink status → (asks : Asks words shelf call work) → call.command ≡ to_run turns
+        → Statuses words shelf sink status → (asks : Asks words shelf call work) → call.command ≡ to_run turns → IsGraphAccepted work.tree
         → FilesSay asks.source asks.arrays turns outcome printed → EndsAsSaid outcome printed sink status }
     ensures done { (words : List (List ℕ)) (shelf : ShelfUse) (sink : SinkUse) (status : ℕ) → Statuses words shelf sink status → status ≡ 0
-        → ((left : Left) × RunWasSaid words shelf sink (Done left)) ⊎ ((work : Work) × ListsGraph words shelf work × Writes sink (text_of (listed work.tree))) }
+        → ((left : Left) × RunWasSaid words shelf sink (Done left)) ⊎ ((work : Work) × ListsGraph words shelf work × Writes sink (text_of (listed work.tree))) ⊎ ((work : Work) × AcceptsGraph words shelf work × Writes sink (text_of (checked work.tree))) }
     ensures fault { (words : List (List ℕ)) (shelf : ShelfUse) (sink : SinkUse) (status : ℕ) → Statuses words shelf sink status → status ≡ 7
         → (fault : Fault Place) × RunWasSaid words shelf sink (Faulted fault) }
     ensures spent { (words : List (List ℕ)) (shelf : ShelfUse) (sink : SinkUse) (status : ℕ) → Statuses words shelf sink status → status ≡ 8 → RunWasSaid words shelf sink Spent }
