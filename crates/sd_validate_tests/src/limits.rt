@@ -344,44 +344,50 @@ fn a_constant_below_2_to_the_41(rt: HostRuntime) -> Result<(), Fail> {
     Ok(())
 }
 
-/// A parameter so many times.
-fn scaled(alloc: Global, variable: u32, coefficient: i128) -> Result<Affine, NoMemory> {
+/// A variable 2^10 times, or -2^10 times, and once more where `is_more`.
+fn scaled(
+    alloc: Global,
+    variable: u32,
+    is_more: bool,
+    is_negative: bool,
+) -> Result<Affine, NoMemory> {
     let mut terms = Terms::new(alloc);
-    if coefficient != 0 {
-        terms.push(variable, coefficient)?;
+    match (is_more, is_negative) {
+        (false, false) => terms.push(variable, 1024)?,
+        (false, true) => terms.push(variable, -1024)?,
+        (true, false) => terms.push(variable, 1025)?,
+        (true, true) => terms.push(variable, -1025)?,
     }
     Ok(Affine { constant: 0, terms })
+}
+
+/// A map of a variable behind those of the example, whose range is up to this number.
+fn map_up_to(alloc: Global, end: Affine) -> Result<ItemKind, NoMemory> {
+    let range = Range {
+        begin: Affine::constant(alloc, 0),
+        ends: Sequence::from(vec![in alloc; end]?),
+        step: 1,
+    };
+    Ok(ItemKind::Map {
+        params: vec![in alloc; (3, range)]?,
+        private: Vec::new(alloc),
+        body: Vec::new(alloc),
+    })
 }
 
 #[test]
 fn coefficients_up_to_2_to_the_10(rt: HostRuntime) -> Result<(), Fail> {
     let alloc = rt.alloc();
-    for (coefficient, want) in [
-        (1024, "valid"),
-        (-1024, "valid"),
-        (1025, "rule 7 at 3 2 0"),
-        (-1025, "rule 7 at 3 2 0"),
+    for (is_more, is_negative, want) in [
+        (false, false, "valid"),
+        (false, true, "valid"),
+        (true, false, "rule 7 at 3 2 0"),
+        (true, true, "rule 7 at 3 2 0"),
     ] {
-        let range = Range {
-            begin: Affine::constant(alloc, 0),
-            ends: Sequence::from(vec![in alloc; scaled(alloc, FREE, coefficient)?]?),
-            step: 1,
-        };
-        let params = vec![in alloc; (3, range)]?;
-        let (private, body) = (Vec::new(alloc), Vec::new(alloc));
-        let inner = ItemKind::Map {
-            params,
-            private,
-            body,
-        };
-        let kind = map(
-            alloc,
-            &[(FREE, Sum::Number(1))],
-            &[],
-            vec![in alloc; inner]?,
-        )?;
+        let inner = map_up_to(alloc, scaled(alloc, FREE, is_more, is_negative)?)?;
+        let body = vec![in alloc; inner]?;
         let mut behind = pushed_and_consumed(alloc)?;
-        behind.push(kind)?;
+        behind.push(map(alloc, &[(FREE, Sum::Number(1))], &[], body)?)?;
         let mut graph = behind_loop(alloc, behind)?;
         graph.variables.push(String::new(alloc))?;
         assert_eq!(rt; verdict(alloc, graph)?.as_str(), want);

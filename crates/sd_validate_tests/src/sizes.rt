@@ -4,7 +4,7 @@ use crate::parts::{
     At, Sum, affine, at, below, copying, giving, graph, leading, map, setting, state, task, writing,
 };
 use sd_graph::{ContainerKind, Exit, ItemKind, Sdfg, State, Value};
-use sd_list::NoMemory;
+use sd_list::{NoMemory, Sequence};
 use std::alloc::Global;
 use std::test::Fail;
 
@@ -118,7 +118,7 @@ fn an_extent_that_is_no_constant(rt: HostRuntime) -> Result<(), Fail> {
     let kinds = vec![in alloc; copies]?;
     let mut graph = with_symbol(alloc, kinds, leading(alloc, 1, None))?;
     if let Some(container) = graph.containers.get_index_mut(1) {
-        container.extents.set(0, affine(alloc, Sum::Plus(SIZE, 0))?);
+        container.extents = Sequence::from(vec![in alloc; affine(alloc, Sum::Plus(SIZE, 0))?]?);
     }
     assert_eq!(rt; verdict(alloc, graph)?.as_str(), "rule 8 at");
     Ok(())
