@@ -65,7 +65,8 @@ fn act(
 {
     match statement {
         Statement::Set { name, value, .. } => {
-            Ok(Some(assignment(alloc, variables, connectors, locals, used, name, value)?))
+            let act = assignment(alloc, variables, connectors, locals, used, name, value)?;
+            Ok(Some(act))
         }
         Statement::SetAt {
             name,
