@@ -1,6 +1,8 @@
 //! Rule 2: dimensions, connectors, and what code names.
 use crate::example::{ALL, ARGUMENT, MATRIX, SINGLE, closing, leaving, told, told_of_loop};
-use crate::parts::{At, assign, at, code, giving, input, leading, link, links, task, writing};
+use crate::parts::{
+    Dimension, assign, at, code, giving, input, leading, link, links, task, writing,
+};
 use sd_graph::{Act, Guard, ItemKind, Tasklet, Value};
 use sd_list::{NoMemory, Sequence};
 use sd_range::{Affine, Dim};
@@ -8,7 +10,12 @@ use std::alloc::Global;
 use std::test::Fail;
 
 /// What is told of the graph with a task of this code, which writes this part of a container.
-fn told_of_code(alloc: Global, code: Tasklet, container: u32, at: &[At]) -> Result<String, Fail> {
+fn told_of_code(
+    alloc: Global,
+    code: Tasklet,
+    container: u32,
+    at: &[Dimension],
+) -> Result<String, Fail> {
     told(alloc, task(alloc, code, container, at)?)
 }
 
@@ -37,7 +44,7 @@ fn a_range_of_two_ends(rt: HostRuntime) -> Result<(), Fail> {
     if let [Dim::Span(range)] = from.memlet.subset.dims.as_mut_slice() {
         range.ends.push(Affine::constant(alloc, 1))?;
     }
-    let to = link(alloc, MATRIX, &[at(0), At::Span(0, 2)])?;
+    let to = link(alloc, MATRIX, &[at(0), Dimension::Span(0, 2)])?;
     let told = told(alloc, ItemKind::Copy { from, to })?;
     assert_eq!(rt; told.as_str(), "rule 2 at 3 2");
     Ok(())
@@ -173,7 +180,7 @@ fn a_local_that_the_code_does_not_have(rt: HostRuntime) -> Result<(), Fail> {
 }
 
 /// What is told where the loop begins with a condition that reads this part of the argument.
-fn told_of_condition(alloc: Global, at: &[At], code: Tasklet) -> Result<String, Fail> {
+fn told_of_condition(alloc: Global, at: &[Dimension], code: Tasklet) -> Result<String, Fail> {
     let when = Guard {
         line: 1,
         reads: Sequence::from(links(alloc, &[(ARGUMENT, at)])?),

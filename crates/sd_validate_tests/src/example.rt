@@ -1,7 +1,7 @@
 //! A valid graph with a thing of each kind, and places in it for one thing more.
 use crate::parts::{
-    At, Sum, at, below, consume, copying, graph, leading, map, nested, reducing, setting, state,
-    writing,
+    Dimension, Sum, at, below, consume, copying, graph, leading, map, nested, reducing, setting,
+    state, writing,
 };
 use sd_graph::{Bound, ContainerKind, Exit, ItemKind, Path, Sdfg, State, Value};
 use sd_list::NoMemory;
@@ -68,7 +68,7 @@ pub(crate) fn with_states(alloc: Global, states: Vec<State>) -> Result<Sdfg, NoM
 
 /// The map in the block of the loop: its range depends on the loop's variable.
 pub(crate) fn block(alloc: Global) -> Result<Vec<ItemKind>, NoMemory> {
-    let own = writing(alloc, OWN, &[At::Index(Sum::Plus(PARAM, 0))])?;
+    let own = writing(alloc, OWN, &[Dimension::Index(Sum::Plus(PARAM, 0))])?;
     Ok(vec![in alloc;
         map(
             alloc,
@@ -156,12 +156,12 @@ pub(crate) fn inner(alloc: Global) -> Result<Sdfg, NoMemory> {
 }
 
 /// A row of the matrix.
-pub(crate) const ROW: [At; 2] = [At::Index(Sum::Number(1)), At::Span(0, 2)];
+pub(crate) const ROW: [Dimension; 2] = [Dimension::Index(Sum::Number(1)), Dimension::Span(0, 2)];
 
 /// The whole of the argument, and of the matrix.
-pub(crate) const ALL: [At; 1] = [At::Span(0, 2)];
+pub(crate) const ALL: [Dimension; 1] = [Dimension::Span(0, 2)];
 
-pub(crate) const ALL_OF_MATRIX: [At; 2] = [At::Span(0, 1), At::Span(0, 2)];
+pub(crate) const ALL_OF_MATRIX: [Dimension; 2] = [Dimension::Span(0, 1), Dimension::Span(0, 2)];
 
 /// The items that the graph has behind its loop, with a nested graph, a reduction and a copy.
 pub(crate) fn each_kind(alloc: Global) -> Result<Vec<ItemKind>, NoMemory> {

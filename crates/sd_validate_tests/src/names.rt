@@ -5,7 +5,8 @@ use crate::example::{
     with_states,
 };
 use crate::parts::{
-    At, Sum, at, consume, giving, graph, input, leading, links, map, setting, state, task, writing,
+    Dimension, Sum, at, consume, giving, graph, input, leading, links, map, setting, state, task,
+    writing,
 };
 use sd_graph::{ContainerKind, Guard, ItemKind, Value};
 use sd_list::{NoMemory, Sequence};
@@ -102,7 +103,7 @@ fn a_parameter_outside_of_its_map(rt: HostRuntime) -> Result<(), Fail> {
     let alloc = rt.alloc();
     let told = told(
         alloc,
-        writing(alloc, ARGUMENT, &[At::Index(Sum::Plus(PARAM, 0))])?,
+        writing(alloc, ARGUMENT, &[Dimension::Index(Sum::Plus(PARAM, 0))])?,
     )?;
     assert_eq!(rt; told.as_str(), "rule 1 at 3 2");
     Ok(())
@@ -113,7 +114,7 @@ fn a_loop_variable_outside_of_its_loop(rt: HostRuntime) -> Result<(), Fail> {
     let alloc = rt.alloc();
     let told = told(
         alloc,
-        writing(alloc, ARGUMENT, &[At::Index(Sum::Plus(LOOP, 0))])?,
+        writing(alloc, ARGUMENT, &[Dimension::Index(Sum::Plus(LOOP, 0))])?,
     )?;
     assert_eq!(rt; told.as_str(), "rule 1 at 3 2");
     Ok(())
@@ -133,7 +134,7 @@ fn a_variable_that_is_not_there(rt: HostRuntime) -> Result<(), Fail> {
     let alloc = rt.alloc();
     let told = told(
         alloc,
-        writing(alloc, ARGUMENT, &[At::Index(Sum::Plus(NOWHERE, 0))])?,
+        writing(alloc, ARGUMENT, &[Dimension::Index(Sum::Plus(NOWHERE, 0))])?,
     )?;
     assert_eq!(rt; told.as_str(), "rule 1 at 3 2");
     Ok(())

@@ -1,6 +1,6 @@
 //! Rule 5: arguments, and links of nested graphs.
 use crate::example::{ALL, ALL_OF_MATRIX, ARGUMENT, MATRIX, ROW, SINGLE, inner, told, verdict};
-use crate::parts::{At, at, copying, graph, nested, state, writing};
+use crate::parts::{Dimension, at, copying, graph, nested, state, writing};
 use sd_graph::{ContainerKind, ItemKind, Sdfg};
 use sd_list::NoMemory;
 use std::alloc::Global;
@@ -8,7 +8,7 @@ use std::slice::from_ref;
 use std::test::Fail;
 
 /// What is told of the graph in which another is nested that writes its argument of 3 elements.
-fn told_of_links(alloc: Global, parts: &[(u32, &[At])]) -> Result<String, Fail> {
+fn told_of_links(alloc: Global, parts: &[(u32, &[Dimension])]) -> Result<String, Fail> {
     told(alloc, nested(alloc, inner(alloc)?, parts)?)
 }
 
@@ -27,9 +27,9 @@ fn as_many_links_as_arguments(rt: HostRuntime) -> Result<(), Fail> {
 #[test]
 fn an_argument_of_another_extent(rt: HostRuntime) -> Result<(), Fail> {
     let alloc = rt.alloc();
-    let short = told_of_links(alloc, &[(ARGUMENT, &[At::Span(0, 1)])])?;
+    let short = told_of_links(alloc, &[(ARGUMENT, &[Dimension::Span(0, 1)])])?;
     assert_eq!(rt; short.as_str(), "rule 5 at 3 2");
-    let moved = told_of_links(alloc, &[(ARGUMENT, &[At::Span(1, 3)])])?;
+    let moved = told_of_links(alloc, &[(ARGUMENT, &[Dimension::Span(1, 3)])])?;
     assert_eq!(rt; moved.as_str(), "valid");
     Ok(())
 }
@@ -45,7 +45,7 @@ fn an_argument_of_more_dimensions(rt: HostRuntime) -> Result<(), Fail> {
 #[test]
 fn an_argument_of_another_step(rt: HostRuntime) -> Result<(), Fail> {
     let alloc = rt.alloc();
-    let told = told_of_links(alloc, &[(ARGUMENT, &[At::By(0, 2, 2)])])?;
+    let told = told_of_links(alloc, &[(ARGUMENT, &[Dimension::By(0, 2, 2)])])?;
     assert_eq!(rt; told.as_str(), "rule 5 at 3 2");
     Ok(())
 }
@@ -127,7 +127,7 @@ fn what_a_graph_within_a_nested_one_writes_is_written(rt: HostRuntime) -> Result
 #[test]
 fn links_of_a_graph_within_a_nested_one(rt: HostRuntime) -> Result<(), Fail> {
     let alloc = rt.alloc();
-    let innermost = nested(alloc, inner(alloc)?, &[(0, &[At::Span(0, 1)])])?;
+    let innermost = nested(alloc, inner(alloc)?, &[(0, &[Dimension::Span(0, 1)])])?;
     let middle = of_arguments(alloc, &[3], innermost)?;
     let told = told(alloc, nested(alloc, middle, &[(ARGUMENT, &ALL)])?)?;
     assert_eq!(rt; told.as_str(), "rule 5 at 3 2 0 0");

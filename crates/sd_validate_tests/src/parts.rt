@@ -18,15 +18,15 @@ pub(crate) enum Sum {
 
 /// A dimension of a subset: an index, a range up to a last number, or one with another step than 1.
 #[derive(Clone, Copy)]
-pub(crate) enum At {
+pub(crate) enum Dimension {
     Index(Sum),
     Span(i128, i128),
     By(i128, i128, i128),
 }
 
 /// An index that is a number.
-pub(crate) fn at(number: i128) -> At {
-    At::Index(Sum::Number(number))
+pub(crate) fn at(number: i128) -> Dimension {
+    Dimension::Index(Sum::Number(number))
 }
 
 pub(crate) fn affine(alloc: Global, sum: Sum) -> Result<Affine, NoMemory> {
@@ -47,17 +47,17 @@ pub(crate) fn range(alloc: Global, begin: Sum, end: Sum, step: i128) -> Result<R
     Ok(Range { begin, ends, step })
 }
 
-fn dim(alloc: Global, at: At) -> Result<Dim, NoMemory> {
+fn dim(alloc: Global, at: Dimension) -> Result<Dim, NoMemory> {
     let (first, last, step) = match at {
-        At::Index(sum) => return Ok(Dim::Index(affine(alloc, sum)?)),
-        At::Span(first, last) => (first, last, 1),
-        At::By(first, last, step) => (first, last, step),
+        Dimension::Index(sum) => return Ok(Dim::Index(affine(alloc, sum)?)),
+        Dimension::Span(first, last) => (first, last, 1),
+        Dimension::By(first, last, step) => (first, last, step),
     };
     let range = range(alloc, Sum::Number(first), Sum::Number(last), step)?;
     Ok(Dim::Span(range))
 }
 
-pub(crate) fn link(alloc: Global, container: u32, at: &[At]) -> Result<Link, NoMemory> {
+pub(crate) fn link(alloc: Global, container: u32, at: &[Dimension]) -> Result<Link, NoMemory> {
     let mut dims = Sequence::new(alloc);
     for one in at {
         dims.push(dim(alloc, *one)?)?;
@@ -75,7 +75,7 @@ pub(crate) fn link(alloc: Global, container: u32, at: &[At]) -> Result<Link, NoM
 }
 
 /// Links to parts of containers.
-pub(crate) fn links(alloc: Global, parts: &[(u32, &[At])]) -> Result<Vec<Link>, NoMemory> {
+pub(crate) fn links(alloc: Global, parts: &[(u32, &[Dimension])]) -> Result<Vec<Link>, NoMemory> {
     let mut links = Vec::new(alloc);
     for (container, at) in parts {
         links.push(link(alloc, *container, at)?)?;
@@ -153,7 +153,7 @@ pub(crate) fn task(
     alloc: Global,
     code: Tasklet,
     container: u32,
-    at: &[At],
+    at: &[Dimension],
 ) -> Result<ItemKind, NoMemory> {
     Ok(ItemKind::Task {
         code,
@@ -163,14 +163,18 @@ pub(crate) fn task(
 }
 
 /// A task that writes a number to an element.
-pub(crate) fn writing(alloc: Global, container: u32, at: &[At]) -> Result<ItemKind, NoMemory> {
+pub(crate) fn writing(
+    alloc: Global,
+    container: u32,
+    at: &[Dimension],
+) -> Result<ItemKind, NoMemory> {
     task(alloc, giving(alloc, 0, Value::Number(7))?, container, at)
 }
 
 pub(crate) fn copying(
     alloc: Global,
-    from: (u32, &[At]),
-    to: (u32, &[At]),
+    from: (u32, &[Dimension]),
+    to: (u32, &[Dimension]),
 ) -> Result<ItemKind, NoMemory> {
     Ok(ItemKind::Copy {
         from: link(alloc, from.0, from.1)?,
@@ -182,8 +186,8 @@ pub(crate) fn copying(
 pub(crate) fn reducing(
     alloc: Global,
     axis: Option<u32>,
-    from: (u32, &[At]),
-    to: (u32, &[At]),
+    from: (u32, &[Dimension]),
+    to: (u32, &[Dimension]),
 ) -> Result<ItemKind, NoMemory> {
     Ok(ItemKind::Reduce {
         resolution: Resolution::Sum,
@@ -242,7 +246,7 @@ pub(crate) fn consume(
 pub(crate) fn nested(
     alloc: Global,
     graph: Sdfg,
-    parts: &[(u32, &[At])],
+    parts: &[(u32, &[Dimension])],
 ) -> Result<ItemKind, NoMemory> {
     Ok(ItemKind::Nested {
         graph: Box::new(alloc, graph)?,

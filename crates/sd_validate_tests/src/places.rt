@@ -3,7 +3,7 @@ use crate::example::{
     ALL, ARGUMENT, FREE, LOOP, NOWHERE, OWN, SINGLE, STREAM, behind_loop, inner,
     pushed_and_consumed, told, verdict,
 };
-use crate::parts::{At, Sum, at, copying, graph, map, nested, state, writing};
+use crate::parts::{Dimension, Sum, at, copying, graph, map, nested, state, writing};
 use sd_graph::{ContainerKind, ItemKind, Sdfg};
 use sd_list::NoMemory;
 use std::alloc::Global;
@@ -80,7 +80,7 @@ fn a_path_goes_on_in_a_nested_graph(rt: HostRuntime) -> Result<(), Fail> {
 #[test]
 fn a_nested_graph_has_names_of_its_own(rt: HostRuntime) -> Result<(), Fail> {
     let alloc = rt.alloc();
-    let body = vec![in alloc; writing(alloc, 0, &[At::Index(Sum::Plus(LOOP, 0))])?]?;
+    let body = vec![in alloc; writing(alloc, 0, &[Dimension::Index(Sum::Plus(LOOP, 0))])?]?;
     let scope = map(alloc, &[(LOOP, Sum::Number(2))], &[], body)?;
     let inner = inner_with(alloc, scope)?;
     let told = told(alloc, nested(alloc, inner, &[(ARGUMENT, &ALL)])?)?;
@@ -96,7 +96,10 @@ fn names_of_the_graph_about_it_are_not_in_force_in_a_nested_graph(
     let inner = inner_with(alloc, writing(alloc, OWN, &[at(0)])?)?;
     let told_of_container = told(alloc, nested(alloc, inner, &[(ARGUMENT, &ALL)])?)?;
     assert_eq!(rt; told_of_container.as_str(), "rule 1 at 3 2 0 0");
-    let inner = inner_with(alloc, writing(alloc, 0, &[At::Index(Sum::Plus(LOOP, 0))])?)?;
+    let inner = inner_with(
+        alloc,
+        writing(alloc, 0, &[Dimension::Index(Sum::Plus(LOOP, 0))])?,
+    )?;
     let told_of_variable = told(alloc, nested(alloc, inner, &[(ARGUMENT, &ALL)])?)?;
     assert_eq!(rt; told_of_variable.as_str(), "rule 1 at 3 2 0 0");
     Ok(())

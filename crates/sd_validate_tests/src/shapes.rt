@@ -1,11 +1,11 @@
 //! Rule 6: the two sides of copies and reductions.
 use crate::example::{ALL, ALL_OF_MATRIX, ARGUMENT, MATRIX, ROW, SINGLE, told};
-use crate::parts::{At, Sum, at, copying, reducing};
+use crate::parts::{Dimension, Sum, at, copying, reducing};
 use std::alloc::Global;
 use std::test::Fail;
 
 /// What is told of the graph with a copy of a part of the argument to a part of the matrix.
-fn told_of_copy(alloc: Global, from: At, to: At) -> Result<String, Fail> {
+fn told_of_copy(alloc: Global, from: Dimension, to: Dimension) -> Result<String, Fail> {
     told(
         alloc,
         copying(alloc, (ARGUMENT, &[from]), (MATRIX, &[at(0), to]))?,
@@ -16,8 +16,8 @@ fn told_of_copy(alloc: Global, from: At, to: At) -> Result<String, Fail> {
 fn told_of_reduction(
     alloc: Global,
     axis: Option<u32>,
-    from: [At; 2],
-    to: At,
+    from: [Dimension; 2],
+    to: Dimension,
 ) -> Result<String, Fail> {
     told(
         alloc,
@@ -28,7 +28,7 @@ fn told_of_reduction(
 #[test]
 fn a_copy_within_one_container(rt: HostRuntime) -> Result<(), Fail> {
     let alloc = rt.alloc();
-    let other = [At::Index(Sum::Number(0)), At::Span(0, 2)];
+    let other = [Dimension::Index(Sum::Number(0)), Dimension::Span(0, 2)];
     let told = told(alloc, copying(alloc, (MATRIX, &other), (MATRIX, &ROW))?)?;
     assert_eq!(rt; told.as_str(), "rule 6 at 3 2");
     Ok(())
@@ -37,9 +37,9 @@ fn a_copy_within_one_container(rt: HostRuntime) -> Result<(), Fail> {
 #[test]
 fn a_copy_of_more_or_fewer_elements(rt: HostRuntime) -> Result<(), Fail> {
     let alloc = rt.alloc();
-    let same = told_of_copy(alloc, At::Span(0, 1), At::Span(1, 2))?;
+    let same = told_of_copy(alloc, Dimension::Span(0, 1), Dimension::Span(1, 2))?;
     assert_eq!(rt; same.as_str(), "valid");
-    let fewer = told_of_copy(alloc, At::Span(0, 2), At::Span(0, 1))?;
+    let fewer = told_of_copy(alloc, Dimension::Span(0, 2), Dimension::Span(0, 1))?;
     assert_eq!(rt; fewer.as_str(), "rule 6 at 3 2");
     Ok(())
 }
@@ -47,9 +47,9 @@ fn a_copy_of_more_or_fewer_elements(rt: HostRuntime) -> Result<(), Fail> {
 #[test]
 fn a_copy_of_another_step(rt: HostRuntime) -> Result<(), Fail> {
     let alloc = rt.alloc();
-    let same = told_of_copy(alloc, At::By(0, 2, 2), At::By(0, 2, 2))?;
+    let same = told_of_copy(alloc, Dimension::By(0, 2, 2), Dimension::By(0, 2, 2))?;
     assert_eq!(rt; same.as_str(), "valid");
-    let other = told_of_copy(alloc, At::By(0, 2, 2), At::Span(0, 2))?;
+    let other = told_of_copy(alloc, Dimension::By(0, 2, 2), Dimension::Span(0, 2))?;
     assert_eq!(rt; other.as_str(), "rule 6 at 3 2");
     Ok(())
 }
@@ -75,11 +75,11 @@ fn a_reduction_within_one_container(rt: HostRuntime) -> Result<(), Fail> {
 #[test]
 fn the_axis_is_a_range_of_the_source(rt: HostRuntime) -> Result<(), Fail> {
     let alloc = rt.alloc();
-    let first = told_of_reduction(alloc, Some(0), ALL_OF_MATRIX, At::Span(0, 2))?;
+    let first = told_of_reduction(alloc, Some(0), ALL_OF_MATRIX, Dimension::Span(0, 2))?;
     assert_eq!(rt; first.as_str(), "valid");
-    let second = told_of_reduction(alloc, Some(1), ALL_OF_MATRIX, At::Span(0, 1))?;
+    let second = told_of_reduction(alloc, Some(1), ALL_OF_MATRIX, Dimension::Span(0, 1))?;
     assert_eq!(rt; second.as_str(), "valid");
-    let third = told_of_reduction(alloc, Some(2), ALL_OF_MATRIX, At::Span(0, 2))?;
+    let third = told_of_reduction(alloc, Some(2), ALL_OF_MATRIX, Dimension::Span(0, 2))?;
     assert_eq!(rt; third.as_str(), "rule 6 at 3 2");
     Ok(())
 }
@@ -87,7 +87,7 @@ fn the_axis_is_a_range_of_the_source(rt: HostRuntime) -> Result<(), Fail> {
 #[test]
 fn the_target_is_left_without_the_axis(rt: HostRuntime) -> Result<(), Fail> {
     let alloc = rt.alloc();
-    let told = told_of_reduction(alloc, Some(1), ALL_OF_MATRIX, At::Span(0, 2))?;
+    let told = told_of_reduction(alloc, Some(1), ALL_OF_MATRIX, Dimension::Span(0, 2))?;
     assert_eq!(rt; told.as_str(), "rule 6 at 3 2");
     Ok(())
 }
@@ -100,9 +100,9 @@ fn a_reduction_without_an_axis_has_one_value(rt: HostRuntime) -> Result<(), Fail
         reducing(alloc, None, (MATRIX, &ROW), (SINGLE, &[at(0)]))?,
     )?;
     assert_eq!(rt; one.as_str(), "valid");
-    let range = told_of_reduction(alloc, None, ALL_OF_MATRIX, At::Span(1, 1))?;
+    let range = told_of_reduction(alloc, None, ALL_OF_MATRIX, Dimension::Span(1, 1))?;
     assert_eq!(rt; range.as_str(), "valid");
-    let more = told_of_reduction(alloc, None, ALL_OF_MATRIX, At::Span(0, 1))?;
+    let more = told_of_reduction(alloc, None, ALL_OF_MATRIX, Dimension::Span(0, 1))?;
     assert_eq!(rt; more.as_str(), "rule 6 at 3 2");
     Ok(())
 }
@@ -110,10 +110,10 @@ fn a_reduction_without_an_axis_has_one_value(rt: HostRuntime) -> Result<(), Fail
 #[test]
 fn a_reduction_of_another_step(rt: HostRuntime) -> Result<(), Fail> {
     let alloc = rt.alloc();
-    let from = [At::Span(0, 1), At::By(0, 2, 2)];
-    let source = told_of_reduction(alloc, Some(0), from, At::By(0, 2, 2))?;
+    let from = [Dimension::Span(0, 1), Dimension::By(0, 2, 2)];
+    let source = told_of_reduction(alloc, Some(0), from, Dimension::By(0, 2, 2))?;
     assert_eq!(rt; source.as_str(), "rule 6 at 3 2");
-    let target = told_of_reduction(alloc, Some(0), ALL_OF_MATRIX, At::By(0, 2, 2))?;
+    let target = told_of_reduction(alloc, Some(0), ALL_OF_MATRIX, Dimension::By(0, 2, 2))?;
     assert_eq!(rt; target.as_str(), "rule 6 at 3 2");
     Ok(())
 }

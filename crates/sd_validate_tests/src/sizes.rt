@@ -1,7 +1,8 @@
 //! Rule 8: size symbols and extents.
 use crate::example::verdict;
 use crate::parts::{
-    At, Sum, affine, at, below, copying, giving, graph, leading, map, setting, state, task, writing,
+    Dimension, Sum, affine, at, below, copying, giving, graph, leading, map, setting, state, task,
+    writing,
 };
 use sd_graph::{ContainerKind, Exit, ItemKind, Sdfg, State, Value};
 use sd_list::{NoMemory, Sequence};
@@ -45,7 +46,10 @@ fn a_graph_that_names_no_size_symbol(rt: HostRuntime) -> Result<(), Fail> {
 #[test]
 fn a_size_symbol_in_an_index(rt: HostRuntime) -> Result<(), Fail> {
     let alloc = rt.alloc();
-    let told = told_of_item(alloc, writing(alloc, 0, &[At::Index(Sum::Plus(SIZE, -1))])?)?;
+    let told = told_of_item(
+        alloc,
+        writing(alloc, 0, &[Dimension::Index(Sum::Plus(SIZE, -1))])?,
+    )?;
     assert_eq!(rt; told.as_str(), "rule 8 at 0 0");
     Ok(())
 }
