@@ -1,3 +1,2 @@
 pub mod AgreeLemmas
 pub mod FunctionLemmas
-pub mod examples

@@ -13,7 +13,7 @@ use Rattle.sd_graph.specs.declared.operator.OneSign.TheVariants.{Neg}
 use Rattle.sd_graph.specs.declared.operator.TwoSign.TheVariants as signs
 use Rattle.std.specs.Fmt.{digits}
 use Rattle.sd_elab.specs.Elaboration.{graph_of}
-use Rattle.sd_elab.proofs.examples.ExampleParts.{constant, affine, range_of, link_of, port_of, code_of, container_of, transition, memlet_of, function_of, program_of}
+use Rattle.sd_elab_examples.proofs.ExampleParts.{constant, affine, range_of, link_of, port_of, code_of, container_of, transition, memlet_of, function_of, program_of}
 
 -- ---- tasklets with arrays and locals, and consume scopes with two tasklets of one element name and with a body
 abbrev consumes_source : ProgramTree

@@ -9,7 +9,7 @@ use Rattle.sd_graph.specs.declared.container.ContainerKind.TheVariants.{Argument
 use Rattle.sd_graph.specs.declared.operator.TwoSign.TheVariants as signs
 use Rattle.std.specs.Fmt.{digits}
 use Rattle.sd_elab.specs.Elaboration.{graph_of}
-use Rattle.sd_elab.proofs.examples.ExampleParts.{constant, affine, link_of, port_of, code_of, container_of, condition_of, transition, function_of, program_of}
+use Rattle.sd_elab_examples.proofs.ExampleParts.{constant, affine, link_of, port_of, code_of, container_of, condition_of, transition, function_of, program_of}
 
 -- ---- `for`, `while`, `if`, `elif` and `else` in one another
 abbrev loops_source : ProgramTree

@@ -10,7 +10,7 @@ use Rattle.sd_graph.specs.declared.container.ContainerKind.TheVariants.{Argument
 use Rattle.sd_graph.specs.declared.operator.TwoSign.TheVariants as signs
 use Rattle.std.specs.Fmt.{digits}
 use Rattle.sd_elab.specs.Elaboration.{graph_of}
-use Rattle.sd_elab.proofs.examples.ExampleParts.{constant, affine, range_of, link_of, port_of, code_of, container_of, transition, function_of, program_of}
+use Rattle.sd_elab_examples.proofs.ExampleParts.{constant, affine, range_of, link_of, port_of, code_of, container_of, transition, function_of, program_of}
 
 -- ---- an element statement in a map
 abbrev inc_source : ProgramTree
