@@ -1,10 +1,7 @@
-ghost use Rattle.std.specs.Prelude.{◌≡◌, ◌∷◌, map, option_map, slice_get, IfOk, OnOk};
+ghost use Rattle.std.specs.Prelude.{◌≡◌, ◌∷◌, option_map, slice_get, IfOk, OnOk};
 ghost use Rattle.sd_work.specs.Memory.{waiting};
 ghost use Rattle.sd_work.specs.Change.{apply, take};
-ghost use Rattle.sd_graph.specs.PlainTree.{GraphTree};
 ghost use Rattle.sd_graph.specs.TreeFold.{graph_tree};
-ghost use Rattle.sd_graph.specs.Unfold.{at_element, element_memory};
-ghost use Rattle.sd_scope.specs.Standing.{context_of};
 ghost use Rattle.sd_scope.specs.declared.base.Base.{Base as BaseNow};
 ghost use Rattle.sd_take.specs.Taken.{IfTaken, IsElement};
 

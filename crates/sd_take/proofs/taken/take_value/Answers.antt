@@ -1,4 +1,4 @@
-use Rattle.std.proofs.Common.{◌≡◌, ℕ, List, [], ◌∷◌, map, sym, ap, ◌∙◌, subst, to_z, of_z, w64}
+use Rattle.std.proofs.Common.{ℕ, List, [], ◌∷◌, sym, ap, ◌∙◌, subst, to_z, of_z, w64}
 use Rattle.sd_work.specs.Memory.{array}
 use Rattle.sd_work.specs.Change.{changed_at}
 use Rattle.sd_graph.specs.TreeFold.{graph_tree}
