@@ -1,0 +1,6 @@
+pub mod Comes
+pub mod Parts
+pub mod Owners
+pub mod Takes
+pub mod Transitions
+pub mod Nowhere
