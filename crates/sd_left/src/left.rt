@@ -2,6 +2,7 @@ use sd_leaf_moves::{Doing, Instance};
 use sd_machine::Station;
 use sd_mem::Memory;
 use sd_order::Order;
+use sd_tally::Tally;
 
 /// What is left of an item.
 #[derive(Drop)]
@@ -12,11 +13,11 @@ pub enum Left {
     /// Of a copy or a reduction.
     Doing(Doing),
     /// Of a map: at each of its points.
-    Points(Vec<Body>),
+    Points(Bodies),
     /// Of a consume scope over this stream: of each element taken, in the order of taking. So many values wait.
     Pool {
         stream: Station,
-        active: Vec<Body>,
+        active: Bodies,
         waiting: usize,
         closed: bool,
     },
@@ -24,7 +25,18 @@ pub enum Left {
     Nested(Box<Run>),
 }
 
-/// What is left of items at a point, in an element or in a state.
+/// Points of a map, or elements of a consume scope, and what is counted of them.
+#[derive(Drop)]
+#[cycle(left)]
+pub struct Bodies {
+    pub bodies: Vec<Body>,
+    /// How many moves of each come next.
+    pub moves: Tally,
+    /// 1 for each of which something is left, and else 0.
+    pub unfinished: Tally,
+}
+
+/// What is left of items at a point, in an element or in a state, and what is counted of them.
 #[derive(Drop)]
 #[cycle(left)]
 pub struct Body {
@@ -34,6 +46,10 @@ pub struct Body {
     pub own: Memory,
     pub order: Order,
     pub parts: Vec<Left>,
+    /// How many moves of each item come next: none of one that may not go on.
+    pub moves: Tally,
+    /// 1 for each item of which something is left, and else 0.
+    pub unfinished: Tally,
 }
 
 /// What is left of a run of a graph. An ended one keeps its memory.

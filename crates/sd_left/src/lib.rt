@@ -2,16 +2,21 @@
 //!
 //! An item that works has an instance or a list of things to do; a map its points, a consume scope the elements in work, a
 //! nested graph its state; each of these its own memory and what is left of its items. `specs/Kept.antt` says of which
-//! residual work such a tree is, where its items stand. What a tree tells without its items is told here: whether it is
-//! finished, how many moves come next, and where the one of a number is.
+//! residual work such a tree is, where its items stand. The tree keeps counts of its next moves (`specs/Tells.antt`), so that
+//! it tells how many there are, and whether it is finished, without a look at its parts.
 #![tactic(auto)]
 
-mod finished;
+mod begin;
+mod change;
+mod count;
+mod laws;
 mod left;
-mod moves;
-mod ready;
+mod tells;
 
-pub use finished::{is_body_finished, is_finished};
-pub use left::{Body, Left, Run};
-pub use moves::{moves_of, moves_of_run};
-pub use ready::is_ready;
+pub use count::is_ready;
+pub use laws::a_tree_tells_its_next_moves;
+pub use left::{Bodies, Body, Left, Run};
+pub use tells::{
+    are_finished, is_body_finished, is_finished, moves_of, moves_of_bodies, moves_of_body,
+    moves_of_run,
+};

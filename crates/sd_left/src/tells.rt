@@ -1,0 +1,98 @@
+//! What a tree tells of its next moves by the counts that it keeps.
+ghost use Rattle.std.specs.Prelude.{◌≡◌, ◌+◌, cond, not, IfOk};
+ghost use Rattle.sd_moves.specs.Counts.{one_if};
+ghost use Rattle.sd_left.specs.Tells.{tells, bodies_tell, body_tells, run_tells};
+
+use crate::left::{Bodies, Body, Left, Run};
+use sd_list::NoMemory;
+
+/// Whether nothing is left of an item.
+pub fn is_finished(left: &Left) -> bool
+    ensures { result ≡ not (tells left.now).is_unfinished }
+{
+    match left {
+        Left::Instance(instance) => instance.is_done(),
+        Left::Doing(doing) => doing.is_done(),
+        Left::Points(points) => are_finished(points),
+        Left::Pool { closed, .. } => *closed,
+        Left::Nested(run) => run.ended,
+    }
+}
+
+/// Whether nothing is left at points, or in elements.
+pub fn are_finished(bodies: &Bodies) -> bool
+    ensures { result ≡ not (bodies_tell bodies.now).is_unfinished }
+{
+    bodies.unfinished.sum() == 0
+}
+
+/// Whether nothing is left of the items of a body.
+pub fn is_body_finished(body: &Body) -> bool
+    ensures { result ≡ not (body_tells body.now).is_unfinished }
+{
+    body.unfinished.sum() == 0
+}
+
+/// How many moves of an item come next. More than 64 bits can count are want of memory.
+pub fn moves_of(left: &Left) -> Result<u64, NoMemory>
+    ensures { IfOk result (λ moves. moves ≡ (tells left.now).moves) }
+{
+    match left {
+        Left::Instance(instance) => Ok(one_if(!instance.is_done())),
+        Left::Doing(doing) => Ok(one_if(!doing.is_done())),
+        Left::Points(points) => Ok(moves_of_bodies(points)),
+        Left::Pool {
+            active,
+            waiting,
+            closed,
+            ..
+        } => moves_of_pool(active, *waiting, *closed),
+        Left::Nested(run) => Ok(moves_of_run(run)),
+    }
+}
+
+/// How many moves of a consume scope come next, whose stream has so many values that wait.
+fn moves_of_pool(active: &Bodies, waiting: usize, closed: bool) -> Result<u64, NoMemory>
+    ensures { IfOk result (λ moves. moves ≡ cond closed 0 ((bodies_tell active.now).moves + waiting)) }
+{
+    if closed {
+        return Ok(0);
+    }
+    moves_of_bodies(active)
+        .checked_add(waiting as u64)
+        .ok_or(NoMemory)
+}
+
+/// 1 where so it is, and else 0.
+pub(crate) fn one_if(so: bool) -> u64
+    ensures { result ≡ one_if so }
+{
+    if so { 1 } else { 0 }
+}
+
+/// How many moves at points, or in elements, come next.
+pub fn moves_of_bodies(bodies: &Bodies) -> u64
+    ensures { result ≡ (bodies_tell bodies.now).moves }
+{
+    bodies.moves.sum()
+}
+
+/// How many moves of the items of a body come next.
+pub fn moves_of_body(body: &Body) -> u64
+    ensures { result ≡ (body_tells body.now).moves }
+{
+    body.moves.sum()
+}
+
+/// How many moves of a run of a graph come next.
+pub fn moves_of_run(run: &Run) -> u64
+    ensures { result ≡ (run_tells run.now).moves }
+{
+    if run.ended {
+        return 0;
+    }
+    if is_body_finished(&run.body) {
+        return 1;
+    }
+    moves_of_body(&run.body)
+}
