@@ -1,8 +1,8 @@
 -- What holds of a program that was read.
-use Rattle.std.proofs.Common.{◌≡◌, ◌≤◌, ℕ, List, map, reverse, Option, Some, None, Result, Ok, Err, refl, subst}
+use Rattle.std.proofs.Common.{◌≡◌, ◌≤◌, ℕ, ◌+◌, nat_eq, List, [], ◌∷◌, map, length, false, reverse, if◌then◌else◌, Option, Some, None, Result, Ok, Err, refl, subst, arith}
 use Rattle.std.specs.List.{AllByRecursion, IsDistinct}
 use Rattle.std.specs.Str.{bytes_eq}
-use Rattle.sd_lex.specs.PlainTree.{StatementTree, ProgramTree}
+use Rattle.sd_lex.specs.PlainTree.{StatementTree, FunctionTree, ProgramTree}
 use Rattle.sd_lex.specs.declared.error.LexError.{LexError}
 use Rattle.sd_lex.specs.declared.token.Token.{Token}
 use Rattle.sd_lex.specs.Layout.{lexed}
@@ -24,13 +24,15 @@ use Rattle.sd_readable.proofs.lines.TasksKept.{ends_small, tasks_are_kept, small
 use Rattle.sd_readable.proofs.places.ReadFields.{reads_hold}
 use Rattle.sd_nodes.specs.NodeLimits.{nodes_over, node_limits}
 use Rattle.sd_blocks.specs.declared.refusal.Refusal.{Refusal}
+use Rattle.sd_blocks.specs.Closing.{Step, and_then}
 use Rattle.sd_source.specs.NodeRefusal.{first_of, node_refusal, limited, program_so_far}
 use Rattle.sd_source.specs.SourceReading.{refusal_of_text, reads_tokens, reads}
 use Rattle.sd_lines.specs.TokenLines.{no_token, lines_from, number_of, begins_connector, line_of_tokens, lines_of_tokens}
-use Rattle.sd_context.specs.Context.{Context}
+use Rattle.sd_context.specs.Context.{Context, opening}
 use Rattle.sd_readable.specs.Levels.{HasFewLevels}
+use Rattle.sd_readable.specs.Parts.{HasParts}
 use Rattle.sd_lines.specs.Lines.{Line}
-use Rattle.sd_source.specs.LinesReading.{program_in, program_of_lines}
+use Rattle.sd_source.specs.LinesReading.{lines_read, at_end, program_in, program_by, program_of_lines}
 use Rattle.sd_program.specs.Bounds.{EachBound}
 use Rattle.sd_program.specs.Every.{Everywhere}
 use Rattle.sd_program.specs.IsAffine.{IsAffine}
@@ -51,7 +53,7 @@ use Rattle.sd_readable.proofs.kept.AheadKept.{Connects}
 use Rattle.sd_readable.proofs.lines.Connectors.{connector_forms}
 use Rattle.sd_readable.proofs.lines.Forms.{of_form, each-mapped}
 use Rattle.sd_readable.proofs.lines.LineForms.{head_forms}
-use Rattle.sd_readable.proofs.lines.LineLimits.{steps_hold, dimensions_hold, parameters_hold}
+use Rattle.sd_readable.proofs.lines.LineLimits.{steps_hold, dimensions_hold, parameters_hold, parts_hold}
 use Rattle.sd_readable.proofs.places.LineLevels.{levels_hold}
 use Rattle.sd_readable.proofs.lines.AffinePlaces.{small, places_hold}
 
@@ -122,6 +124,9 @@ dimensions_of_program = by_lines (everywhere HasFewDimensions dimensions_hold)
 
 pub parameters_of_program : (text : List ℕ) (program : ProgramTree) → reads text ≡ Ok program → Everywhere HasFewParameters program
 parameters_of_program = by_lines (everywhere HasFewParameters parameters_hold)
+
+pub parts_of_program : (text : List ℕ) (program : ProgramTree) → reads text ≡ Ok program → Everywhere HasParts program
+parts_of_program = by_lines (everywhere HasParts parts_hold)
 
 -- it holds of each statement in its place
 places : (Holds : Place → StatementTree → Type 0) → HoldsInPlaces Holds → (text : List ℕ) (program : ProgramTree) → reads text ≡ Ok program → EveryPlace Holds program
@@ -195,6 +200,27 @@ chains_of_program =
     (λ last lines program fit is.
     let end = at_the_end FewCalls calls_are_kept last lines program fit is in
     subst (λ program. CallShallowly (reverse program.functions)) end.1.1 end.1.0.functions)
+
+read_once : (found program : ProgramTree) (read : Result ProgramTree Refusal) → read ≡ Ok found → read ≡ Ok program → found ≡ program
+read_once found program read first second = cc
+
+-- a source without a program is refused
+some_function : (last : ℕ) (step : Step) (program : ProgramTree) → program_by last step ≡ Ok program → 1 ≤ length program.functions
+some_function last (Err refusal) program is = refused_is_none refusal program is
+some_function last (Ok context) program is = by_list context.functions is where
+  none : Result ProgramTree Refusal
+  none = Err (record { number = 4; line = last + 1 })
+
+  by_list : (functions : List FunctionTree) → (if nat_eq (length functions) 0 then none else Ok (record { symbols = context.symbols; functions = functions })) ≡ Ok program → 1 ≤ length program.functions
+  by_list [] is = refused_is_none (record { number = 4; line = last + 1 }) program is
+  by_list (function ∷ functions) is =
+      let found : ProgramTree = record { symbols = context.symbols; functions = function ∷ functions } in
+      let some : 1 ≤ length (function ∷ functions) = omega arith in
+      let counted : nat_eq (length (function ∷ functions)) 0 ≡ false = grind (arith, some) in
+      subst (λ program. 1 ≤ length program.functions) (read_once found program (Ok found) refl (subst (λ test. (if test then none else Ok found) ≡ Ok program) counted is)) some
+
+pub functions_of_program : (text : List ℕ) (program : ProgramTree) → reads text ≡ Ok program → 1 ≤ length program.functions
+functions_of_program = by_lines (λ last lines program fit is. some_function last (and_then (lines_read opening lines) (λ context. at_end last context.awaited context)) program is)
 
 -- all of it
 pub well_formed : (text : List ℕ) (program : ProgramTree) → reads text ≡ Ok program → IsWellFormed program

@@ -1,5 +1,6 @@
 pub mod Forms
 pub mod LevelForms
+pub mod WrittenParts
 pub mod LineForms
 pub mod Connectors
 pub mod Places

@@ -32,11 +32,11 @@ levels_of_value kind false = 64
 
 -- the statements of a body
 abbrev pub IsBodyStatement : BlockKind → StatementTree → Type 0
-IsBodyStatement kind (local_array line name extents bits) = EachExpression (IsShallow 64) extents
+IsBodyStatement kind (local_array line name extents bits) = (1 ≤ length_of extents) × EachExpression (IsShallow 64) extents
 IsBodyStatement kind (local_stream line name bits size) = ⊤
 IsBodyStatement kind (assign line name at add value) = (1 ≤ length_of at) × (EachExpression (IsShallow 64) at × IsShallow (levels_of_value kind add) value)
 IsBodyStatement kind (copy line to to_dimensions from from_dimensions) = AllByRecursion GoesOn to_dimensions × AllByRecursion GoesOn from_dimensions
-IsBodyStatement kind (map_scope line parameters ranges body) = (length parameters ≡ length ranges) × AllByRecursion GoesOn ranges
+IsBodyStatement kind (map_scope line parameters ranges body) = (1 ≤ length parameters) × ((length parameters ≡ length ranges) × AllByRecursion GoesOn ranges)
 IsBodyStatement kind (tasklet line body) = ⊤
 IsBodyStatement kind (call line name arguments) = AllByRecursion (λ argument. AllByRecursion GoesOn argument.1) arguments
 IsBodyStatement kind (for_loop line name begin end step body) = IsFromOne step × (IfWritten (IsShallow 64) begin × IsShallow 63 end)

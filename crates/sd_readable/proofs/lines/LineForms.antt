@@ -1,5 +1,5 @@
 -- What a line of a text may say in each kind of block.
-use Rattle.std.proofs.Common.{◌≡◌, ◌≤◌, ◌||◌, ℕ, ◌+◌, ℤ, pos, negsuc, nat_eq, nat_le, List, [], ◌∷◌, map, length, Bool, true, false, codes, if◌then◌else◌, Option, Some, None, refl, ap, sym, ◌∙◌, subst, arith}
+use Rattle.std.proofs.Common.{◌≡◌, ◌≤◌, ◌||◌, ℕ, ℤ, pos, negsuc, nat_eq, nat_le, List, [], ◌∷◌, map, length, Bool, true, false, codes, if◌then◌else◌, Option, Some, None, refl, ap, sym, ◌∙◌, subst, arith}
 use Rattle.std.specs.Bool.{⊤}
 use Rattle.std.specs.Prelude.{int_le}
 use Rattle.std.specs.Option.{option_and_then}
@@ -12,13 +12,11 @@ use Rattle.sd_phrase.specs.declared.word.Piece.{Piece}
 use Rattle.sd_phrase.specs.declared.word.Word.{Word}
 use Rattle.sd_phrase.specs.declared.word.Word.TheVariants as word
 use Rattle.sd_phrase.specs.declared.word.Bracket.TheVariants.{Round, Square}
-use Rattle.sd_phrase.specs.declared.word.Mark.{Mark}
 use Rattle.sd_phrase.specs.declared.word.Mark.TheVariants.{Comma, Colon}
 use Rattle.sd_phrase.specs.declared.reading.Reading.{Reading}
 use Rattle.sd_phrase.specs.declared.reading.Reading.TheVariants.{NoForm, TooDeep, Form}
 use Rattle.sd_phrase.specs.Words.{is_name, is_spelled, spelling}
-use Rattle.sd_phrase.specs.Signs.{depth_after}
-use Rattle.sd_phrase.specs.Parts.{is_mark_outside, onto_first, parted, parts_from, is_balanced, parts_of, at_mark, closed, bracketed, whole, few, Few, one_part, two_parts, three_parts, more_parts}
+use Rattle.sd_phrase.specs.Parts.{is_balanced, parts_of, at_mark, closed, bracketed, whole, few, Few, one_part, two_parts, three_parts, more_parts}
 use Rattle.sd_phrase.specs.Phrase.{after, header, name_first, lone_name, lone_number, step_of, next, is_phrase}
 use Rattle.sd_phrase.specs.Phrase as phrase
 use Rattle.sd_phrase.specs.Readings.{reading_map, if_some, if_empty, both, listed}
@@ -48,6 +46,7 @@ use Rattle.sd_readable.proofs.kept.Affine.{some_or, none_is_not_some}
 use Rattle.sd_readable.specs.Levels.{IsShallowCode, IsShallow}
 use Rattle.sd_program.specs.Bounds.{EachExpression, IfWritten}
 use Rattle.sd_readable.proofs.lines.LevelForms.{code_expression, body_expression, code_expressions, body_expressions}
+use Rattle.sd_readable.proofs.lines.WrittenParts.{some_part, listed_length, AreWritten, written_forms}
 use Rattle.sd_readable.proofs.lines.Forms.{IfForm, if-always, if-tells, if-map, if-both, if-some, if-empty, if-true, if-either, if-and, if-listed, if-counted, each-mapped}
 
 -- ---- steps
@@ -122,10 +121,6 @@ memlet_forms text ts =
       rest name ts None = parts name None (Form None) ts
 
 -- ---- top level
-
-listed_length : (es : List Expression) → length_of (expressions_listed es) ≡ length es
-listed_length [] = refl
-listed_length (first ∷ rest) = ap (λ n. n + 1) (listed_length rest) ∙ omega arith
 
 abbrev OfExtents : List Expression → Type 0
 OfExtents es = AreExtents (expressions_listed es)
@@ -254,10 +249,12 @@ module _ (kind : BlockKind) where
       (λ same. if-map (FitsBody kind) (λ ranges. statement_head (map_scope line names ranges no_statement)) (slots text false inside)
       (counted same (slots text false inside) (if-counted (map (slot text false) (parts_of Comma inside))) (slots_forms text false inside))) where
         counted : nat_eq (length names) (length (parts_of Comma inside)) ≡ true → (read : Reading (List Dimension)) → IfForm (λ list. length list ≡ length (map (slot text false) (parts_of Comma inside))) read →
-            IfForm (AllByRecursion GoesOn) read → IfForm (λ ranges. (length names ≡ length ranges) × AllByRecursion GoesOn ranges) read
+            IfForm (AllByRecursion GoesOn) read → IfForm (λ ranges. (1 ≤ length names) × ((length names ≡ length ranges) × AllByRecursion GoesOn ranges)) read
         counted same NoForm is on = tt
         counted same TooDeep is on = tt
-        counted same (Form ranges) is on = (eqb-true (length names) (length (parts_of Comma inside)) same ∙ sym (is ∙ length-map (parts_of Comma inside) (slot text false)), on)
+        counted same (Form ranges) is on =
+            let as_many = eqb-true (length names) (length (parts_of Comma inside)) same in
+            (subst (λ n. 1 ≤ n) (sym as_many) (some_part Comma 0 inside), (as_many ∙ sym (is ∙ length-map (parts_of Comma inside) (slot text false)), on))
 
   for_forms : (text : List ℕ) (line : ℕ) (ts : List Piece) → IfForm (FitsBody kind) (repetitions.for_line text line ts)
   for_forms text line ts =
@@ -321,7 +318,7 @@ module _ (kind : BlockKind) where
     by_stream (Some rest) = if-some (FitsBody kind) (whole (closed Round rest)) (λ inside. declarations.stream_line text line name (few (parts_of Comma inside))) (λ inside _. by_parts (few (parts_of Comma inside)))
 
     by_extents : (inside : List Piece) → IfForm (FitsBody kind) (reading_map (λ extents. statement_head (local_array line name (expressions_listed extents) 64)) (expressions text true 64 inside))
-    by_extents inside = if-map (FitsBody kind) (λ extents. statement_head (local_array line name (expressions_listed extents) 64)) (expressions text true 64 inside) (body_expressions text inside)
+    by_extents inside = if-map (FitsBody kind) (λ extents. statement_head (local_array line name (expressions_listed extents) 64)) (expressions text true 64 inside) (written_forms text inside)
 
     by_local : (rest : Option (List Piece)) → IfForm (FitsBody kind) (declarations.local_or_stream text line name ts rest)
     by_local (Some rest) =
@@ -330,32 +327,10 @@ module _ (kind : BlockKind) where
         (λ cut _. if-some (FitsBody kind) (declarations.typed text cut.1) (λ rest. reading_map (λ extents. statement_head (local_array line name (expressions_listed extents) 64)) (expressions text true 64 cut.0)) (λ rest _. by_extents cut.0)))
     by_local None = by_stream (after text declarations.define_stream ts)
 
-  -- there is a part
-  some_onto : (t : Piece) (ps : List (List Piece)) → 1 ≤ length (onto_first t ps)
-  some_onto t [] = omega arith
-  some_onto t (p ∷ ps) = omega arith
-
-  some_parted : (test : Bool) (t : Piece) (ps : List (List Piece)) → 1 ≤ length (parted test t ps)
-  some_parted true t ps = omega arith
-  some_parted false t ps = some_onto t ps
-
-  some_part : (mark : Mark) (depth : ℕ) (ts : List Piece) → 1 ≤ length (parts_from mark depth ts)
-  some_part mark depth [] = omega arith
-  some_part mark depth (t ∷ ts) = some_parted (is_mark_outside mark depth t.word) t (parts_from mark (depth_after t.word depth) ts)
-
-  abbrev AreWritten : List Expression → Type 0
-  AreWritten at = (1 ≤ length_of (expressions_listed at)) × EachExpression (IsShallow 64) (expressions_listed at)
-
   assign_forms : (text : List ℕ) (line : ℕ) (name : List ℕ) (add : Bool) (inside value : List Piece) → IfForm (FitsBody kind) (elements.assign_line text line name add (levels_of_value kind add) inside value)
   assign_forms text line name add inside value =
       if-both AreWritten (IsShallow (levels_of_value kind add)) (FitsBody kind) (elements.assigned line name add) (expressions text true 64 inside) (expression text true (levels_of_value kind add) value)
-      (if-and (λ at. 1 ≤ length_of (expressions_listed at)) (λ at. EachExpression (IsShallow 64) (expressions_listed at)) (expressions text true 64 inside)
-      (some_written (expressions text true 64 inside) (if-counted (map (expression text true 64) (parts_of Comma inside)))) (body_expressions text inside))
-      (body_expression text (levels_of_value kind add) value) (λ at e written few'. (written.0, (written.1, few'))) where
-        some_written : (read : Reading (List Expression)) → IfForm (λ list. length list ≡ length (map (expression text true 64) (parts_of Comma inside))) read → IfForm (λ at. 1 ≤ length_of (expressions_listed at)) read
-        some_written NoForm is = tt
-        some_written TooDeep is = tt
-        some_written (Form at) is = rw (listed_length at) (subst (λ n. 1 ≤ n) (sym (is ∙ length-map (parts_of Comma inside) (expression text true 64))) (some_part Comma 0 inside))
+      (written_forms text inside) (body_expression text (levels_of_value kind add) value) (λ at e written few'. (written.0, (written.1, few')))
 
   element_forms : (text : List ℕ) (line : ℕ) (name : List ℕ) (inside behind : List Piece) → IfForm (FitsBody kind) (elements.element_line text kind line name inside behind)
   element_forms text line name inside behind = by_colon (at_mark Colon inside) where

@@ -16,6 +16,7 @@ use Rattle.sd_refusal.specs.declared.site.Site.{Site}
 use Rattle.sd_blocks.specs.Closing.{branch_with}
 use Rattle.sd_program.specs.Place.{length_of}
 use Rattle.sd_program.specs.Limits.{IsStep, HasStep, HasSteps, HasFewDimensions, HasFewParameters}
+use Rattle.sd_readable.specs.Parts.{HasParts}
 use Rattle.sd_readable.proofs.kept.Passing.{Passes, neither}
 use Rattle.sd_readable.proofs.kept.Heads.{IsFromOne, GoesOn, IsOfLine}
 use Rattle.sd_readable.proofs.kept.Trees.{bare, HoldsOfLines}
@@ -68,7 +69,7 @@ statement_steps (local_stream line name bits size) of narrow = tt
 statement_steps (assign line name at add value) of narrow = tt
 statement_steps (copy line to to_dimensions from from_dimensions) of narrow = let halves = neither (list_any has_wide_step to_dimensions) (list_any has_wide_step from_dimensions) narrow in (dimension_steps to_dimensions of.0 halves.0, dimension_steps from_dimensions of.1 halves.1)
 statement_steps (reduce line lambda from to axis identity) of narrow = tt
-statement_steps (map_scope line parameters ranges body) of narrow = dimension_steps ranges of.1 narrow
+statement_steps (map_scope line parameters ranges body) of narrow = dimension_steps ranges of.1.1 narrow
 statement_steps (tasklet line body) of narrow = tt
 statement_steps (consume_scope line from size name element worker body) of narrow = tt
 statement_steps (call line name arguments) of narrow = argument_steps arguments of narrow
@@ -234,7 +235,7 @@ statement_parameters (local_stream line name bits size) of short' = tt
 statement_parameters (assign line name at add value) of short' = tt
 statement_parameters (copy line to to_dimensions from from_dimensions) of short' = tt
 statement_parameters (reduce line lambda from to axis identity) of short' = tt
-statement_parameters (map_scope line parameters ranges body) of short' = (of.0, ltb-false 8 (length parameters) short')
+statement_parameters (map_scope line parameters ranges body) of short' = (of.1.0, ltb-false 8 (length parameters) short')
 statement_parameters (tasklet line body) of short' = tt
 statement_parameters (consume_scope line from size name element worker body) of short' = tt
 statement_parameters (call line name arguments) of short' = tt
@@ -304,4 +305,85 @@ parameters_hold = record {
   put_in = λ names site line connector memlet on passed. tt;
   put_out = λ names site line connector memlet on passed. tt;
   other = λ names site line when passed. branch_parameters site.kind line when;
+}
+
+-- ---- parts
+
+statement_parts : (s : StatementTree) → IsOfLine s → HasParts s
+statement_parts (argument_array line name bits extents) of = tt
+statement_parts (local_array line name extents bits) of = of.0
+statement_parts (local_stream line name bits size) of = tt
+statement_parts (assign line name at add value) of = tt
+statement_parts (copy line to to_dimensions from from_dimensions) of = tt
+statement_parts (reduce line lambda from to axis identity) of = tt
+statement_parts (map_scope line parameters ranges body) of = of.0
+statement_parts (tasklet line body) of = tt
+statement_parts (consume_scope line from size name element worker body) of = tt
+statement_parts (call line name arguments) of = tt
+statement_parts (for_loop line name begin end step body) of = tt
+statement_parts (while_loop line when body) of = tt
+statement_parts (branch line when body other) of = tt
+statement_parts (input line connector memlet) of = tt
+statement_parts (output line connector memlet) of = tt
+statement_parts (set line name value) of = tt
+statement_parts (set_at line name at value) of = tt
+statement_parts (tasklet_branch line when body other) of = tt
+
+strip_parts : (s : StatementTree) → HasParts s → HasParts (bare s)
+strip_parts (argument_array line name bits extents) holds = holds
+strip_parts (local_array line name extents bits) holds = holds
+strip_parts (local_stream line name bits size) holds = holds
+strip_parts (assign line name at add value) holds = holds
+strip_parts (copy line to to_dimensions from from_dimensions) holds = holds
+strip_parts (reduce line lambda from to axis identity) holds = holds
+strip_parts (map_scope line parameters ranges body) holds = holds
+strip_parts (tasklet line body) holds = holds
+strip_parts (consume_scope line from size name element worker body) holds = holds
+strip_parts (call line name arguments) holds = holds
+strip_parts (for_loop line name begin end step body) holds = holds
+strip_parts (while_loop line when body) holds = holds
+strip_parts (branch line when body other) holds = holds
+strip_parts (input line connector memlet) holds = holds
+strip_parts (output line connector memlet) holds = holds
+strip_parts (set line name value) holds = holds
+strip_parts (set_at line name at value) holds = holds
+strip_parts (tasklet_branch line when body other) holds = holds
+
+fill_parts : (s : StatementTree) → HasParts (bare s) → HasParts s
+fill_parts (argument_array line name bits extents) holds = holds
+fill_parts (local_array line name extents bits) holds = holds
+fill_parts (local_stream line name bits size) holds = holds
+fill_parts (assign line name at add value) holds = holds
+fill_parts (copy line to to_dimensions from from_dimensions) holds = holds
+fill_parts (reduce line lambda from to axis identity) holds = holds
+fill_parts (map_scope line parameters ranges body) holds = holds
+fill_parts (tasklet line body) holds = holds
+fill_parts (consume_scope line from size name element worker body) holds = holds
+fill_parts (call line name arguments) holds = holds
+fill_parts (for_loop line name begin end step body) holds = holds
+fill_parts (while_loop line when body) holds = holds
+fill_parts (branch line when body other) holds = holds
+fill_parts (input line connector memlet) holds = holds
+fill_parts (output line connector memlet) holds = holds
+fill_parts (set line name value) holds = holds
+fill_parts (set_at line name at value) holds = holds
+fill_parts (tasklet_branch line when body other) holds = holds
+
+branch_parts : (kind : BlockKind) (line : ℕ) (when : Expression) → HasParts (branch_with kind (record { line = line; when = when; statements = [] }) no_statement)
+branch_parts Top line when = tt
+branch_parts Program line when = tt
+branch_parts Scope line when = tt
+branch_parts Tasklet line when = tt
+
+pub parts_hold : HoldsOfLines HasParts
+parts_hold = record {
+  fill = λ s small. fill_parts s;
+  moved = λ line other when holds. holds;
+  moved_inside = λ line other when holds. holds;
+  said = λ names site s of passed. strip_parts s (statement_parts s of);
+  reduced = λ line lambda from to axis identity. tt;
+  taken = λ line from size name element worker. tt;
+  put_in = λ names site line connector memlet on passed. tt;
+  put_out = λ names site line connector memlet on passed. tt;
+  other = λ names site line when passed. branch_parts site.kind line when;
 }

@@ -34,7 +34,7 @@ same_levels Tasklet false = refl
 
 body_levels : (kind : BlockKind) (place : Place) (s : StatementTree) → place.around ≡ around_of kind → IsBodyStatement kind s → HasFewLevels place s
 body_levels kind place (argument_array line name bits extents) is fit = absurd fit
-body_levels kind place (local_array line name extents bits) is fit = fit
+body_levels kind place (local_array line name extents bits) is fit = fit.1
 body_levels kind place (local_stream line name bits size) is fit = tt
 body_levels kind place (assign line name at add value) is fit = (
   fit.1.0,
@@ -42,7 +42,7 @@ body_levels kind place (assign line name at add value) is fit = (
 )
 body_levels kind place (copy line to to_dimensions from from_dimensions) is fit = (few_ends to_dimensions fit.0, few_ends from_dimensions fit.1)
 body_levels kind place (reduce line lambda from to axis identity) is fit = absurd fit
-body_levels kind place (map_scope line parameters ranges body) is fit = few_ends ranges fit.1
+body_levels kind place (map_scope line parameters ranges body) is fit = few_ends ranges fit.1.1
 body_levels kind place (tasklet line body) is fit = tt
 body_levels kind place (consume_scope line from size name element worker body) is fit = absurd fit
 body_levels kind place (call line name arguments) is fit = few_in_arguments arguments fit
