@@ -1,0 +1,2 @@
+pub mod FirstContainers
+pub mod Linked
