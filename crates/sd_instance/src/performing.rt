@@ -39,8 +39,8 @@ fn range_count(dims: &[Dim]) -> usize
 
 /// The one number of an effect's place, where it is below a bound.
 #[inline(always)]
-fn place_below(effect: Effect, dimensions: usize, count: u32) -> Option<u32>
-    ensures { (inputs : Inputs) → dimensions ≡ length (extents_of_connector inputs effect.connector) → result ≡ place_below count (told inputs effect).at }
+fn place_below(effect: &Effect, dimensions: usize, count: u32) -> Option<u32>
+    ensures { (inputs : Inputs) → dimensions ≡ length (extents_of_connector inputs effect.now.connector) → result ≡ place_below count (told inputs effect.now).at }
 {
     if dimensions != 1 {
         return None;
@@ -64,15 +64,15 @@ fn perform_among(
     by: Option<Resolution>,
     to: Track,
     count: u32,
-    effect: Effect,
+    effect: &Effect,
     link: &Link,
     graph: &Sdfg,
     base: &Base,
     scope: &Scope,
     machine: &mut Machine,
 ) -> Result<Option<FaultKind>, NoMemory>
-    ensures { IfOk result (λ fault. (here : Context) (inputs : Inputs) → extents_of_connector inputs effect.connector ≡ link_extents here link.now
-        → IsDone (performing (pending_among by to (context_of (graph_tree graph.now) base.now scope.now) link.now (told inputs effect) (place_below count (told inputs effect).at) ∷ [])) machine.old fault machine.new) }
+    ensures { IfOk result (λ fault. (here : Context) (inputs : Inputs) → extents_of_connector inputs effect.now.connector ≡ link_extents here link.now
+        → IsDone (performing (pending_among by to (context_of (graph_tree graph.now) base.now scope.now) link.now (told inputs effect.now) (place_below count (told inputs effect.now).at) ∷ [])) machine.old fault machine.new) }
 {
     let dimensions = range_count(link.memlet.subset.dims.as_slice());
     match place_below(effect, dimensions, count) {
@@ -80,7 +80,9 @@ fn perform_among(
             machine.write(to.cell(place), by, effect.value);
             Ok(None)
         }
-        None => perform_effect(alloc, effect, dimensions, link, graph, base, scope, machine),
+        None => perform_effect(
+            alloc, *effect, dimensions, link, graph, base, scope, machine,
+        ),
     }
 }
 
@@ -89,7 +91,7 @@ fn perform_among(
 fn perform_to(
     alloc: Global,
     target: Target,
-    effect: Effect,
+    effect: &Effect,
     link: &Link,
     k: u32,
     graph: &Sdfg,
@@ -98,8 +100,8 @@ fn perform_to(
     machine: &mut Machine,
 ) -> Result<Option<FaultKind>, NoMemory>
     ensures { IfOk result (λ fault. (here : Context) (inputs : Inputs) → IsTarget k here (context_of (graph_tree graph.now) base.now scope.now) link.now target
-        → extents_of_connector inputs effect.connector ≡ link_extents here link.now
-        → IsDone (performing (pending_through here link.now (told inputs effect) ∷ [])) machine.old fault machine.new) }
+        → extents_of_connector inputs effect.now.connector ≡ link_extents here link.now
+        → IsDone (performing (pending_through here link.now (told inputs effect.now) ∷ [])) machine.old fault machine.new) }
 {
     match target {
         Target::Stream(station) => {
@@ -115,7 +117,9 @@ fn perform_to(
         ),
         Target::Computed => {
             let dimensions = range_count(link.memlet.subset.dims.as_slice());
-            perform_effect(alloc, effect, dimensions, link, graph, base, scope, machine)
+            perform_effect(
+                alloc, *effect, dimensions, link, graph, base, scope, machine,
+            )
         }
     }
 }
@@ -135,7 +139,7 @@ fn target_of(targets: &[Target], number: usize) -> Target
 #[inline(always)]
 fn perform(
     alloc: Global,
-    effect: Effect,
+    effect: &Effect,
     inputs: usize,
     targets: &[Target],
     outs: &[Link],
@@ -146,7 +150,7 @@ fn perform(
     machine: &mut Machine,
 ) -> Result<Option<FaultKind>, NoMemory>
     ensures { IfOk result (λ fault. (here : Context) (ins : List LinkNow) (given : Inputs) → AreTargets inputs ins outs.now given targets.now k here (context_of (graph_tree graph.now) base.now scope.now)
-        → IsDone (performing (pending_told here given ins outs.now effect ∷ [])) machine.old fault machine.new) }
+        → IsDone (performing (pending_told here given ins outs.now effect.now ∷ [])) machine.old fault machine.new) }
 {
     let Some(number) = (effect.connector as usize).checked_sub(inputs) else {
         return Ok(Some(FaultKind::Subscript));
@@ -176,7 +180,7 @@ pub(crate) fn perform_all(
 {
     for effect in effects {
         match perform(
-            alloc, *effect, inputs, targets, outs, k, graph, base, scope, machine,
+            alloc, effect, inputs, targets, outs, k, graph, base, scope, machine,
         )? {
             None => {}
             Some(kind) => return Ok(Some(kind)),

@@ -21,7 +21,7 @@ use Rattle.sd_instance.proofs.performing.perform_to.Goals as goal
 pub returns-in_ok-push-in-Stream : goal.returns-in_ok-push-in-Stream
 returns-in_ok-push-in-Stream c here inputs target extents =
     let standing = context_of (graph_tree c.args.graph.now) c.args.base.now c.args.scope.now in
-    let effect = c.args.effect in
+    let effect = c.args.effect.now in
     let station = c.in-Stream.station in
     let now = c.args.machine.now in
     let after = c.push.new.self in
@@ -35,7 +35,7 @@ returns-in_ok-push-in-Stream c here inputs target extents =
 pub returns-in-Element : goal.returns-in-Element
 returns-in-Element c here inputs target extents =
     let standing = context_of (graph_tree c.args.graph.now) c.args.base.now c.args.scope.now in
-    let effect = c.args.effect in
+    let effect = c.args.effect.now in
     let by = c.in-Element.by in
     let to : Reference = reference_on c.in-Element.to c.args.k in
     let now = c.args.machine.now in
@@ -51,7 +51,7 @@ returns-in-Element c here inputs target extents =
 pub returns-in-Among : goal.returns-in-Among
 returns-in-Among c =
     let standing = context_of (graph_tree c.args.graph.now) c.args.base.now c.args.scope.now in
-    let effect = c.args.effect in
+    let effect = c.args.effect.now in
     let link = c.args.link.now in
     let by = c.in-Among.by in
     let to = c.in-Among.to in
@@ -69,7 +69,7 @@ returns-in-Among c =
 pub returns-in-Computed : goal.returns-in-Computed
 returns-in-Computed c =
     let standing = context_of (graph_tree c.args.graph.now) c.args.base.now c.args.scope.now in
-    let effect = c.args.effect in
+    let effect = c.args.effect.now in
     let link = c.args.link.now in
     let ends : Context → Inputs → Option FaultKind → Type 0 = λ here inputs fault. IsDone (performing (pending_through here link (told inputs effect) ∷ [])) c.args.machine.now fault c.perform_effect.new.machine in
     on_ok (λ fault. (inputs : Inputs) → c.range_count-dimensions.result ≡ length (extents_of_connector inputs effect.connector) → ends standing inputs fault)
