@@ -3,6 +3,7 @@ use Rattle.std.proofs.Common.{◌≡◌, ℕ, ◌+◌, ◌-◌, ◌*◌, ◌^◌
 use Rattle.std.proofs.lemmas.Bool.{eqb-true, eqb-false}
 use Rattle.std.specs.declared.alloc.Global.{Global}
 use Rattle.std.proofs.Math.ListN.{drop_of_length-le}
+use Rattle.std.proofs.Math.Nat.{mul-le-mul_left}
 use Rattle.std.proofs.lemmas.List.{drop_more, get_or-drop, get_or-map, get_or-take, get_or-set_same, get_or-set_other}
 use Rattle.sd_graph.specs.TaskletMeaning.{and_then, two_values}
 use Rattle.sd_graph.specs.declared.operator.TwoSign.{TwoSign}
@@ -71,26 +72,42 @@ steps_end arrays ops number state over = ap (λ ops. state_only (after_all array
 
 -- ---- elements side by side
 
-one_time : (k : ℕ) → pos 1 *ℤ pos k ≡ pos k
-one_time k = let same : 1 * k ≡ k = omega arith in ap pos same
-
 further : (first : ℤ) (a b : ℕ) → first +ℤ pos (a + b) ≡ (first +ℤ pos a) +ℤ pos b
 further (pos n) a b = grind arith
 further (negsuc n) a b = grind arith
 
+times : (d a b : ℕ) → d * (a + b) ≡ d * a + d * b
+times d a b = grind arith
+
+-- from one number on the next ones are so far apart
+pub next_at : (numbers : Spaced) (from i first distance : ℕ) → numbers.step ≡ pos distance → pos first ≡ value_on numbers from → first + distance * i < 2 ^ 63 →
+    unsigned_abs (value_on numbers (from + i)) ≡ first + distance * i
+next_at numbers from i first distance apart here small =
+    let fits : FitsSigned w64 (pos (first + distance * i)) = record { sfits = small } in
+    let at_from : wrapped (numbers.first +ℤ pos (distance * from)) ≡ pos first = ap (λ step. wrapped (numbers.first +ℤ (step *ℤ pos from))) (sym apart) ∙ sym here in
+    ap unsigned_abs
+    (ap (λ step. wrapped (numbers.first +ℤ (step *ℤ pos (from + i)))) apart
+    ∙ ap (λ more. wrapped (numbers.first +ℤ pos more)) (times distance from i)
+    ∙ ap wrapped (further numbers.first (distance * from) (distance * i))
+    ∙ sym (int_wrap-add_left w64 (numbers.first +ℤ pos (distance * from)) (pos (distance * i)))
+    ∙ ap (λ start. wrapped (start +ℤ pos (distance * i))) at_from
+    ∙ int_wrap_fits w64 (pos (first + distance * i)) fits)
+
 -- from one number on the next ones are one apart
 pub next_to : (numbers : Spaced) (from i first : ℕ) → numbers.step ≡ pos 1 → pos first ≡ value_on numbers from → first + i < 2 ^ 63 → unsigned_abs (value_on numbers (from + i)) ≡ first + i
 next_to numbers from i first one here small =
-    let fits : FitsSigned w64 (pos (first + i)) = record { sfits = small } in
-    let at_from : wrapped (numbers.first +ℤ pos from) ≡ pos first =
-    ap (λ more. wrapped (numbers.first +ℤ more)) (sym (one_time from)) ∙ ap (λ step. wrapped (numbers.first +ℤ (step *ℤ pos from))) (sym one) ∙ sym here in
-    ap unsigned_abs
-    (ap (λ step. wrapped (numbers.first +ℤ (step *ℤ pos (from + i)))) one
-    ∙ ap (λ more. wrapped (numbers.first +ℤ more)) (one_time (from + i))
-    ∙ ap wrapped (further numbers.first from i)
-    ∙ sym (int_wrap-add_left w64 (numbers.first +ℤ pos from) (pos i))
-    ∙ ap (λ start. wrapped (start +ℤ pos i)) at_from
-    ∙ int_wrap_fits w64 (pos (first + i)) fits)
+    let same : 1 * i ≡ i = omega arith in
+    next_at numbers from i first 1 one here (subst (λ n. first + n < 2 ^ 63) (sym same) small) ∙ ap (λ n. first + n) same
+
+more_times : (distance i : ℕ) → distance * (i + 1) ≡ distance * i + distance
+more_times distance i = grind arith
+
+-- the place of one of so many numbers is before the end
+pub not_behind : (first distance count i : ℕ) → i < count → first + distance * i + distance ≤ first + distance * count
+not_behind first distance count i below =
+    let within : i + 1 ≤ count = omega (arith, below) in
+    let more : distance * (i + 1) ≤ distance * count = mul-le-mul_left distance within in
+    omega (arith, subst (λ n. n ≤ distance * count) (more_times distance i) more)
 
 -- a part of a list has the members from its first one on
 pub in_part : (cells part : List ℤ) (first end i : ℕ) → part ≡ slice_range cells first end → first + i < end → end ≤ length cells → slice_index_or part i (pos 0) ≡ slice_index_or cells (first + i) (pos 0)

@@ -1,5 +1,5 @@
 //! One column from others.
-ghost use Rattle.std.specs.Prelude.{◌≡◌, ℕ, ◌+◌, ◌<◌, ◌≤◌, ◌^◌, ℤ, pos, unsigned_abs, length, slice_index_or, Ok, IsTrue};
+ghost use Rattle.std.specs.Prelude.{◌≡◌, ℕ, ◌+◌, ◌*◌, ◌<◌, ◌≤◌, ◌^◌, ℤ, pos, unsigned_abs, length, slice_index_or, Ok, IsTrue};
 ghost use Rattle.std.specs.Option.{MatchOption};
 ghost use Rattle.std.specs.Bool.{⊤};
 ghost use Rattle.sd_graph.specs.TaskletMeaning as meaning;
@@ -94,7 +94,7 @@ pub(crate) fn gather(column: &mut [i64], cells: &[i64], elements: &Spaced, from:
 {
     match neighbours(cells, elements, from, count) {
         Some(part) => copy(column, part, count as usize),
-        None => gather_each(column, cells, elements, from, count),
+        None => gather_apart(column, cells, elements, from, count),
     }
 }
 
@@ -130,6 +130,57 @@ fn end_of(first: usize, count: u32) -> Option<usize>
         return None;
     }
     Some(end)
+}
+
+/// Places in an array, at equal distances.
+#[derive(Clone, Copy)]
+struct Places {
+    first: usize,
+    distance: usize,
+}
+
+/// The places of the elements, where each is there and none is before the first.
+fn places_of(cells: &[i64], elements: &Spaced, from: u32, count: u32) -> Option<Places>
+    requires few { from + count < 2 ^ 32 }
+    ensures inside { MatchOption result ⊤ (λ places. (i : ℕ) → i < count → places.first + places.distance * i < length cells.now) }
+    ensures end { MatchOption result ⊤ (λ places. places.first + places.distance * count < 2 ^ 63) }
+    ensures places { MatchOption result ⊤ (λ places. (i : ℕ) → i < count → unsigned_abs (value_on elements.now (from + i)) ≡ places.first + places.distance * i) }
+{
+    let first = place_of(elements.at(from))?;
+    let distance = place_of(elements.step)?;
+    let end = first.checked_add(distance.checked_mul(count as usize)?)?;
+    if end > i64::MAX as usize || end >= cells.len().checked_add(distance)? {
+        return None;
+    }
+    Some(Places { first, distance })
+}
+
+/// The elements at places that are all there.
+fn gather_at(column: &mut [i64], cells: &[i64], places: Places, count: usize)
+    requires to { count ≤ length column.old }
+    requires inside { (i : ℕ) → i < count → places.first + places.distance * i < length cells.now }
+    requires end { places.first + places.distance * count < 2 ^ 63 }
+    ensures many { length column.new ≡ length column.old }
+    ensures values { (i : ℕ) → i < count → slice_index_or column.new i (pos 0) ≡ slice_index_or cells.now (places.first + places.distance * i) (pos 0) }
+{
+    let mut place = places.first;
+    for i in 0..count {
+        column[i] = cells[place];
+        place += places.distance;
+    }
+}
+
+/// The elements, where they do not stand side by side.
+fn gather_apart(column: &mut [i64], cells: &[i64], elements: &Spaced, from: u32, count: u32)
+    requires to { count ≤ length column.old }
+    requires few { from + count < 2 ^ 32 }
+    ensures many { length column.new ≡ length column.old }
+    ensures values { (i : ℕ) → i < count → slice_index_or column.new i (pos 0) ≡ slice_index_or cells.now (unsigned_abs (value_on elements.now (from + i))) (pos 0) }
+{
+    match places_of(cells, elements, from, count) {
+        Some(places) => gather_at(column, cells, places, count as usize),
+        None => gather_each(column, cells, elements, from, count),
+    }
 }
 
 /// The elements one by one.
