@@ -14,10 +14,22 @@ abbrev pub extents_text : List ℕ → List ℕ
 extents_text [] = []
 extents_text (extent ∷ extents) = decimal extent ++ flat_map (λ other. 44 ∷ decimal other) extents
 
+-- how the line of an array begins, up to its elements: its name, and its extents in brackets
+abbrev pub head_of : (name extents : List ℕ) → List ℕ
+head_of name extents = name ++ codes "[" ++ extents_text extents ++ codes "] ="
+
+-- each element after a space
+abbrev pub elements_text : (elements : List ℤ) → List ℕ
+elements_text elements = flat_map (λ element. 32 ∷ signed_decimal element) elements
+
 -- the line of an array: its name, its extents in brackets, and each of its elements after a space
 abbrev pub line_of : (name extents : List ℕ) → (elements : List ℤ) → List ℕ
 line_of name extents elements =
     name ++ codes "[" ++ extents_text extents ++ codes "] =" ++ flat_map (λ element. 32 ∷ signed_decimal element) elements ++ 10 ∷ []
+
+-- how the line of a container begins
+abbrev pub container_head : GraphTree → (container : ℕ) → List ℕ
+container_head tree container = head_of (name_at (containers_of tree) container) (extents_of (container_at (containers_of tree) container))
 
 -- the line of a container
 abbrev pub container_line : GraphTree → Shaped → (container : ℕ) → List ℕ

@@ -1,3 +1,4 @@
+pub mod HeldElements
 pub mod NestedLists
 pub mod Shape
 pub mod Given

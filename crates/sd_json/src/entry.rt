@@ -2,6 +2,7 @@ ghost use Rattle.std.specs.Prelude.{◌≡◌, unwrap_or, []};
 ghost use Rattle.sd_json.specs.Entries.{size_of};
 
 use crate::array::Array;
+use crate::elements::Elements;
 use sd_list::Sequence;
 use std::alloc::Global;
 
@@ -9,7 +10,7 @@ use std::alloc::Global;
 #[derive(Drop)]
 pub(crate) struct Entry {
     /// Its numbers from left to right, where each leaf is a whole number.
-    pub(crate) numbers: Option<Sequence<i64>>,
+    pub(crate) numbers: Option<Elements>,
     /// Its length and those of its items, and so on, where they are the same all over.
     pub(crate) shape: Option<Sequence<u64>>,
 }
@@ -20,7 +21,7 @@ impl Entry {
         ensures { result ≡ size_of self.now }
     {
         match &self.shape {
-            Some(shape) if shape.is_empty() => self.numbers.as_ref()?.as_slice().first().copied(),
+            Some(shape) if shape.is_empty() => self.numbers.as_ref()?.first(),
             _ => None,
         }
     }
@@ -37,7 +38,7 @@ impl Entry {
         };
         let elements = match numbers {
             Some(numbers) => numbers,
-            None => Sequence::new(alloc),
+            None => Elements::new(alloc),
         };
         Array { shape, elements }
     }

@@ -57,10 +57,9 @@ impl Given {
         })
     }
 
-    /// The memory that the bound graph opens with: its arguments with these arrays, which are moved
-    /// into it, zeros in its transients, and empty streams. Refused where the shape of an array is
-    /// neither the extents of its argument nor a prefix of them that ends in 0; the first such
-    /// argument is told.
+    /// The memory that the bound graph opens with: its arguments with these arrays, zeros in its
+    /// transients, and empty streams. Refused where the shape of an array is neither the extents of
+    /// its argument nor a prefix of them that ends in 0; the first such argument is told.
     pub fn into_memory(self, alloc: Global, bound: &Bound) -> Result<Memory, InputError>
         ensures ok { IfOk result (λ memory. memory_given (graph_tree bound.now.graph) self.arrays ≡ Ok memory) }
         ensures err { IfErr result (λ error. error ≢ InputError.Memory → memory_given (graph_tree bound.now.graph) self.arrays ≡ Err error) }
@@ -82,7 +81,7 @@ fn copied(alloc: Global, name: &str) -> Result<Text, NoMemory>
     Ok(Text::from(name.to_string(alloc)?))
 }
 
-/// The elements of arrays, moved out of them.
+/// The elements of arrays. Each array is let go as soon as its elements are there.
 fn elements(alloc: Global, arrays: Sequence<Array>) -> Result<Vec<Sequence<i64>>, NoMemory>
     ensures { IfOk result (λ lists. lists.items ≡ map (λ array. array.elements) arrays) }
 {
@@ -90,7 +89,7 @@ fn elements(alloc: Global, arrays: Sequence<Array>) -> Result<Vec<Sequence<i64>>
     for array in arrays.into_vec() {
         let Array { shape, elements } = array;
         drop(shape);
-        lists.push(elements)?;
+        lists.push(elements.into_list(alloc)?)?;
     }
     Ok(lists)
 }

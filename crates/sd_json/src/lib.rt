@@ -2,11 +2,12 @@
 //!
 //! `read_arrays` gives the sizes and the arrays that a file has for a graph, or the first case that
 //! refuses it, exactly as `specs/ArraysReading.antt` tells of the value that the bytes are as JSON.
-//! `Given::into_memory` moves the arrays into the memory that the graph opens with, or tells the
+//! `Given::into_memory` puts the arrays into the memory that the graph opens with, or tells the
 //! first one of a wrong shape. `array_line` and `arrays_text` print (`specs/AnswerText.antt`).
 #![tactic(auto)]
 
 mod array;
+mod elements;
 mod entries;
 mod entry;
 mod error;
@@ -25,6 +26,7 @@ mod text;
 mod walk;
 
 pub use array::Array;
+pub use elements::Elements;
 pub use error::InputError;
 pub use given::Given;
 pub use laws::{
@@ -32,4 +34,4 @@ pub use laws::{
 };
 pub use names::Names;
 pub use reading::read_arrays;
-pub use text::{array_line, arrays_text};
+pub use text::{array_line, arrays_text, elements_text, line_head};

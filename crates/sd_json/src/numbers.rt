@@ -1,14 +1,15 @@
 ghost use Rattle.std.specs.Prelude.{◌≡◌, Some, [], ◌∷◌, option_map, OnOk};
 ghost use Rattle.sd_json.specs.NestedLists.{joined};
 
-use sd_list::{NoMemory, Sequence};
+use crate::elements::Elements;
+use sd_list::NoMemory;
 use std::alloc::Global;
 use std::marker::Model;
 
 /// The numbers of a value from left to right, as long as each of its leaves is a whole number.
 #[derive(Drop)]
 pub(crate) struct Numbers {
-    list: Vec<i64>,
+    list: Elements,
     whole: bool,
 }
 
@@ -17,7 +18,7 @@ impl Model for Numbers {
 
     ghost Value = { Option (List ℤ) };
 
-    ghost view = { λ numbers. if numbers.whole then Some numbers.list.items else None };
+    ghost view = { λ numbers. if numbers.whole then Some numbers.list else None };
 }
 
 impl Numbers {
@@ -26,7 +27,7 @@ impl Numbers {
         ensures { result ≡ Some [] }
     {
         Numbers {
-            list: Vec::new(alloc),
+            list: Elements::new(alloc),
             whole: true,
         }
     }
@@ -43,23 +44,14 @@ impl Numbers {
         if !self.whole {
             return Ok(());
         }
-        if self.list.len() < self.list.capacity() {
-            self.list.push_reserved(number);
-        } else {
-            self.list.push(number)?;
-        }
-        Ok(())
+        self.list.push(number)
     }
 
     /// The numbers as a list.
-    pub(crate) fn into_list(self) -> Option<Sequence<i64>>
+    pub(crate) fn into_list(self) -> Option<Elements>
         ensures { result ≡ self }
     {
         let Numbers { list, whole } = self;
-        if whole {
-            Some(Sequence::from(list))
-        } else {
-            None
-        }
+        if whole { Some(list) } else { None }
     }
 }

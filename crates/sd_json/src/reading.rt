@@ -8,6 +8,7 @@ ghost use Rattle.sd_json.specs.Entries.{array_kept, AreKept, AreOfObject};
 ghost use Rattle.sd_json.specs.ArraysReading.{refusal_of, entries_reading, arrays_reading};
 
 use crate::array::Array;
+use crate::elements::Elements;
 use crate::entries::{self, Entries};
 use crate::error::InputError;
 use crate::fault::Fault;
@@ -51,7 +52,7 @@ fn take_array(alloc: Global, entries: &mut Entries, name: &Text) -> Array
         Some(entry) => entry.into_array(alloc),
         None => Array {
             shape: Sequence::new(alloc),
-            elements: Sequence::new(alloc),
+            elements: Elements::new(alloc),
         },
     }
 }

@@ -38,23 +38,36 @@ fn push_elements(line: &mut String, elements: &[i64]) -> Result<(), NoMemory>
     Ok(())
 }
 
-/// The line of an array.
-fn line_of(
-    alloc: Global,
-    name: &str,
-    extents: &[Affine],
-    elements: &[i64],
-) -> Result<String, NoMemory>
-    ensures { IfOk result (λ line. string_bytes line ≡ definition.line_of name.now (map (λ extent. unsigned_abs extent.constant) extents.now) elements.now) }
+/// How the line of an array begins, up to its elements.
+fn head_of(alloc: Global, name: &str, extents: &[Affine]) -> Result<String, NoMemory>
+    ensures { IfOk result (λ head. string_bytes head ≡ definition.head_of name.now (map (λ extent. unsigned_abs extent.constant) extents.now)) }
 {
-    let mut line = String::new(alloc);
-    line.push_str(name)?;
-    line.push_str("[")?;
-    push_extents(&mut line, extents)?;
-    line.push_str("] =")?;
-    push_elements(&mut line, elements)?;
-    line.push_str("\n")?;
-    Ok(line)
+    let mut head = String::new(alloc);
+    head.push_str(name)?;
+    head.push_str("[")?;
+    push_extents(&mut head, extents)?;
+    head.push_str("] =")?;
+    Ok(head)
+}
+
+/// How the line of a container begins, up to its elements: its name, and its extents in brackets. A container that
+/// is not there has neither.
+pub fn line_head(alloc: Global, bound: &Bound, container: u32) -> Result<String, NoMemory>
+    ensures { IfOk result (λ head. string_bytes head ≡ definition.container_head (graph_tree bound.now.graph) container) }
+{
+    match bound.graph.containers.get_index(container as usize) {
+        Some((name, array)) => head_of(alloc, name.as_str(), array.extents.as_slice()),
+        None => head_of(alloc, "", &[]),
+    }
+}
+
+/// Elements as they stand in a line, each after a space.
+pub fn elements_text(alloc: Global, elements: &[i64]) -> Result<String, NoMemory>
+    ensures { IfOk result (λ text. string_bytes text ≡ definition.elements_text elements.now) }
+{
+    let mut text = String::new(alloc);
+    push_elements(&mut text, elements)?;
+    Ok(text)
 }
 
 /// The line of one container of a memory: its name, its extents in brackets, and its elements in
@@ -68,11 +81,10 @@ pub fn array_line(
 ) -> Result<String, NoMemory>
     ensures { IfOk result (λ line. string_bytes line ≡ definition.container_line (graph_tree bound.now.graph) memory.now container) }
 {
-    let elements = memory.cells(container);
-    match bound.graph.containers.get_index(container as usize) {
-        Some((name, array)) => line_of(alloc, name.as_str(), array.extents.as_slice(), elements),
-        None => line_of(alloc, "", &[], elements),
-    }
+    let mut line = line_head(alloc, bound, container)?;
+    push_elements(&mut line, memory.cells(container))?;
+    line.push_str("\n")?;
+    Ok(line)
 }
 
 /// A line for each argument of a graph, in the order of the signature, as `array_line` gives them.
