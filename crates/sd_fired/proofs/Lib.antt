@@ -4,3 +4,4 @@ pub mod Owners
 pub mod Takes
 pub mod Transitions
 pub mod Nowhere
+pub mod Kept

@@ -1,4 +1,4 @@
-ghost use Rattle.std.specs.Prelude.{◌≡◌, ◌<◌, ◌≤◌, ℕ, ℤ, List, [], ◌∷◌, ◌++◌, length, slice_get, slice_set, slice_index_or, Some, None, Ok, Err, Bool, true, false, zero};
+ghost use Rattle.std.specs.Prelude.{◌≡◌, ◌<◌, ◌≤◌, ℕ, ℤ, List, [], ◌∷◌, ◌++◌, length, map, slice_get, slice_set, slice_index_or, Some, None, Ok, Err, Bool, true, false, zero};
 ghost use Rattle.sd_work.specs.declared.fault.FaultKind.{FaultKind};
 ghost use Rattle.sd_work.specs.Memory.{waiting};
 ghost use Rattle.sd_work.specs.Change.{apply, take};
@@ -30,21 +30,21 @@ pub fn a_move_of_a_leaf_is_one_of_its_item()
         → IsFired (leaf place old) path before end after (leaf place new) }
 {}
 
-/// What a move of an item comes to is what it comes to in its list, where that item alone has changed. So it is with a point of a
-/// map, and with an element of a consume scope that is in work, whose value stays.
-pub fn a_move_of_a_part_changes_its_list_there_alone()
-    ensures items { (order : ℕ → ℕ → Bool) (parts : List ItemLeft) (number : ℕ) (old new : ItemLeft) (items : ItemTrees) (context : Context) (path : Path) (before after : Reached) (end : End)
+/// What a move of an item comes to is what it comes to in its list, where that item alone has changed, in whatever way the items are
+/// kept. So it is with a point of a map, and with an element of a consume scope that is in work, whose numbers stay.
+pub fn a_move_of_a_part_changes_its_list_there_alone<A>()
+    ensures items { (tell : A → ItemLeft) (order : ℕ → ℕ → Bool) (parts : List A) (number : ℕ) (old new : A) (items : ItemTrees) (context : Context) (path : Path) (before after : Reached) (end : End)
         → number < length parts → old ≡ slice_index_or parts number old
-        → IsFired (old (first_kind (behind number items)) (first_line (behind number items)) context) path before end after (new (first_kind (behind number items)) (first_line (behind number items)) context)
-        → IsFired (list Items order (parts_left parts items context)) (number ∷ path) before end after (list Items order (parts_left (slice_set parts number new) items context)) }
-    ensures points { (points : List BodyLeft) (number : ℕ) (old new : BodyLeft) (kind : KindTree) (context : Context) (path : Path) (before after : Reached) (end : End)
+        → IsFired (tell old (first_kind (behind number items)) (first_line (behind number items)) context) path before end after (tell new (first_kind (behind number items)) (first_line (behind number items)) context)
+        → IsFired (list Items order (parts_left (map tell parts) items context)) (number ∷ path) before end after (list Items order (parts_left (map tell (slice_set parts number new)) items context)) }
+    ensures points { (tell : A → BodyLeft) (points : List A) (number : ℕ) (old new : A) (kind : KindTree) (context : Context) (path : Path) (before after : Reached) (end : End)
         → number < length points → old ≡ slice_index_or points number old
-        → IsFired (point_left old kind context) path before end after (point_left new kind context)
-        → IsFired (list Points in_any_order (points_left points kind context)) (number ∷ path) before end after (list Points in_any_order (points_left (slice_set points number new) kind context)) }
-    ensures elements { (level container : ℕ) (body : ℤ → Term Place) (closed : Bool) (active : List BodyLeft) (number : ℕ) (old new : BodyLeft) (kind : KindTree) (context : Context) (path : Path) (before after : Reached) (end : End)
-        → number < length active → old ≡ slice_index_or active number old → new.at ≡ old.at
-        → IsFired (element_left old kind context) path before end after (element_left new kind context)
-        → IsFired (pool level container body (active_left active kind context) closed) (1 ∷ number ∷ path) before end after (pool level container body (active_left (slice_set active number new) kind context) closed) }
+        → IsFired (point_left (tell old) kind context) path before end after (point_left (tell new) kind context)
+        → IsFired (list Points in_any_order (points_left (map tell points) kind context)) (number ∷ path) before end after (list Points in_any_order (points_left (map tell (slice_set points number new)) kind context)) }
+    ensures elements { (tell : A → BodyLeft) (level container : ℕ) (body : ℤ → Term Place) (closed : Bool) (active : List A) (number : ℕ) (old new : A) (kind : KindTree) (context : Context) (path : Path) (before after : Reached) (end : End)
+        → number < length active → old ≡ slice_index_or active number old → (tell new).at ≡ (tell old).at
+        → IsFired (element_left (tell old) kind context) path before end after (element_left (tell new) kind context)
+        → IsFired (pool level container body (active_left (map tell active) kind context) closed) (1 ∷ number ∷ path) before end after (pool level container body (active_left (map tell (slice_set active number new)) kind context) closed) }
 {}
 
 /// What a move of items comes to inside the memory of their point, element or run is what it comes to of the whole. A run moves so
@@ -100,16 +100,16 @@ pub fn a_finished_state_goes_on()
         → IsFired (run_left old tree reach around) path before (End.Fault place kind) after (run_left new tree reach around) }
 {}
 
-/// Where work has no move at a path, all stays as it is; so it is with an item, a point or an element that is not there, with a path
-/// that leads to none, and with a run that has ended.
-pub fn where_nothing_moves_all_stays()
+/// Where work has no move at a path, all stays as it is; so it is with an item, a point or an element that is not there, and with a run
+/// that has ended.
+pub fn where_nothing_moves_all_stays<A>()
     ensures work { (old : Term Place) (path : Path) (now : Reached) → fire old path now.memories ≡ no_move → IsFired old path now End.Finished now old }
-    ensures items { (order : ℕ → ℕ → Bool) (parts : List ItemLeft) (number : ℕ) (items : ItemTrees) (context : Context) (path : Path) (now : Reached)
-        → length parts ≤ number → IsFired (list Items order (parts_left parts items context)) (number ∷ path) now End.Finished now (list Items order (parts_left parts items context)) }
-    ensures points { (points : List BodyLeft) (number : ℕ) (kind : KindTree) (context : Context) (path : Path) (now : Reached)
-        → length points ≤ number → IsFired (list Points in_any_order (points_left points kind context)) (number ∷ path) now End.Finished now (list Points in_any_order (points_left points kind context)) }
-    ensures elements { (level container : ℕ) (body : ℤ → Term Place) (closed : Bool) (active : List BodyLeft) (number : ℕ) (kind : KindTree) (context : Context) (path : Path) (now : Reached)
-        → length active ≤ number → IsFired (pool level container body (active_left active kind context) closed) (1 ∷ number ∷ path) now End.Finished now (pool level container body (active_left active kind context) closed) }
+    ensures items { (tell : A → ItemLeft) (order : ℕ → ℕ → Bool) (parts : List A) (number : ℕ) (items : ItemTrees) (context : Context) (path : Path) (now : Reached)
+        → length parts ≤ number → IsFired (list Items order (parts_left (map tell parts) items context)) (number ∷ path) now End.Finished now (list Items order (parts_left (map tell parts) items context)) }
+    ensures points { (tell : A → BodyLeft) (points : List A) (number : ℕ) (kind : KindTree) (context : Context) (path : Path) (now : Reached)
+        → length points ≤ number → IsFired (list Points in_any_order (points_left (map tell points) kind context)) (number ∷ path) now End.Finished now (list Points in_any_order (points_left (map tell points) kind context)) }
+    ensures elements { (tell : A → BodyLeft) (level container : ℕ) (body : ℤ → Term Place) (closed : Bool) (active : List A) (number : ℕ) (kind : KindTree) (context : Context) (path : Path) (now : Reached)
+        → length active ≤ number → IsFired (pool level container body (active_left (map tell active) kind context) closed) (1 ∷ number ∷ path) now End.Finished now (pool level container body (active_left (map tell active) kind context) closed) }
     ensures ended { (run : RunLeft) (tree : GraphTree) (reach : ℕ → Reach) (around : List Frame) (path : Path) (now : Reached)
         → run.ended ≡ true → IsFired (run_left run tree reach around) path now End.Finished now (run_left run tree reach around) }
 {}
