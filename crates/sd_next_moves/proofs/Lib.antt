@@ -1,0 +1,5 @@
+pub mod Held
+pub mod Found
+pub mod FoundItem
+pub mod Trees
+pub mod Ways
