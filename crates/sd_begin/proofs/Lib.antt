@@ -1,0 +1,4 @@
+pub mod ItemKinds
+pub mod Rolled
+pub mod Parts
+pub mod Bodies
