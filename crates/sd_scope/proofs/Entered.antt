@@ -9,7 +9,7 @@ use Rattle.sd_graph.specs.Context.{named_values, entered}
 use Rattle.sd_graph.specs.LoopScope.{loops_in_force}
 use Rattle.sd_graph.specs.Unfold.{at_point, at_element, assigned, name_of}
 use Rattle.sd_scope.specs.declared.base.Base.{Base}
-use Rattle.sd_scope.specs.declared.scope.ShownName.TheVariants.{Parameter, Element}
+use Rattle.sd_scope.specs.declared.scope.ShownName.TheVariants.{Element}
 use Rattle.sd_scope.specs.declared.scope.Shown.{Shown}
 use Rattle.sd_scope.specs.declared.scope.Scope.{Scope}
 use Rattle.sd_scope.specs.Standing.{names_of, states_of, shown_name, all_shown, context_of, parameter_shown, IsInside}

@@ -1,11 +1,14 @@
 -- The number of an element in row order, extent by extent.
-use Rattle.std.proofs.Common.{◌≡◌, ℕ, zero, suc, ◌+◌, ◌*◌, ◌<◌, ◌≤◌, ℤ, pos, List, [], ◌∷◌, map, length, drop, get_or, Option, Some, None, Bool, true, false, ◌&&◌, int_le, int_lt, unsigned_abs, if◌then◌else◌, refl, ap, sym, ◌∙◌, arith}
+use Rattle.std.proofs.Common.{◌≡◌, ℕ, suc, ◌+◌, ◌*◌, ◌<◌, ◌≤◌, ℤ, pos, List, [], ◌∷◌, length, drop, get_or, Option, Some, None, Bool, true, false, ◌&&◌, int_le, int_lt, unsigned_abs, if◌then◌else◌, refl, ap, sym, ◌∙◌, arith}
 use Rattle.std.proofs.lemmas.List.{drop_more, drop_all, get_or-map, length-map}
 use Rattle.sd_range.specs.declared.affine.Affine.{Affine}
+use Rattle.sd_range.specs.declared.subset.Dim.{Dim}
+use Rattle.sd_range.specs.declared.subset.Dim.TheVariants.{Index, Span}
 use Rattle.sd_range.specs.Points.{product}
 use Rattle.sd_range.specs.Subset.{inside}
 use Rattle.sd_range.proofs.TupleLaws.{product-cons}
 use Rattle.sd_graph.specs.RowOrder.{row_number}
+use Rattle.sd_graph.specs.Context.{index_at}
 use Rattle.sd_scope.specs.Standing.{constants_of}
 
 -- a number is inside an extent
@@ -92,6 +95,47 @@ went_on place next extents index i d n below within inside =
     found_next place extents index i d n below within
     ∙ some_from (is_within (get_or extents i d) (get_or index i n)) (place * get_or extents i d + unsigned_abs (get_or index i n)) next
     (λ place. found_from place (drop (i + 1) extents) (drop (i + 1) index)) inside
+
+-- the first number is inside, or outside
+pub first_inside : (place next extent : ℕ) (number : ℤ) (extents : List ℕ) (index : List ℤ) →
+    Some next ≡ (if is_within extent number then Some (place * extent + unsigned_abs number) else None) → found_from place (extent ∷ extents) (number ∷ index) ≡ found_from next extents index
+first_inside place next extent number extents index is =
+    some_from (is_within extent number) (place * extent + unsigned_abs number) next (λ place. found_from place extents index) is
+
+pub first_outside : (place extent : ℕ) (number : ℤ) (extents : List ℕ) (index : List ℤ) →
+    None ≡ (if is_within extent number then Some (place * extent + unsigned_abs number) else None) → found_from place (extent ∷ extents) (number ∷ index) ≡ None
+first_outside place extent number extents index is =
+    none_from (is_within extent number) (place * extent + unsigned_abs number) (found_from (place * extent + unsigned_abs number) extents index) is
+
+-- where each dimension begins, one number for each
+pub begins_counted : (dims : List Dim) (values : List ℤ) → length (index_at dims values []) ≡ length dims
+begins_counted [] values = refl
+begins_counted (Index number ∷ dims) values = ap suc (begins_counted dims values)
+begins_counted (Span range ∷ dims) values = ap suc (begins_counted dims values)
+
+-- the dimension that is left first begins at this number
+pub begins_at : (dims : List Dim) (values : List ℤ) (i : ℕ) (dim : Dim) (number : ℤ) → i < length dims → dim ≡ get_or dims i dim →
+    index_at (dim ∷ drop (i + 1) dims) values [] ≡ number ∷ index_at (drop (i + 1) dims) values [] → index_at (drop i dims) values [] ≡ number ∷ index_at (drop (i + 1) dims) values []
+begins_at dims values i dim number within is here =
+    ap (λ left. index_at left values []) (drop_more dims i dim within ∙ ap (λ first. first ∷ drop (i + 1) dims) (sym is)) ∙ here
+
+-- it begins inside
+pub began_inside : (place next : ℕ) (extents : List ℕ) (index others : List ℤ) (i d : ℕ) (number : ℤ) → i < length extents → index ≡ number ∷ others →
+    Some next ≡ (if is_within (get_or extents i d) number then Some (place * get_or extents i d + unsigned_abs number) else None) →
+    found_from place (drop i extents) index ≡ found_from next (drop (i + 1) extents) others
+began_inside place next extents index others i d number below begins inside =
+    ap (λ left. found_from place left index) (drop_more extents i d below)
+    ∙ ap (λ index. found_from place (get_or extents i d ∷ drop (i + 1) extents) index) begins
+    ∙ first_inside place next (get_or extents i d) number (drop (i + 1) extents) others inside
+
+-- it begins outside
+pub began_outside : (place : ℕ) (extents : List ℕ) (index others : List ℤ) (i d : ℕ) (number : ℤ) → i < length extents → index ≡ number ∷ others →
+    None ≡ (if is_within (get_or extents i d) number then Some (place * get_or extents i d + unsigned_abs number) else None) →
+    found_from place (drop i extents) index ≡ None
+began_outside place extents index others i d number below begins outside =
+    ap (λ left. found_from place left index) (drop_more extents i d below)
+    ∙ ap (λ index. found_from place (get_or extents i d ∷ drop (i + 1) extents) index) begins
+    ∙ first_outside place (get_or extents i d) number (drop (i + 1) extents) others outside
 
 -- no number is left
 pub arrived : (place : ℕ) (extents : List ℕ) (index : List ℤ) (i : ℕ) → length extents ≤ i → length index ≤ i →

@@ -1,12 +1,12 @@
 -- Inside one more point or element each container is reached a level higher, but those that are private to it.
-use Rattle.std.proofs.Common.{◌≡◌, ℕ, zero, suc, ◌+◌, add-one, List, [], ◌∷◌, map, Option, Some, None, option_map, Bool, true, false, ◌||◌, if◌then◌else◌, nat_eq, slice_index_or, refl, ap, ◌∙◌, arith}
+use Rattle.std.proofs.Common.{◌≡◌, ℕ, zero, suc, ◌+◌, add-one, List, [], ◌∷◌, map, Option, Some, None, option_map, Bool, true, false, ◌||◌, if◌then◌else◌, slice_index_or, refl, ap, ◌∙◌, arith}
 use Rattle.sd_graph.specs.ContainerParts.{Containers}
-use Rattle.sd_graph.specs.Context.{Reach, own_reach, raised}
+use Rattle.sd_graph.specs.Context.{own_reach, raised}
 use Rattle.sd_graph.specs.Wiring.{has_number}
 use Rattle.sd_scope.specs.declared.base.Way.{Way}
 use Rattle.sd_scope.specs.declared.base.Base.{Base}
 use Rattle.sd_scope.specs.declared.scope.Scope.{Scope}
-use Rattle.sd_scope.specs.Standing.{reach_from, reach_of, found_through, private_inside, IsInside}
+use Rattle.sd_scope.specs.Standing.{reach_from, found_through, private_inside, IsInside}
 
 -- a container from inside one more
 pub raised_from : (own : Bool) (outer : Option ℕ) (depth : ℕ) (containers : Containers) (number : ℕ) (way : Option Way) →

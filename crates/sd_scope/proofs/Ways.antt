@@ -1,5 +1,5 @@
 -- Ways of the arguments of nested graphs.
-use Rattle.std.proofs.Common.{◌≡◌, ℕ, zero, suc, ◌+◌, ◌<◌, ◌≤◌, ℤ, List, [], ◌∷◌, ◌++◌, map, length, drop, get_or, slice_get, slice_index_or, Option, Some, None, String, string_bytes, if◌then◌else◌, refl, ap, sym, ◌∙◌, arith, ⊎_elim}
+use Rattle.std.proofs.Common.{◌≡◌, ℕ, zero, suc, ◌+◌, ◌<◌, ◌≤◌, ℤ, List, [], ◌∷◌, ◌++◌, map, length, drop, slice_get, slice_index_or, Option, Some, None, String, if◌then◌else◌, ap, sym, ◌∙◌, arith, ⊎_elim}
 use Rattle.std.proofs.Common.{Result, Ok, Err, IfOk, Bool, true, subst}
 use Rattle.std.proofs.lemmas.List.{length_push, length-map, length-drop, get_or_past}
 use Rattle.std.proofs.lemmas.Bool.{cases_lt}

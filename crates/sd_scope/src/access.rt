@@ -1,21 +1,22 @@
 //! Where accesses lead.
-ghost use Rattle.std.specs.Prelude.{◌≡◌, map, None, Some, option_map, slice_index_or, IfOk, MatchOption};
+ghost use Rattle.std.specs.Prelude.{◌≡◌, [], map, None, Some, option_map, slice_index_or, IfOk, MatchOption};
 ghost use Rattle.sd_graph.specs.PlainTree.{GraphTree};
 ghost use Rattle.sd_graph.specs.TreeFold.{graph_tree, named_container};
 ghost use Rattle.sd_graph.specs.ContainerParts.{Containers, container_at};
-ghost use Rattle.sd_graph.specs.Context.{found, link_elements, link_element, reference_at};
+ghost use Rattle.sd_graph.specs.Context.{found, index_at, link_elements, link_element, reference_at};
 ghost use Rattle.sd_machine.specs.Stack.{reference_of};
 ghost use Rattle.sd_scope.specs.Standing.{context_of, reach_of, found_through};
 ghost use Rattle.sd_scope.specs.declared.base.Base.{Base as BaseNow};
 
 use crate::base::{Base, Way};
-use crate::element::{element_of, element_through, index_at, none_of};
+use crate::element::{element_at_begin, element_of, element_through, index_at, none_of};
 use crate::evaluation::check_dims;
 use crate::scope::Scope;
 use indexmap::IndexMap;
 use sd_graph::{Container, Link, Sdfg};
 use sd_list::NoMemory;
 use sd_machine::{Cell, Station};
+use sd_range::Dim;
 use sd_subset::Elements;
 use std::alloc::Global;
 
@@ -129,6 +130,53 @@ pub fn link_cells(
     Ok(cells)
 }
 
+/// The element of one of the graph's containers where each dimension of a subset begins, where that is inside.
+fn own_begin(
+    containers: &IndexMap<String, Container>,
+    container: u32,
+    dims: &[Dim],
+    values: &[i128],
+) -> Result<Option<u64>, NoMemory>
+    ensures { IfOk result (λ element. element ≡ found (container_at (map named_container containers.now.entries) container) (index_at dims.now values.now [])) }
+{
+    match containers.get_index(container as usize) {
+        Some((_, container)) => element_at_begin(container.extents.as_slice(), dims, values),
+        None => element_at_begin(&[], dims, values),
+    }
+}
+
+/// The element where each dimension of a subset of a container begins, where that is inside. Takes memory where the container is
+/// reached by a way alone.
+fn cell_at_begin(
+    alloc: Global,
+    graph: &Sdfg,
+    base: &Base,
+    scope: &Scope,
+    container: u32,
+    dims: &[Dim],
+) -> Result<Option<Cell>, NoMemory>
+    ensures { IfOk result (λ cell. option_map reference_of cell ≡ reference_at ((context_of (graph_tree graph.now) base.now scope.now).reach container) (index_at dims.now scope.now.values.values [])) }
+{
+    let values = scope.values.values.as_slice();
+    let station = station(base, scope, container)?;
+    let element = match way_here(base, scope, container) {
+        None => own_begin(&graph.containers, container, dims, values)?,
+        Some(way) => {
+            let index = index_at(alloc, dims, values, &[])?;
+            element_through(
+                alloc,
+                way.views.as_slice(),
+                way.extents.as_slice(),
+                index.as_slice(),
+            )?
+        }
+    };
+    match element {
+        None => Ok(None),
+        Some(element) => Ok(Some(Cell { station, element })),
+    }
+}
+
 /// The element of a link at a place in its subset, which has a number for each range.
 pub fn link_cell(
     alloc: Global,
@@ -141,13 +189,10 @@ pub fn link_cell(
     ensures { IfOk result (λ cell. option_map reference_of cell ≡ link_element (context_of (graph_tree graph.now) base.now scope.now) link.now at.now) }
 {
     let dims = link.memlet.subset.dims.as_slice();
+    let container = link.memlet.container;
+    if at.is_empty() {
+        return cell_at_begin(alloc, graph, base, scope, container, dims);
+    }
     let index = index_at(alloc, dims, scope.values.values.as_slice(), at)?;
-    cell_at(
-        alloc,
-        graph,
-        base,
-        scope,
-        link.memlet.container,
-        index.as_slice(),
-    )
+    cell_at(alloc, graph, base, scope, container, index.as_slice())
 }

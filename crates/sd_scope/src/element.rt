@@ -1,6 +1,7 @@
 //! The numbers of elements in row order.
-ghost use Rattle.std.specs.Prelude.{◌≡◌, ◌+◌, ◌*◌, pos, ◌+ℤ◌, ◌*ℤ◌, unsigned_abs, ◌&&◌, int_le, int_lt, Some, None, [], if◌then◌else◌, IfOk};
+ghost use Rattle.std.specs.Prelude.{◌≡◌, ◌+◌, ◌*◌, pos, ◌+ℤ◌, ◌*ℤ◌, unsigned_abs, ◌&&◌, int_le, int_lt, Some, None, ℤ, List, [], ◌∷◌, if◌then◌else◌, IfOk};
 ghost use Rattle.sd_range.specs.Affine.{affine_value};
+ghost use Rattle.sd_range.specs.declared.subset.Dim.{Dim as DimNow};
 ghost use Rattle.sd_graph.specs.Context.{found, index_at};
 ghost use Rattle.sd_scope.specs.Standing.{constants_of, found_through};
 
@@ -50,6 +51,38 @@ fn element_among(extents: &[Affine], index: &[i128]) -> Result<Option<u64>, NoMe
     let mut place = 0;
     for i in 0..extents.len() {
         let Some(next) = further(place, size_of(&extents[i]), &index[i])? else {
+            return Ok(None);
+        };
+        place = next;
+    }
+    Ok(Some(place))
+}
+
+/// Where a dimension begins: at its index, or at the begin of its range.
+fn begin_of(dim: &Dim) -> &Affine
+    ensures { (dims : List DimNow) (values : List ℤ) → index_at (dim.now ∷ dims) values [] ≡ affine_value values result.now ∷ index_at dims values [] }
+{
+    match dim {
+        Dim::Index(number) => number,
+        Dim::Span(range) => &range.begin,
+    }
+}
+
+/// The element of an array, whose extents are these constants, where each dimension begins.
+pub(crate) fn element_at_begin(
+    extents: &[Affine],
+    dims: &[Dim],
+    values: &[i128],
+) -> Result<Option<u64>, NoMemory>
+    ensures { IfOk result (λ element. element ≡ found_through [] (constants_of extents.now) (index_at dims.now values.now [])) }
+{
+    if extents.len() != dims.len() {
+        return Ok(None);
+    }
+    let mut place = 0;
+    for i in 0..extents.len() {
+        let number = value_of(begin_of(&dims[i]), values)?;
+        let Some(next) = further(place, size_of(&extents[i]), &number)? else {
             return Ok(None);
         };
         place = next;

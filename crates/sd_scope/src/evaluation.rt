@@ -41,8 +41,18 @@ pub(crate) fn variable_of(values: &[i128], variable: u32) -> i128
 pub(crate) fn plus_product(sum: i128, factor: i128, number: i128) -> Result<i128, NoMemory>
     ensures { IfOk result (λ total. total ≡ sum +ℤ (factor *ℤ number)) }
 {
-    let product = factor.checked_mul(number).ok_or(NoMemory)?;
+    let product = product_of(factor, number)?;
     sum.checked_add(product).ok_or(NoMemory)
+}
+
+/// A product, which most often has the factor 1.
+fn product_of(factor: i128, number: i128) -> Result<i128, NoMemory>
+    ensures { IfOk result (λ product. product ≡ factor *ℤ number) }
+{
+    if factor == 1 {
+        return Ok(number);
+    }
+    factor.checked_mul(number).ok_or(NoMemory)
 }
 
 /// Tests that each variable of an expression has a value, and that its value fits.

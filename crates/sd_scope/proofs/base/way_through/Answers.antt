@@ -1,5 +1,5 @@
-use Rattle.std.proofs.Common.{rules, ◌≡◌, ℕ, List, [], ap, sym, ◌∙◌}
-use Rattle.sd_graph.specs.TreeFold.{graph_tree, named_container}
+use Rattle.std.proofs.Common.{◌≡◌, ℕ, List, [], ap, sym, ◌∙◌}
+use Rattle.sd_graph.specs.TreeFold.{graph_tree}
 use Rattle.sd_graph.specs.PlainTree.{GraphTree}
 use Rattle.sd_graph.specs.TreeParts.{containers_of}
 use Rattle.sd_graph.specs.ContainerParts.{container_at, extents_of}

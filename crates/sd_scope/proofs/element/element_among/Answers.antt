@@ -1,4 +1,4 @@
-use Rattle.std.proofs.Common.{rules, ◌≡◌, ◌<◌, ◌≤◌, length, pos, sym, ◌∙◌, arith}
+use Rattle.std.proofs.Common.{rules, ◌<◌, length, pos, sym, ◌∙◌, arith}
 use Rattle.sd_scope.specs.Standing.{constants_of}
 use Rattle.sd_scope.proofs.Found.{found_all, not_found, stopped, went_on, arrived, constant_at, constants_counted}
 use Rattle.sd_scope.proofs.element.element_among.Goals as goal

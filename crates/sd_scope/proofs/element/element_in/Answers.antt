@@ -1,4 +1,4 @@
-use Rattle.std.proofs.Common.{rules, ◌≡◌, ◌<◌, length, pos, sym, ◌∙◌}
+use Rattle.std.proofs.Common.{rules, pos, sym, ◌∙◌}
 use Rattle.sd_scope.proofs.Found.{found_all, not_found, stopped, arrived}
 use Rattle.sd_scope.proofs.element.element_in.Goals as goal
 

@@ -1,4 +1,4 @@
-use Rattle.std.proofs.Common.{rules, ◌≡◌, ◌+◌, ◌<◌, ◌≤◌, get_or, length, pos, arith, ap, min}
+use Rattle.std.proofs.Common.{rules, ◌≡◌, ◌<◌, get_or, length, pos}
 use Rattle.std.proofs.lemmas.List.{take_all, drop_all}
 use Rattle.sd_graph.specs.Unfold.{assigned}
 use Rattle.sd_scope.proofs.Assigned.{within_assigned, no_more_assigned, assigned_at, variables_next, shown_next}

@@ -1,4 +1,4 @@
-use Rattle.std.proofs.Common.{rules, FitsSigned, ◌≡◌, sym, ap, ◌∙◌, slice_set}
+use Rattle.std.proofs.Common.{rules, FitsSigned, ◌≡◌, sym, slice_set}
 use Rattle.std.specs.Int.{w128}
 use Rattle.std.proofs.lemmas.Int.{to_z-of_z}
 use Rattle.sd_range.proofs.Variables.{variable_replaced}
