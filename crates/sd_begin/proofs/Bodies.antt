@@ -14,13 +14,13 @@ use Rattle.sd_graph.specs.TreeParts.{containers_of, states_of_graph, items_at}
 use Rattle.sd_graph.specs.TreeFold.{PlainState, graph_tree, item_trees, state_tree, state_trees, named_container}
 use Rattle.sd_graph.specs.Wiring.{before}
 use Rattle.sd_graph.specs.Context.{Reach, Context, private_memory}
-use Rattle.sd_graph.specs.Unfold.{at_point, run_memory, unfold_graph}
+use Rattle.sd_graph.specs.Unfold.{at_point, unfold_graph}
 use Rattle.sd_graph.specs.declared.place.Frame.{Frame}
 use Rattle.sd_graph.specs.declared.graph.State.{State}
 use Rattle.sd_graph.specs.declared.graph.Sdfg.{Sdfg}
 use Rattle.sd_graph.specs.declared.graph.ItemKind.TheViews.{out-State, out-Sdfg}
 use Rattle.sd_graph.proofs.TreeLemmas.{state_opened, graph_opened}
-use Rattle.sd_machine.specs.Coming.{state_context, state_term, variable_count}
+use Rattle.sd_machine.specs.Coming.{state_context, variable_count}
 use Rattle.sd_tree.specs.Begun.{AreBegun, IsPointBegun, zeros}
 use Rattle.sd_tree.specs.Standing.{ItemLeft, BodyLeft, RunLeft, run_left}
 use Rattle.sd_tree.proofs.Begins.{items-begin, state-begins, run-begins}

@@ -1,11 +1,11 @@
 -- Items and points that begin, one after another.
-use Rattle.std.proofs.Common.{◌≡◌, ℕ, ◌+◌, ◌<◌, ◌≤◌, ℤ, List, [], ◌∷◌, ◌++◌, map, length, drop, get_or, slice_get, Some, is_some, Bool, true, false, ◌&&◌, refl, sym, ap, ap₂, ◌∙◌, subst, arith, drop_of_length-le}
+use Rattle.std.proofs.Common.{◌≡◌, ℕ, ◌+◌, ◌<◌, ◌≤◌, ℤ, List, [], ◌∷◌, ◌++◌, map, length, drop, get_or, slice_get, Some, is_some, Bool, true, false, ◌&&◌, refl, sym, ap, ap₂, ◌∙◌, subst, drop_of_length-le}
 use Rattle.std.proofs.lemmas.List.{drop_more}
 use Rattle.sd_range.specs.declared.range.Range.{Range}
 use Rattle.sd_range.specs.Points.{Walk, moved}
 use Rattle.sd_work.specs.Memory.{Memories}
-use Rattle.sd_graph.specs.PlainTree.{KindTree, ItemTrees, no_item, and_item}
-use Rattle.sd_graph.specs.TreeFold.{PlainItem, kind_tree, item_tree, item_trees}
+use Rattle.sd_graph.specs.PlainTree.{ItemTrees, and_item}
+use Rattle.sd_graph.specs.TreeFold.{PlainItem, kind_tree, item_trees}
 use Rattle.sd_graph.specs.Context.{Context}
 use Rattle.sd_graph.specs.Unfold.{unfold_kind}
 use Rattle.sd_graph.specs.declared.graph.Item.{Item}
