@@ -118,6 +118,7 @@ pub fn run_row(
     requires wide { AreWide columns.old }
     ensures end { (setting : Setting) → IsSetting row.now code.now count setting → IsOver setting.own machine.old
         → IsEnd (row_coming setting 0 count (below machine.old)) (below machine.old) (end_of_row setting result) (below machine.new) }
+    ensures own { (setting : Setting) → IsSetting row.now code.now count setting → IsOver setting.own machine.old → IsOver setting.own machine.new }
     ensures ready { IsReady code.now frame.new }
     ensures scalars { HasScalars row.now code.now.layout.connectors (given frame.new) }
     ensures columns { AreKept columns.old columns.new }
