@@ -43,7 +43,7 @@ module _ (sizes : List ℤ) where
     states_same no_state = refl
     states_same (and_state items exits states) = λ i. items_same items i ++ states_same states i
 
-    graph_same : (tree : GraphTree) → written_of (bound_graph sizes tree) ≡ written_of tree
+    pub graph_same : (tree : GraphTree) → written_of (bound_graph sizes tree) ≡ written_of tree
     graph_same (graph name containers arguments variables symbols states) = states_same states
 
   one_same : (written : List ℕ) (first : ℕ) (link : Link) (number : ℕ) (links : List Link) → is_unshared written first (bound_link sizes link) number (map (bound_link sizes) links) ≡ is_unshared written first link number links
@@ -51,7 +51,7 @@ module _ (sizes : List ℤ) where
   one_same written first link number (other ∷ links) =
       ap (λ rest. (not (nat_eq (container_of link) (container_of other)) || not (has_number written first || has_number written number)) && rest) (one_same written first link (suc number) links)
 
-  all_same : (written : List ℕ) (number : ℕ) (links : List Link) → are_unshared written number (map (bound_link sizes) links) ≡ are_unshared written number links
+  pub all_same : (written : List ℕ) (number : ℕ) (links : List Link) → are_unshared written number (map (bound_link sizes) links) ≡ are_unshared written number links
   all_same written number [] = refl
   all_same written number (link ∷ links) = λ i. one_same written number link (suc number) links i && all_same written (suc number) links i
 

@@ -1,0 +1,3 @@
+pub mod NormalForms
+pub mod NormalGraphs
+pub mod Kept
