@@ -223,7 +223,7 @@ all_sound (function ∷ functions) above placed callable =
     let callable_on : EveryFunction IsCallable (reverse functions ++ function ∷ above) = subst (EveryFunction IsCallable) (turning functions above function) callable in
     (((of_last IsPlaced (reverse functions) (function ∷ above) placed_on).0, (of_last IsCallable (reverse functions) (function ∷ above) callable_on).0), all_sound functions (function ∷ above) placed_on callable_on)
 
-program_linked : (source : ProgramTree) → IsWellFormed source → IsLinked (graph_of source)
+pub program_linked : (source : ProgramTree) → IsWellFormed source → IsLinked (graph_of source)
 program_linked source well =
     let placed : EveryFunction IsPlaced (reverse source.functions ++ []) = subst (EveryFunction IsPlaced) (sym (append-nil (reverse source.functions))) well.placed in
     let callable : EveryFunction IsCallable (reverse source.functions ++ []) = subst (EveryFunction IsCallable) (sym (append-nil (reverse source.functions))) well.calls in
