@@ -1,8 +1,9 @@
-ghost use Rattle.std.specs.Prelude.{◌≡◌, ◌≤◌, ◌==◌, OnOk, OnErr, IsErrOf};
+ghost use Rattle.std.specs.Prelude.{◌≡◌, ◌≤◌, ◌==◌, IfOk, OnOk, OnErr, IsErrOf};
 ghost use Rattle.std.specs.List.{position};
 ghost use Rattle.sd_io.specs.Count.{HasRisen};
 ghost use Rattle.sd_io.specs.Sink.{Appends, AppendsPrefix};
 ghost use Rattle.sd_tool.specs.Pieces as pieces;
+ghost use Rattle.sd_tool.specs.Pieces.{AppendsAllBut};
 
 use sd_io::{Sink, SinkError};
 
@@ -41,4 +42,20 @@ pub(crate) fn write_text<K: Sink>(out: &mut K, text: &[u8]) -> Result<(), SinkEr
         rest = others;
     }
     Ok(())
+}
+
+/// Writes what a line begins with in pieces of 4,096 bytes, and gives what is left of it.
+pub(crate) fn write_pieces<K: Sink>(out: &mut K, line: Vec<u8>) -> Result<Vec<u8>, SinkError>
+    ensures ok { IfOk result (λ rest. AppendsAllBut (K.taken out.old) (K.taken out.new) line.items rest.items) }
+    ensures err { OnErr result (AppendsPrefix (K.taken out.old) (K.taken out.new) line.items) }
+    ensures failed { IsErrOf result SinkError.Failed → HasRisen (K.faults out.old) (K.faults out.new) }
+    ensures faults_never_fall { K.faults out.old ≤ K.faults out.new }
+{
+    let whole = line.len() - line.len() % PIECE;
+    let mut line = line;
+    let Ok(rest) = line.split_off(whole) else {
+        return Err(SinkError::Memory);
+    };
+    write_text(out, line.as_slice())?;
+    Ok(rest)
 }

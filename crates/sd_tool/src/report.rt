@@ -1,11 +1,13 @@
-ghost use Rattle.std.specs.Prelude.{◌≡◌, ◌≤◌, IfOk, IfErr, IfSome, OnOk, OnErr, IsErrOf};
+ghost use Rattle.std.specs.Prelude.{◌≡◌, ◌≤◌, ◌++◌, IfOk, IfErr, IfSome, OnOk, OnErr, IsErrOf};
 ghost use Rattle.sd_io.specs.Count.{HasRisen};
 ghost use Rattle.sd_io.specs.Sink.{Appends, AppendsPrefix};
 ghost use Rattle.sd_graph.specs.TreeFold.{graph_tree};
 ghost use Rattle.sd_graph.specs.Upwards.{LeadsUpwards};
 ghost use Rattle.sd_graph_text.specs.GraphText as listing;
 ghost use Rattle.sd_race_text.specs.CheckText as checking;
+ghost use Rattle.sd_json.specs.AnswerText as lines;
 ghost use Rattle.sd_tool.specs.AnswerText.{done_text};
+ghost use Rattle.sd_tool.specs.Pieces.{AppendsAllBut};
 ghost use Rattle.sd_tool.specs.Answers.{Tells, text_of};
 ghost use Rattle.sd_tool.specs.Command.{command_of};
 ghost use Rattle.sd_tool.specs.Ending.{answer_of};
@@ -19,7 +21,7 @@ use crate::workspace::{Workspace, accepted, run};
 use sd_graph::Bound;
 use sd_graph_text::graph_text;
 use sd_io::{Sink, SinkError};
-use sd_json::array_line;
+use sd_json::{elements_text, line_head};
 use sd_race_text::check_text;
 use std::alloc::Global;
 
@@ -34,7 +36,77 @@ pub(crate) enum Report {
     Accepted(Bound),
 }
 
-/// Writes the line of each argument, one after another; only one line is made at a time.
+/// How many elements are made into text at a time.
+const PART: usize = 256;
+
+/// Adds elements to a line, each after a space, and writes the pieces of it that are whole.
+fn write_part<K: Sink>(
+    alloc: Global,
+    out: &mut K,
+    line: Vec<u8>,
+    part: &[i64],
+) -> Result<Vec<u8>, SinkError>
+    ensures ok { IfOk result (λ rest. AppendsAllBut (K.taken out.old) (K.taken out.new) (line.items ++ lines.elements_text part.now) rest.items) }
+    ensures err { OnErr result (AppendsPrefix (K.taken out.old) (K.taken out.new) (line.items ++ lines.elements_text part.now)) }
+    ensures failed { IsErrOf result SinkError.Failed → HasRisen (K.faults out.old) (K.faults out.new) }
+    ensures faults_never_fall { K.faults out.old ≤ K.faults out.new }
+{
+    let mut line = line;
+    let Ok(text) = elements_text(alloc, part) else {
+        return Err(SinkError::Memory);
+    };
+    if line.extend_from_slice(text.as_bytes()).is_err() {
+        return Err(SinkError::Memory);
+    }
+    output::write_pieces(out, line)
+}
+
+/// The same of many elements, of which only a part is text at a time.
+fn write_elements<K: Sink>(
+    alloc: Global,
+    out: &mut K,
+    line: Vec<u8>,
+    elements: &[i64],
+) -> Result<Vec<u8>, SinkError>
+    ensures ok { IfOk result (λ rest. AppendsAllBut (K.taken out.old) (K.taken out.new) (line.items ++ lines.elements_text elements.now) rest.items) }
+    ensures err { OnErr result (AppendsPrefix (K.taken out.old) (K.taken out.new) (line.items ++ lines.elements_text elements.now)) }
+    ensures failed { IsErrOf result SinkError.Failed → HasRisen (K.faults out.old) (K.faults out.new) }
+    ensures faults_never_fall { K.faults out.old ≤ K.faults out.new }
+{
+    let mut line = line;
+    let mut rest = elements;
+    while !rest.is_empty() {
+        let (part, others) = rest.split_at(rest.len().min(PART));
+        line = write_part(alloc, out, line, part)?;
+        rest = others;
+    }
+    Ok(line)
+}
+
+/// Writes the line of an argument. Little of it is kept at a time, however many elements it has.
+fn write_array<K: Sink>(
+    alloc: Global,
+    out: &mut K,
+    after: &Workspace,
+    argument: u32,
+) -> Result<(), SinkError>
+    ensures ok { OnOk result (Appends (K.taken out.old) (K.taken out.new) (lines.container_line (graph_tree after.now.bound.graph) after.now.memory argument)) }
+    ensures err { OnErr result (AppendsPrefix (K.taken out.old) (K.taken out.new) (lines.container_line (graph_tree after.now.bound.graph) after.now.memory argument)) }
+    ensures failed { IsErrOf result SinkError.Failed → HasRisen (K.faults out.old) (K.faults out.new) }
+    ensures faults_never_fall { K.faults out.old ≤ K.faults out.new }
+{
+    let Ok(head) = line_head(alloc, &after.bound, argument) else {
+        return Err(SinkError::Memory);
+    };
+    let elements = after.memory.cells(argument);
+    let mut line = write_elements(alloc, out, head.into_bytes(), elements)?;
+    if line.push(b'\n').is_err() {
+        return Err(SinkError::Memory);
+    }
+    output::write_text(out, line.as_slice())
+}
+
+/// Writes the line of each argument, one after another.
 fn write_arrays<K: Sink>(alloc: Global, out: &mut K, after: &Workspace) -> Result<(), SinkError>
     ensures ok { OnOk result (Appends (K.taken out.old) (K.taken out.new) (done_text (graph_tree after.now.bound.graph) after.now.memory.contents)) }
     ensures err { OnErr result (AppendsPrefix (K.taken out.old) (K.taken out.new) (done_text (graph_tree after.now.bound.graph) after.now.memory.contents)) }
@@ -42,10 +114,7 @@ fn write_arrays<K: Sink>(alloc: Global, out: &mut K, after: &Workspace) -> Resul
     ensures faults_never_fall { K.faults out.old ≤ K.faults out.new }
 {
     for argument in 0..after.bound.graph.arguments {
-        match array_line(alloc, &after.bound, &after.memory, argument) {
-            Ok(line) => output::write_text(out, line.as_bytes())?,
-            Err(_) => return Err(SinkError::Memory),
-        }
+        write_array(alloc, out, after, argument)?;
     }
     Ok(())
 }
