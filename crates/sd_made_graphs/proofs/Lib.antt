@@ -1,0 +1,3 @@
+pub mod Nested
+pub mod Shallow
+pub mod Places
