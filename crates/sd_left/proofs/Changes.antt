@@ -12,16 +12,10 @@ use Rattle.sd_left.specs.declared.left.Run.{Run as RunNow}
 use Rattle.sd_left.specs.declared.left.Left.TheOpen.{Bodies-F, Body-F}
 use Rattle.sd_left.specs.declared.left.Left.TheViews.{out-Bodies, out-Body, roll-Bodies, roll-Body}
 use Rattle.sd_left.specs.Waits.{Told, all_hold}
-use Rattle.sd_left.specs.Tells.{Telling, tells, bodies_tell, body_tells, flags_told, ready_moves, same_counts, counts_tell}
+use Rattle.sd_left.specs.Tells.{Telling, tells, bodies_tell, body_tells, flags_told, ready_moves}
 use Rattle.sd_left.proofs.TellRolls.{bodies_rolled, body_rolled, bodies_told, body_told}
-use Rattle.sd_left.proofs.Sameness.{at_each, same-self}
+use Rattle.sd_left.proofs.Sameness.{at_all}
 use Rattle.sd_left.proofs.Recounted.{BodiesRight, PartsRight, body-again, body-added, part-again, parts-again}
-
--- counts that are the wanted ones are right where the parts are
-pub exact : (moves wanted unfinished unfinished_wanted : List ℕ) (parts_right : Bool) → moves ≡ wanted → unfinished ≡ unfinished_wanted
-    → (counts_tell moves unfinished wanted unfinished_wanted parts_right).is_right ≡ parts_right
-exact moves wanted unfinished unfinished_wanted parts_right one two =
-    ap₂ (λ (a b : Bool). a && (b && parts_right)) (subst (λ (m : List ℕ). same_counts moves m ≡ true) one (same-self moves)) (subst (λ (u : List ℕ). same_counts unfinished u ≡ true) two (same-self unfinished))
 
 -- one that was put there stands there
 pub put-there : {A : Type 0} (all others : List A) (number : ℕ) (one : A) → number < length all → all ≡ slice_set others number one → (number < length others) × (one ≡ get_or all number one)
@@ -44,41 +38,46 @@ hold-last (first ∷ all) one memories = ap (λ (so : Bool). first memories && s
 -- ---- bodies
 
 module _ (before : BodiesNow) (body : BodyNow) (x : Bodies-F LeftNow BodiesNow BodyNow RunNow) (right : (bodies_tell before).is_right ≡ true) (one : (body_tells body).is_right ≡ true) where
-  were-right : BodiesRight body_tells (out-Bodies before).bodies.items (out-Bodies before).moves (out-Bodies before).unfinished
+  were-right : BodiesRight body_tells (out-Bodies before).bodies.items (out-Bodies before).moves (out-Bodies before).unfinished (out-Bodies before).«open»
   were-right = sym (ap (λ (t : Telling). t.is_right) (bodies_told before)) ∙ right
 
-  are-right : BodiesRight body_tells x.bodies.items x.moves x.unfinished → (bodies_tell (roll-Bodies x)).is_right ≡ true
+  are-right : BodiesRight body_tells x.bodies.items x.moves x.unfinished x.«open» → (bodies_tell (roll-Bodies x)).is_right ≡ true
   are-right now = ap (λ (t : Telling). t.is_right) (bodies_rolled x) ∙ now
 
   pub bodies-again : (number : ℕ) → x.bodies.items ≡ slice_set (out-Bodies before).bodies.items number body → x.moves ≡ slice_set (out-Bodies before).moves number (body_tells body).moves
-      → x.unfinished ≡ slice_set (out-Bodies before).unfinished number (one_if (body_tells body).is_unfinished) → (bodies_tell (roll-Bodies x)).is_right ≡ true
-  bodies-again number bodies moves unfinished = are-right (at_each (BodiesRight body_tells) bodies moves unfinished
-      (body-again body_tells (out-Bodies before).bodies.items (out-Bodies before).moves (out-Bodies before).unfinished number body were-right one))
+      → x.unfinished ≡ slice_set (out-Bodies before).unfinished number (one_if (body_tells body).is_unfinished)
+      → x.«open» ≡ slice_set (out-Bodies before).«open» number (body_tells body).pools → (bodies_tell (roll-Bodies x)).is_right ≡ true
+  bodies-again number bodies moves unfinished pools = are-right (at_all (BodiesRight body_tells) bodies moves unfinished pools
+      (body-again body_tells (out-Bodies before).bodies.items (out-Bodies before).moves (out-Bodies before).unfinished (out-Bodies before).«open» body were-right one number))
 
   pub bodies-added : x.bodies.items ≡ (out-Bodies before).bodies.items ++ body ∷ [] → x.moves ≡ (out-Bodies before).moves ++ (body_tells body).moves ∷ []
-      → x.unfinished ≡ (out-Bodies before).unfinished ++ one_if (body_tells body).is_unfinished ∷ [] → (bodies_tell (roll-Bodies x)).is_right ≡ true
-  bodies-added bodies moves unfinished = are-right (at_each (BodiesRight body_tells) bodies moves unfinished
-      (body-added body_tells (out-Bodies before).bodies.items (out-Bodies before).moves (out-Bodies before).unfinished body were-right one))
+      → x.unfinished ≡ (out-Bodies before).unfinished ++ one_if (body_tells body).is_unfinished ∷ []
+      → x.«open» ≡ (out-Bodies before).«open» ++ (body_tells body).pools ∷ [] → (bodies_tell (roll-Bodies x)).is_right ≡ true
+  bodies-added bodies moves unfinished pools = are-right (at_all (BodiesRight body_tells) bodies moves unfinished pools
+      (body-added body_tells (out-Bodies before).bodies.items (out-Bodies before).moves (out-Bodies before).unfinished (out-Bodies before).«open» body were-right one))
 
 -- ---- items
 
 module _ (before : BodyNow) (number : ℕ) (part : LeftNow) (x : Body-F LeftNow BodiesNow BodyNow RunNow) (right : (body_tells before).is_right ≡ true) (one : (tells part).is_right ≡ true)
     (parts : x.parts.items ≡ slice_set (out-Body before).parts.items number part) (order : x.order ≡ (out-Body before).order)
-    (unfinished : x.unfinished ≡ slice_set (out-Body before).unfinished number (one_if (tells part).is_unfinished)) where
+    (unfinished : x.unfinished ≡ slice_set (out-Body before).unfinished number (one_if (tells part).is_unfinished))
+    (pools : x.«open» ≡ slice_set (out-Body before).«open» number (tells part).pools) where
   abbrev order_before : ℕ → ℕ → Bool
   order_before = told (out-Body before).order
 
   abbrev parts_after : List LeftNow
   parts_after = slice_set (out-Body before).parts.items number part
 
-  was-right : PartsRight tells order_before (out-Body before).parts.items (out-Body before).moves (out-Body before).unfinished
+  was-right : PartsRight tells order_before (out-Body before).parts.items (out-Body before).moves (out-Body before).unfinished (out-Body before).«open»
   was-right = sym (ap (λ (t : Telling). t.is_right) (body_told before)) ∙ right
-
-  is-right : PartsRight tells (told x.order) x.parts.items x.moves x.unfinished → (body_tells (roll-Body x)).is_right ≡ true
-  is-right now = ap (λ (t : Telling). t.is_right) (body_rolled x) ∙ now
 
   same-order : told x.order ≡ order_before
   same-order = ap told order
+
+  is-right : PartsRight tells order_before x.parts.items x.moves x.unfinished x.«open» → (body_tells (roll-Body x)).is_right ≡ true
+  is-right now =
+      ap (λ (t : Telling). t.is_right) (body_rolled x)
+      ∙ subst (λ (o : ℕ → ℕ → Bool). PartsRight tells o x.parts.items x.moves x.unfinished x.«open») (sym same-order) now
 
   pub item-again : number < length (out-Body before).parts.items → get_or (out-Body before).unfinished number 0 ≡ one_if (tells part).is_unfinished
       → x.moves ≡ slice_set (out-Body before).moves number (cond (is_ready (told x.order) (flags_told (map tells x.parts.items)) number) (tells part).moves 0)
@@ -86,14 +85,12 @@ module _ (before : BodyNow) (number : ℕ) (part : LeftNow) (x : Body-F LeftNow 
   item-again there same moves =
       let counted : x.moves ≡ slice_set (out-Body before).moves number (cond (is_ready order_before (flags_told (map tells parts_after)) number) (tells part).moves 0) =
       moves ∙ ap₂ (λ (o : ℕ → ℕ → Bool) (p : List LeftNow). slice_set (out-Body before).moves number (cond (is_ready o (flags_told (map tells p)) number) (tells part).moves 0)) same-order parts in
-      is-right (subst (λ (o : ℕ → ℕ → Bool). PartsRight tells o x.parts.items x.moves x.unfinished) (sym same-order)
-      (at_each (PartsRight tells order_before) parts counted unfinished
-      (part-again tells order_before (out-Body before).parts.items (out-Body before).moves (out-Body before).unfinished number part was-right one there same)))
+      is-right (at_all (PartsRight tells order_before) parts counted unfinished pools
+      (part-again tells order_before (out-Body before).parts.items (out-Body before).moves (out-Body before).unfinished (out-Body before).«open» number part was-right one there same))
 
   pub items-again : x.moves ≡ ready_moves (told x.order) (flags_told (map tells x.parts.items)) 0 (map tells x.parts.items) → (body_tells (roll-Body x)).is_right ≡ true
   items-again moves =
       let counted : x.moves ≡ ready_moves order_before (flags_told (map tells parts_after)) 0 (map tells parts_after) =
       moves ∙ ap₂ (λ (o : ℕ → ℕ → Bool) (p : List LeftNow). ready_moves o (flags_told (map tells p)) 0 (map tells p)) same-order parts in
-      is-right (subst (λ (o : ℕ → ℕ → Bool). PartsRight tells o x.parts.items x.moves x.unfinished) (sym same-order)
-      (at_each (PartsRight tells order_before) parts counted unfinished
-      (parts-again tells order_before (out-Body before).parts.items (out-Body before).moves (out-Body before).unfinished number part was-right one)))
+      is-right (at_all (PartsRight tells order_before) parts counted unfinished pools
+      (parts-again tells order_before (out-Body before).parts.items (out-Body before).moves (out-Body before).unfinished (out-Body before).«open» number part was-right one))

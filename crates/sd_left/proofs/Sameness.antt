@@ -1,5 +1,5 @@
 -- Counts that are the same, and counts of what is unfinished.
-use Rattle.std.proofs.Common.{◌≡◌, ℕ, ◌+◌, nat_eq, nat_lt, List, [], ◌∷◌, Bool, true, false, not, ◌&&◌, refl, sym, ap, ap₂, subst, arith, rules}
+use Rattle.std.proofs.Common.{◌≡◌, ℕ, ◌+◌, nat_eq, nat_lt, List, [], ◌∷◌, Bool, true, false, not, ◌&&◌, refl, sym, ap, ap₂, ◌∙◌, subst, arith, rules}
 use Rattle.std.proofs.lemmas.Bool.{eqb-true, lt-ltb}
 use Rattle.std.proofs.lemmas.List.Sums.{sum_by-cons}
 use Rattle.std.specs.List.{sum}
@@ -31,6 +31,44 @@ pub same-self : (counts : List ℕ) → same_counts counts counts ≡ true
 same-self [] = refl
 same-self (count ∷ counts) = both-are (nat_eq count count) (same_counts counts counts) (same-number count) (same-self counts)
 
+pub counts-are : (counts wanted : List ℕ) (rest : Bool) → counts ≡ wanted → (same_counts counts wanted && rest) ≡ rest
+counts-are counts wanted rest same = ap (λ (so : Bool). so && rest) (subst (λ (others : List ℕ). same_counts counts others ≡ true) same (same-self counts))
+
+-- four tests at once
+abbrev pub AreRight : (moves moves_wanted unfinished unfinished_wanted pools pools_wanted : List ℕ) → (parts_right : Bool) → Type 0
+AreRight moves moves_wanted unfinished unfinished_wanted pools pools_wanted parts_right =
+    (same_counts moves moves_wanted && (same_counts unfinished unfinished_wanted && (same_counts pools pools_wanted && parts_right))) ≡ true
+
+pub record Were (moves moves_wanted unfinished unfinished_wanted pools pools_wanted : List ℕ) (parts_right : Bool) : Type 0 where
+  pub moves_are : moves ≡ moves_wanted
+  pub unfinished_are : unfinished ≡ unfinished_wanted
+  pub pools_are : pools ≡ pools_wanted
+  pub parts_are : parts_right ≡ true
+
+module _ (moves moves_wanted unfinished unfinished_wanted pools pools_wanted : List ℕ) (parts_right : Bool) where
+  pub were : AreRight moves moves_wanted unfinished unfinished_wanted pools pools_wanted parts_right → Were moves moves_wanted unfinished unfinished_wanted pools pools_wanted parts_right
+  were right =
+      let first = both-true (same_counts moves moves_wanted) (same_counts unfinished unfinished_wanted && (same_counts pools pools_wanted && parts_right)) right in
+      let second = both-true (same_counts unfinished unfinished_wanted) (same_counts pools pools_wanted && parts_right) first.1 in
+      let third = both-true (same_counts pools pools_wanted) parts_right second.1 in
+      record {
+        moves_are = are-same moves moves_wanted first.0;
+        unfinished_are = are-same unfinished unfinished_wanted second.0;
+        pools_are = are-same pools pools_wanted third.0;
+        parts_are = third.1;
+      }
+
+  -- counts that are the wanted ones are right where the parts are
+  pub exact : moves ≡ moves_wanted → unfinished ≡ unfinished_wanted → pools ≡ pools_wanted
+      → (same_counts moves moves_wanted && (same_counts unfinished unfinished_wanted && (same_counts pools pools_wanted && parts_right))) ≡ parts_right
+  exact one two three =
+      counts-are moves moves_wanted (same_counts unfinished unfinished_wanted && (same_counts pools pools_wanted && parts_right)) one
+      ∙ counts-are unfinished unfinished_wanted (same_counts pools pools_wanted && parts_right) two
+      ∙ counts-are pools pools_wanted parts_right three
+
+  pub all-are : moves ≡ moves_wanted → unfinished ≡ unfinished_wanted → pools ≡ pools_wanted → parts_right ≡ true → AreRight moves moves_wanted unfinished unfinished_wanted pools pools_wanted parts_right
+  all-are one two three four = exact one two three ∙ four
+
 -- something is unfinished in one, or in the others
 pub unfinished-more : (unfinished : Bool) (rest : ℕ) → (not unfinished && not (nat_lt 0 rest)) ≡ not (nat_lt 0 (one_if unfinished + rest))
 unfinished-more true rest = sym (ap not (lt-ltb 0 (1 + rest) (omega arith)))
@@ -46,3 +84,8 @@ not-not false = refl
 pub at_each : {A B C : Type 0} (P : A → B → C → Type 0) {a a' : A} {b b' : B} {c c' : C} → a' ≡ a → b' ≡ b → c' ≡ c → P a b c → P a' b' c'
 at_each P {a} {a'} {b} {b'} {c} {c'} first second third holds =
     subst (λ x. P x b' c') (sym first) (subst (λ y. P a y c') (sym second) (subst (λ z. P a b z) (sym third) holds))
+
+-- four things at once
+pub at_all : {A B C D : Type 0} (P : A → B → C → D → Type 0) {a a' : A} {b b' : B} {c c' : C} {d d' : D} → a' ≡ a → b' ≡ b → c' ≡ c → d' ≡ d → P a b c d → P a' b' c' d'
+at_all P {a} {a'} {b} {b'} {c} {c'} {d} {d'} first second third fourth holds =
+    subst (λ x. P x b' c' d') (sym first) (at_each (P a) second third fourth holds)

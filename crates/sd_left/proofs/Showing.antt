@@ -7,7 +7,7 @@ use Rattle.sd_left.specs.declared.left.Body.{Body as BodyNow}
 use Rattle.sd_left.specs.declared.left.Run.{Run as RunNow}
 use Rattle.sd_left.specs.declared.left.Left.TheOpen.{Left-F, Bodies-F, Body-F, Run-F, Instance, Doing, Points, Pool, Nested}
 use Rattle.sd_left.specs.declared.left.Left.TheViews.{roll-Left, roll-Bodies, roll-Body, roll-Run}
-use Rattle.sd_left.specs.declared.left.Left.TheFolds.{map-Left, map-Bodies, map-Body, map-Run, fold-roll-Left, fold-roll-Bodies, fold-roll-Body, fold-roll-Run, ind-Left, ind-Body, ind-Run}
+use Rattle.sd_left.specs.declared.left.Left.TheFolds.{map-Left, map-Bodies, map-Body, map-Run, fold-roll-Left, fold-roll-Bodies, fold-roll-Body, fold-roll-Run, ind-Left, ind-Bodies, ind-Body, ind-Run}
 use Rattle.sd_tree.specs.Standing.{ItemLeft, BodyLeft, RunLeft}
 use Rattle.sd_left.specs.Kept.{left_step, bodies_step, body_step, run_step, left_of, bodies_kept, body_kept, run_kept}
 use Rattle.sd_left.specs.Waits.{Told, waits_step, bodies_waits_step, body_waits_step, run_waits_step, is_counted, are_bodies_counted, is_body_counted, is_run_counted}
@@ -88,14 +88,14 @@ bodies-shown y = at_each BodiesShow
     (fold-roll-Bodies ItemLeft (List BodyLeft) BodyLeft RunLeft left_step bodies_step body_step run_step (bodies_layer y))
     (fold-roll-Bodies Telling Telling Telling Telling tells_step bodies_tell_step body_tells_step run_tells_step (bodies_layer y))
     (fold-roll-Bodies Told Told Told Told waits_step bodies_waits_step body_waits_step run_waits_step (bodies_layer y))
-    (bodies-show body_kept body_tells is_body_counted (map (λ e. e.0) y.bodies.items) y.moves y.unfinished (each-body y.bodies.items))
+    (bodies-show body_kept body_tells is_body_counted (map (λ e. e.0) y.bodies.items) y.moves y.unfinished y.«open» (each-body y.bodies.items))
 
 body-shown : (y : Body-F Lefts Many Ones Runs) → ItShows (roll-Body (body_layer y))
 body-shown y = at_each BodyShows
     (fold-roll-Body ItemLeft (List BodyLeft) BodyLeft RunLeft left_step bodies_step body_step run_step (body_layer y))
     (fold-roll-Body Telling Telling Telling Telling tells_step bodies_tell_step body_tells_step run_tells_step (body_layer y))
     (fold-roll-Body Told Told Told Told waits_step bodies_waits_step body_waits_step run_waits_step (body_layer y))
-    (body-shows left_of tells is_counted y.at.items y.own.contents (told y.order) (map (λ e. e.0) y.parts.items) y.moves y.unfinished (each-part y.parts.items))
+    (body-shows left_of tells is_counted y.at.items y.own.contents (told y.order) (map (λ e. e.0) y.parts.items) y.moves y.unfinished y.«open» (each-part y.parts.items))
 
 run-shown : (y : Run-F Lefts Many Ones Runs) → GoingShows (roll-Run (run_layer y))
 run-shown y = at_each RunShows
@@ -108,6 +108,13 @@ run-shown y = at_each RunShows
 
 pub left-shows : (left : LeftNow) → LeftShows left
 left-shows = ind-Left LeftShows TheyShow ItShows GoingShows
+    (λ x y is. subst (λ z. LeftShows (roll-Left z)) is (left-shown y))
+    (λ x y is. subst (λ z. TheyShow (roll-Bodies z)) is (bodies-shown y))
+    (λ x y is. subst (λ z. ItShows (roll-Body z)) is (body-shown y))
+    (λ x y is. subst (λ z. GoingShows (roll-Run z)) is (run-shown y))
+
+pub bodies-show-all : (bodies : BodiesNow) → TheyShow bodies
+bodies-show-all = ind-Bodies LeftShows TheyShow ItShows GoingShows
     (λ x y is. subst (λ z. LeftShows (roll-Left z)) is (left-shown y))
     (λ x y is. subst (λ z. TheyShow (roll-Bodies z)) is (bodies-shown y))
     (λ x y is. subst (λ z. ItShows (roll-Body z)) is (body-shown y))

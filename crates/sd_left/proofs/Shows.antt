@@ -1,10 +1,11 @@
 -- What right counts of parts tell of the work that is left of them.
 use Rattle.std.specs.Bool.{⊤}
-use Rattle.std.proofs.Common.{◌≡◌, ℕ, suc, ◌+◌, nat_lt, ℤ, List, [], ◌∷◌, map, Bool, true, cond, not, ◌&&◌, refl, sym, ap, ap₂, ◌∙◌}
+use Rattle.std.proofs.Common.{◌≡◌, ℕ, suc, ◌+◌, nat_lt, ℤ, List, [], ◌∷◌, map, Bool, true, cond, not, ◌&&◌, refl, sym, ap, ap₂, ◌∙◌, arith}
 use Rattle.std.specs.List.{sum}
 use Rattle.sd_work.specs.Memory.{Memory, Memories}
 use Rattle.sd_work.specs.Residual.{Term, Terms, also, finished, all_finished, flags_of, is_ready}
 use Rattle.sd_moves.specs.Counts.{count, count_parts, count_active, one_if}
+use Rattle.sd_moves.specs.OpenPools.{HasNoOpenPool, HaveNoOpenPool, HaveNoActiveOpenPool}
 use Rattle.sd_graph.specs.PlainTree.{KindTree, ItemTrees}
 use Rattle.sd_graph.specs.Context.{Context}
 use Rattle.sd_graph.specs.Unfold.{in_any_order}
@@ -12,13 +13,14 @@ use Rattle.sd_graph.specs.declared.place.Place.{Place}
 use Rattle.sd_tree.specs.Standing.{ItemLeft, BodyLeft, first_line, first_kind, others, body_of, point_inside, element_inside, value_at, body_left, parts_left, point_left, points_left, element_left, active_left}
 use Rattle.sd_tree.proofs.Points.{any-count}
 use Rattle.sd_left.specs.Waits.{Told, all_hold}
-use Rattle.sd_left.specs.Tells.{Telling, moves_told, unfinished_told, flags_told, ready_moves, all_right, counts_tell, same_counts}
-use Rattle.sd_left.proofs.Sameness.{both-true, sum-cons, are-same, unfinished-more}
+use Rattle.sd_left.specs.Tells.{Telling, moves_told, unfinished_told, pools_told, flags_told, ready_moves, all_right, counts_tell}
+use Rattle.sd_left.proofs.Sameness.{both-true, sum-cons, unfinished-more, were}
 
--- an item tells whether something is left, and how many moves come next
+-- an item tells whether something is left, how many moves come next, and whether it has open pools
 pub record ItemTold (left : ItemLeft) (telling : Telling) (counted : Told) : Type 0 where
   pub over : (kind : KindTree) (line : ℕ) (context : Context) → finished (left kind line context) ≡ not telling.is_unfinished
   pub moves : (kind : KindTree) (line : ℕ) (context : Context) (memories : Memories) → counted memories ≡ true → count (left kind line context) memories ≡ telling.moves
+  pub free : (kind : KindTree) (line : ℕ) (context : Context) → telling.pools ≡ 0 → HasNoOpenPool (left kind line context)
 
 abbrev pub ItemShows : ItemLeft → Telling → Told → Type 0
 ItemShows left telling counted = telling.is_right ≡ true → ItemTold left telling counted
@@ -27,6 +29,7 @@ ItemShows left telling counted = telling.is_right ≡ true → ItemTold left tel
 pub record BodyTold (body : BodyLeft) (telling : Telling) (counted : Told) : Type 0 where
   pub over : (items : ItemTrees) (context : Context) → finished (body_left body items context) ≡ not telling.is_unfinished
   pub moves : (items : ItemTrees) (context : Context) (memories : Memories) → counted memories ≡ true → count (body_left body items context) (body.own ∷ memories) ≡ telling.moves
+  pub free : (items : ItemTrees) (context : Context) → telling.pools ≡ 0 → HasNoOpenPool (body_left body items context)
 
 abbrev pub BodyShows : BodyLeft → Telling → Told → Type 0
 BodyShows body telling counted = telling.is_right ≡ true → BodyTold body telling counted
@@ -36,9 +39,17 @@ pub record BodiesTold (bodies : List BodyLeft) (telling : Telling) (counted : To
   pub over : (kind : KindTree) (context : Context) → all_finished (points_left bodies kind context) ≡ not telling.is_unfinished
   pub points : (kind : KindTree) (context : Context) (memories : Memories) → counted memories ≡ true → count_parts in_any_order [] 0 (points_left bodies kind context) memories ≡ telling.moves
   pub elements : (kind : KindTree) (context : Context) (memories : Memories) → counted memories ≡ true → count_active (active_left bodies kind context) memories ≡ telling.moves
+  pub free : (kind : KindTree) (context : Context) → telling.pools ≡ 0 → HaveNoOpenPool (points_left bodies kind context)
+  pub active : (kind : KindTree) (context : Context) → telling.pools ≡ 0 → HaveNoActiveOpenPool (active_left bodies kind context)
 
 abbrev pub BodiesShow : List BodyLeft → Telling → Told → Type 0
 BodiesShow bodies telling counted = telling.is_right ≡ true → BodiesTold bodies telling counted
+
+-- none in one, and none in the others
+none-in-each : (pools : ℕ) (others : List ℕ) → sum (pools ∷ others) ≡ 0 → (pools ≡ 0) × (sum others ≡ 0)
+none-in-each pools others none =
+    let all : pools + sum others ≡ 0 = sym (sum-cons pools others) ∙ none in
+    (omega (arith, all), omega (arith, all))
 
 -- ---- bodies
 
@@ -82,17 +93,35 @@ module _ {A : Type 0} (kept : A → BodyLeft) (telling : A → Telling) (counted
       ap₂ (λ (a b : ℕ). a + b) first (elements-moves bodies shows.1 each.1 kind context memories hold.1)
       ∙ sym (sum-cons (telling body).moves (moves_told (map telling bodies)))
 
-  pub bodies-show : (bodies : List A) (moves unfinished : List ℕ) → AllBodiesShow bodies
-      → BodiesShow (map kept bodies) (counts_tell moves unfinished (moves_told (map telling bodies)) (unfinished_told (map telling bodies)) (all_right (map telling bodies))) (all_hold (map counted bodies))
-  bodies-show bodies moves unfinished shows right =
+  points-free : (bodies : List A) → AllBodiesShow bodies → all_right (map telling bodies) ≡ true → (kind : KindTree) (context : Context)
+      → sum (pools_told (map telling bodies)) ≡ 0 → HaveNoOpenPool (points_left (map kept bodies) kind context)
+  points-free [] shows right kind context none = tt
+  points-free (body ∷ bodies) shows right kind context none =
+      let each = both-true ((telling body).is_right) (all_right (map telling bodies)) right in
+      let nones = none-in-each (telling body).pools (pools_told (map telling bodies)) none in
+      ((shows.0 each.0).free (body_of kind) (point_inside kind context (kept body).at) nones.0, points-free bodies shows.1 each.1 kind context nones.1)
+
+  elements-free : (bodies : List A) → AllBodiesShow bodies → all_right (map telling bodies) ≡ true → (kind : KindTree) (context : Context)
+      → sum (pools_told (map telling bodies)) ≡ 0 → HaveNoActiveOpenPool (active_left (map kept bodies) kind context)
+  elements-free [] shows right kind context none = tt
+  elements-free (body ∷ bodies) shows right kind context none =
+      let each = both-true ((telling body).is_right) (all_right (map telling bodies)) right in
+      let nones = none-in-each (telling body).pools (pools_told (map telling bodies)) none in
+      ((shows.0 each.0).free (body_of kind) (element_inside kind context (value_at (kept body).at)) nones.0, elements-free bodies shows.1 each.1 kind context nones.1)
+
+  pub bodies-show : (bodies : List A) (moves unfinished pools : List ℕ) → AllBodiesShow bodies
+      → BodiesShow (map kept bodies) (counts_tell moves unfinished pools (moves_told (map telling bodies)) (unfinished_told (map telling bodies)) (pools_told (map telling bodies)) (all_right (map telling bodies))) (all_hold (map counted bodies))
+  bodies-show bodies moves unfinished pools shows right =
       let tellings = map telling bodies in
-      let first = both-true (same_counts moves (moves_told tellings)) (same_counts unfinished (unfinished_told tellings) && all_right tellings) right in
-      let second = both-true (same_counts unfinished (unfinished_told tellings)) (all_right tellings) first.1 in
-      let counts : sum (moves_told tellings) ≡ sum moves = sym (ap sum (are-same moves (moves_told tellings) first.0)) in
+      let are = were moves (moves_told tellings) unfinished (unfinished_told tellings) pools (pools_told tellings) (all_right tellings) right in
+      let counts : sum (moves_told tellings) ≡ sum moves = sym (ap sum are.moves_are) in
+      let none_of : sum (pools_told tellings) ≡ sum pools = sym (ap sum are.pools_are) in
       record {
-        over = λ kind context. points-over bodies shows second.1 kind context ∙ sym (ap (λ (o : List ℕ). not (nat_lt 0 (sum o))) (are-same unfinished (unfinished_told tellings) second.0));
-        points = λ kind context memories held. points-moves bodies shows second.1 kind context memories held ∙ counts;
-        elements = λ kind context memories held. elements-moves bodies shows second.1 kind context memories held ∙ counts;
+        over = λ kind context. points-over bodies shows are.parts_are kind context ∙ sym (ap (λ (o : List ℕ). not (nat_lt 0 (sum o))) are.unfinished_are);
+        points = λ kind context memories held. points-moves bodies shows are.parts_are kind context memories held ∙ counts;
+        elements = λ kind context memories held. elements-moves bodies shows are.parts_are kind context memories held ∙ counts;
+        free = λ kind context none. points-free bodies shows are.parts_are kind context (none_of ∙ none);
+        active = λ kind context none. elements-free bodies shows are.parts_are kind context (none_of ∙ none);
       }
 
 -- ---- items
@@ -129,19 +158,26 @@ module _ {A : Type 0} (kept : A → ItemLeft) (telling : A → Telling) (counted
       (parts-moves before flags (suc number) parts shows.1 each.1 (others items) context memories hold.1)
       ∙ sym (sum-cons (cond (is_ready before flags number) (telling part).moves 0) (ready_moves before flags (suc number) (map telling parts)))
 
-  pub body-shows : (at : List ℤ) (own : Memory) (order : ℕ → ℕ → Bool) (parts : List A) (moves unfinished : List ℕ) → AllItemsShow parts
+  parts-free : (parts : List A) → AllItemsShow parts → all_right (map telling parts) ≡ true → (items : ItemTrees) (context : Context)
+      → sum (pools_told (map telling parts)) ≡ 0 → HaveNoOpenPool (parts_left (map kept parts) items context)
+  parts-free [] shows right items context none = tt
+  parts-free (part ∷ parts) shows right items context none =
+      let each = both-true ((telling part).is_right) (all_right (map telling parts)) right in
+      let nones = none-in-each (telling part).pools (pools_told (map telling parts)) none in
+      ((shows.0 each.0).free (first_kind items) (first_line items) context nones.0, parts-free parts shows.1 each.1 (others items) context nones.1)
+
+  pub body-shows : (at : List ℤ) (own : Memory) (order : ℕ → ℕ → Bool) (parts : List A) (moves unfinished pools : List ℕ) → AllItemsShow parts
       → BodyShows (record { at = at; own = own; order = order; parts = map kept parts })
-      (counts_tell moves unfinished (ready_moves order (flags_told (map telling parts)) 0 (map telling parts)) (unfinished_told (map telling parts)) (all_right (map telling parts)))
+      (counts_tell moves unfinished pools (ready_moves order (flags_told (map telling parts)) 0 (map telling parts)) (unfinished_told (map telling parts)) (pools_told (map telling parts)) (all_right (map telling parts)))
       (λ memories. all_hold (map counted parts) (own ∷ memories))
-  body-shows at own order parts moves unfinished shows right =
+  body-shows at own order parts moves unfinished pools shows right =
       let tellings = map telling parts in
-      let wanted = ready_moves order (flags_told tellings) 0 tellings in
-      let first = both-true (same_counts moves wanted) (same_counts unfinished (unfinished_told tellings) && all_right tellings) right in
-      let second = both-true (same_counts unfinished (unfinished_told tellings)) (all_right tellings) first.1 in
+      let are = were moves (ready_moves order (flags_told tellings) 0 tellings) unfinished (unfinished_told tellings) pools (pools_told tellings) (all_right tellings) right in
       record {
-        over = λ items context. parts-over parts shows second.1 items context ∙ sym (ap (λ (o : List ℕ). not (nat_lt 0 (sum o))) (are-same unfinished (unfinished_told tellings) second.0));
+        over = λ items context. parts-over parts shows are.parts_are items context ∙ sym (ap (λ (o : List ℕ). not (nat_lt 0 (sum o))) are.unfinished_are);
         moves = λ items context memories held.
-            ap (λ (flags : List Bool). count_parts order flags 0 (parts_left (map kept parts) items context) (own ∷ memories)) (parts-flags parts shows second.1 items context)
-            ∙ parts-moves order (flags_told tellings) 0 parts shows second.1 items context (own ∷ memories) held
-            ∙ sym (ap sum (are-same moves wanted first.0));
+            ap (λ (flags : List Bool). count_parts order flags 0 (parts_left (map kept parts) items context) (own ∷ memories)) (parts-flags parts shows are.parts_are items context)
+            ∙ parts-moves order (flags_told tellings) 0 parts shows are.parts_are items context (own ∷ memories) held
+            ∙ sym (ap sum are.moves_are);
+        free = λ items context none. parts-free parts shows are.parts_are items context (sym (ap sum are.pools_are) ∙ none);
       }

@@ -10,6 +10,7 @@ pub record HasBody (before : BodiesNow) (number : ℕ) (body : BodyNow) (after :
   pub bodies : (out-Bodies after).bodies.items ≡ slice_set (out-Bodies before).bodies.items number body
   pub moves : (out-Bodies after).moves ≡ (out-Bodies before).moves
   pub unfinished : (out-Bodies after).unfinished ≡ (out-Bodies before).unfinished
+  pub «open» : (out-Bodies after).«open» ≡ (out-Bodies before).«open»
 
 -- a body with another part in the place of this number, and the same order and counts
 pub record HasPart (before : BodyNow) (number : ℕ) (part : LeftNow) (after : BodyNow) : Type 0 where
@@ -17,3 +18,4 @@ pub record HasPart (before : BodyNow) (number : ℕ) (part : LeftNow) (after : B
   pub order : (out-Body after).order ≡ (out-Body before).order
   pub moves : (out-Body after).moves ≡ (out-Body before).moves
   pub unfinished : (out-Body after).unfinished ≡ (out-Body before).unfinished
+  pub «open» : (out-Body after).«open» ≡ (out-Body before).«open»

@@ -11,7 +11,10 @@ ghost use Rattle.sd_left.specs.Kept.{left_of, bodies_kept, body_kept, run_kept};
 ghost use Rattle.sd_left.specs.Waits.{is_counted, is_body_counted, are_bodies_counted, is_run_counted, all_hold};
 ghost use Rattle.sd_left.specs.Tells.{tells, bodies_tell, body_tells, run_tells, all_right};
 
-use crate::count::{moves_of_each, moves_of_parts, unfinished_bodies, unfinished_parts};
+use crate::count::{
+    moves_of_each, moves_of_parts, pools_of_each, pools_of_parts, unfinished_bodies,
+    unfinished_parts,
+};
 use crate::left::{Bodies, Body, Left, Run};
 use sd_list::NoMemory;
 use sd_machine::Station;
@@ -64,12 +67,15 @@ impl Bodies {
     {
         let moves = moves_of_each(alloc, &bodies)?;
         let unfinished = unfinished_bodies(alloc, &bodies)?;
+        let pools = pools_of_each(alloc, &bodies)?;
         let moves = Tally::of(alloc, &moves)?;
         let unfinished = Tally::of(alloc, &unfinished)?;
+        let pools = Tally::of(alloc, &pools)?;
         Ok(Bodies {
             bodies,
             moves,
             unfinished,
+            open: pools,
         })
     }
 }
@@ -89,8 +95,10 @@ impl Body {
     {
         let moves = moves_of_parts(alloc, &order, &parts)?;
         let unfinished = unfinished_parts(alloc, &parts)?;
+        let pools = pools_of_parts(alloc, &parts)?;
         let moves = Tally::of(alloc, &moves)?;
         let unfinished = Tally::of(alloc, &unfinished)?;
+        let pools = Tally::of(alloc, &pools)?;
         Ok(Body {
             at,
             own,
@@ -98,6 +106,7 @@ impl Body {
             parts,
             moves,
             unfinished,
+            open: pools,
         })
     }
 }

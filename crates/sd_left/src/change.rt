@@ -12,7 +12,7 @@ ghost use Rattle.sd_left.specs.Changed.{HasBody, HasPart};
 
 use crate::count::{moves_of_part, moves_of_parts};
 use crate::left::{Bodies, Body};
-use crate::tells::{is_body_finished, is_finished, moves_of_body, one_if};
+use crate::tells::{is_body_finished, is_finished, moves_of_body, one_if, pools_of, pools_of_body};
 use sd_list::NoMemory;
 use sd_tally::Tally;
 use std::alloc::Global;
@@ -26,6 +26,7 @@ impl Bodies {
     {
         self.moves.push(moves_of_body(&body))?;
         self.unfinished.push(one_if(!is_body_finished(&body)))?;
+        self.open.push(pools_of_body(&body))?;
         self.bodies.push(body)?;
         Ok(())
     }
@@ -36,10 +37,13 @@ impl Bodies {
         ensures bodies { (out-Bodies self.new).bodies ≡ (out-Bodies self.old).bodies }
         ensures right { OnOk result ((before : BodiesNow) (body : BodyNow) → HasBody before number body self.old → (bodies_tell before).is_right ≡ true → (body_tells body).is_right ≡ true → (bodies_tell self.new).is_right ≡ true) }
     {
-        let moves = moves_of_body(&self.bodies[number]);
-        let unfinished = one_if(!is_body_finished(&self.bodies[number]));
+        let body = &self.bodies[number];
+        let moves = moves_of_body(body);
+        let unfinished = one_if(!is_body_finished(body));
+        let pools = pools_of_body(body);
         self.moves.set(number, moves)?;
-        self.unfinished.set(number, unfinished)
+        self.unfinished.set(number, unfinished)?;
+        self.open.set(number, pools)
     }
 }
 
@@ -53,7 +57,10 @@ impl Body {
         ensures parts { (out-Body self.new).parts ≡ (out-Body self.old).parts }
         ensures right { OnOk result ((before : BodyNow) (part : LeftNow) → HasPart before number part self.old → (body_tells before).is_right ≡ true → (tells part).is_right ≡ true → (body_tells self.new).is_right ≡ true) }
     {
-        let unfinished = one_if(!is_finished(&self.parts[number]));
+        let part = &self.parts[number];
+        let unfinished = one_if(!is_finished(part));
+        let pools = pools_of(part)?;
+        self.open.set(number, pools)?;
         let before = self.unfinished.count(number);
         self.unfinished.set(number, unfinished)?;
         if before == unfinished {

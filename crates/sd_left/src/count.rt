@@ -3,10 +3,12 @@ ghost use Rattle.std.specs.Prelude.{◌≡◌, ◌<◌, cond, map, length, slice
 ghost use Rattle.sd_work.specs.Residual.{is_ready};
 ghost use Rattle.sd_order.specs.Told.{told};
 ghost use Rattle.sd_left.specs.declared.left.Left.{Left as LeftNow};
-ghost use Rattle.sd_left.specs.Tells.{tells, body_tells, moves_told, unfinished_told, flags_told, ready_moves};
+ghost use Rattle.sd_left.specs.Tells.{tells, body_tells, moves_told, unfinished_told, pools_told, flags_told, ready_moves};
 
 use crate::left::{Body, Left};
-use crate::tells::{is_body_finished, is_finished, moves_of, moves_of_body, one_if};
+use crate::tells::{
+    is_body_finished, is_finished, moves_of, moves_of_body, one_if, pools_of, pools_of_body,
+};
 use sd_list::NoMemory;
 use sd_order::Order;
 use std::alloc::Global;
@@ -42,6 +44,29 @@ pub(crate) fn unfinished_parts(alloc: Global, parts: &[Left]) -> Result<Vec<u64>
         unfinished.push(one_if(!is_finished(part)))?;
     }
     Ok(unfinished)
+}
+
+/// How many open consume scopes are in each body.
+pub(crate) fn pools_of_each(alloc: Global, bodies: &[Body]) -> Result<Vec<u64>, NoMemory>
+    ensures { IfOk result (λ pools. pools.items ≡ pools_told (map body_tells bodies.now)) }
+{
+    let mut pools = Vec::new(alloc);
+    for body in bodies {
+        pools.push(pools_of_body(body))?;
+    }
+    Ok(pools)
+}
+
+/// How many open consume scopes are in each item.
+pub(crate) fn pools_of_parts(alloc: Global, parts: &[Left]) -> Result<Vec<u64>, NoMemory>
+    ensures { IfOk result (λ pools. pools.items ≡ pools_told (map tells parts.now)) }
+{
+    let mut pools = Vec::new(alloc);
+    for part in parts {
+        let here = pools_of(part)?;
+        pools.push(here)?;
+    }
+    Ok(pools)
 }
 
 /// How many moves of each item come next: none of one that may not go on.

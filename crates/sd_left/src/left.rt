@@ -34,6 +34,8 @@ pub struct Bodies {
     pub moves: Tally,
     /// 1 for each of which something is left, and else 0.
     pub unfinished: Tally,
+    /// How many open consume scopes are in each.
+    pub open: Tally,
 }
 
 /// What is left of items at a point, in an element or in a state, and what is counted of them.
@@ -50,6 +52,8 @@ pub struct Body {
     pub moves: Tally,
     /// 1 for each item of which something is left, and else 0.
     pub unfinished: Tally,
+    /// How many open consume scopes are in each.
+    pub open: Tally,
 }
 
 /// What is left of a run of a graph. An ended one keeps its memory.

@@ -2,8 +2,8 @@
 //!
 //! An item that works has an instance or a list of things to do; a map its points, a consume scope the elements in work, a
 //! nested graph its state; each of these its own memory and what is left of its items. `specs/Kept.antt` says of which
-//! residual work such a tree is, where its items stand. The tree keeps counts of its next moves (`specs/Tells.antt`), so that
-//! it tells how many there are, and whether it is finished, without a look at its parts.
+//! residual work such a tree is, where its items stand. The tree keeps counts of its next moves and of its open consume scopes
+//! (`specs/Tells.antt`), so that it tells how many there are, and whether it is finished, without a look at its parts.
 #![tactic(auto)]
 
 mod begin;
@@ -14,9 +14,9 @@ mod left;
 mod tells;
 
 pub use count::is_ready;
-pub use laws::a_tree_tells_its_next_moves;
+pub use laws::{a_tree_tells_its_next_moves, work_that_counts_no_open_pool_has_none};
 pub use left::{Bodies, Body, Left, Run};
 pub use tells::{
     are_finished, is_body_finished, is_finished, moves_of, moves_of_bodies, moves_of_body,
-    moves_of_run,
+    moves_of_run, pools_of, pools_of_bodies, pools_of_body, pools_of_run,
 };

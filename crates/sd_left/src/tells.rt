@@ -1,4 +1,4 @@
-//! What a tree tells of its next moves by the counts that it keeps.
+//! What a tree tells of its next moves and of its open consume scopes by the counts that it keeps.
 ghost use Rattle.std.specs.Prelude.{◌≡◌, ◌+◌, cond, not, IfOk};
 ghost use Rattle.sd_moves.specs.Counts.{one_if};
 ghost use Rattle.sd_left.specs.Tells.{tells, bodies_tell, body_tells, run_tells};
@@ -95,4 +95,49 @@ pub fn moves_of_run(run: &Run) -> u64
         return 1;
     }
     moves_of_body(&run.body)
+}
+
+/// How many open consume scopes are in an item. More than 64 bits can count are want of memory.
+pub fn pools_of(left: &Left) -> Result<u64, NoMemory>
+    ensures { IfOk result (λ pools. pools ≡ (tells left.now).pools) }
+{
+    match left {
+        Left::Instance(_) | Left::Doing(_) => Ok(0),
+        Left::Points(points) => Ok(pools_of_bodies(points)),
+        Left::Pool { active, closed, .. } => pools_of_pool(active, *closed),
+        Left::Nested(run) => Ok(pools_of_run(run)),
+    }
+}
+
+/// How many open consume scopes are in a consume scope: itself, where it is not closed, and those in its elements.
+fn pools_of_pool(active: &Bodies, closed: bool) -> Result<u64, NoMemory>
+    ensures { IfOk result (λ pools. pools ≡ one_if (not closed) + (bodies_tell active.now).pools) }
+{
+    one_if(!closed)
+        .checked_add(pools_of_bodies(active))
+        .ok_or(NoMemory)
+}
+
+/// How many open consume scopes are in points, or in elements.
+pub fn pools_of_bodies(bodies: &Bodies) -> u64
+    ensures { result ≡ (bodies_tell bodies.now).pools }
+{
+    bodies.open.sum()
+}
+
+/// How many open consume scopes are in the items of a body.
+pub fn pools_of_body(body: &Body) -> u64
+    ensures { result ≡ (body_tells body.now).pools }
+{
+    body.open.sum()
+}
+
+/// How many open consume scopes are in a run of a graph.
+pub fn pools_of_run(run: &Run) -> u64
+    ensures { result ≡ (run_tells run.now).pools }
+{
+    if run.ended {
+        return 0;
+    }
+    pools_of_body(&run.body)
 }
