@@ -10,10 +10,9 @@ use Rattle.sd_graph.specs.Context.{Context}
 use Rattle.sd_graph.specs.Unfold.{in_any_order}
 use Rattle.sd_tree.specs.Standing.{BodyLeft, body_of, point_inside, element_inside, value_at, body_left, point_left, points_left, element_left, active_left}
 use Rattle.sd_left.specs.Waits.{Told, all_hold}
-use Rattle.sd_left.specs.Tells.{Telling, moves_told, unfinished_told, all_right, counts_tell}
-use Rattle.sd_left.proofs.Sameness.{both-true, sum-cons}
+use Rattle.sd_left.specs.Tells.{Telling, moves_told, unfinished_told, pools_told, all_right, counts_tell}
+use Rattle.sd_left.proofs.Sameness.{both-true, sum-cons, Were, were}
 use Rattle.sd_left.proofs.Shows.{AllBodiesShow}
-use Rattle.sd_left.proofs.Recounted.{Were, were}
 use Rattle.sd_next_moves.proofs.Held.{right-at, held-at, counted-there, as-long}
 
 pub is-here : {A : Type 0} (move counted : ℕ) (here : A) (later : ℕ → A) → move < counted → here_or_later move counted here later ≡ here
@@ -91,11 +90,11 @@ moves-at telling (first ∷ bodies) zero body there is = ap (λ (b : _). (tellin
 moves-at telling (first ∷ bodies) (suc number) body there is = moves-at telling bodies number body (omega (arith, there)) is
 
 -- bodies, whose counts are right
-module _ {A : Type 0} (kept : A → BodyLeft) (telling : A → Telling) (counted : A → Told) (bodies : List A) (moves unfinished : List ℕ) (shows : AllBodiesShow kept telling counted bodies)
-    (right : (counts_tell moves unfinished (moves_told (map telling bodies)) (unfinished_told (map telling bodies)) (all_right (map telling bodies))).is_right ≡ true)
+module _ {A : Type 0} (kept : A → BodyLeft) (telling : A → Telling) (counted : A → Told) (bodies : List A) (moves unfinished pools : List ℕ) (shows : AllBodiesShow kept telling counted bodies)
+    (right : (counts_tell moves unfinished pools (moves_told (map telling bodies)) (unfinished_told (map telling bodies)) (pools_told (map telling bodies)) (all_right (map telling bodies))).is_right ≡ true)
     (memories : Memories) (held : all_hold (map counted bodies) memories ≡ true) (unit number rest : ℕ) (inside : rest < get_or moves number 0) where
-  kept_right : Were moves (moves_told (map telling bodies)) unfinished (unfinished_told (map telling bodies)) (all_right (map telling bodies))
-  kept_right = were moves (moves_told (map telling bodies)) unfinished (unfinished_told (map telling bodies)) (all_right (map telling bodies)) right
+  kept_right : Were moves (moves_told (map telling bodies)) unfinished (unfinished_told (map telling bodies)) pools (pools_told (map telling bodies)) (all_right (map telling bodies))
+  kept_right = were moves (moves_told (map telling bodies)) unfinished (unfinished_told (map telling bodies)) pools (pools_told (map telling bodies)) (all_right (map telling bodies)) right
 
   pub body-there : number < length bodies
   body-there = omega (arith, counted-there moves number rest inside, ap length kept_right.moves_are, as-long (λ (part : Telling). part.moves) (map telling bodies), as-long telling bodies)

@@ -9,10 +9,9 @@ use Rattle.sd_graph.specs.PlainTree.{ItemTrees}
 use Rattle.sd_graph.specs.Context.{Context}
 use Rattle.sd_tree.specs.Standing.{ItemLeft, first_line, first_kind, others, behind, parts_left}
 use Rattle.sd_left.specs.Waits.{Told, all_hold}
-use Rattle.sd_left.specs.Tells.{Telling, unfinished_told, flags_told, ready_moves, all_right, counts_tell}
-use Rattle.sd_left.proofs.Sameness.{both-true, sum-cons}
+use Rattle.sd_left.specs.Tells.{Telling, unfinished_told, pools_told, flags_told, ready_moves, all_right, counts_tell}
+use Rattle.sd_left.proofs.Sameness.{both-true, sum-cons, Were, were}
 use Rattle.sd_left.proofs.Shows.{AllItemsShow, parts-flags}
-use Rattle.sd_left.proofs.Recounted.{Were, were}
 use Rattle.sd_next_moves.proofs.Found.{is-here, is-later}
 use Rattle.sd_next_moves.proofs.Held.{right-at, held-at, counted-there, as-long}
 
@@ -79,14 +78,14 @@ ready-length before flags start [] = refl
 ready-length before flags start (first ∷ tellings) = ap suc (ready-length before flags (suc start) tellings)
 
 -- the items of a body, whose counts are right
-module _ {A : Type 0} (kept : A → ItemLeft) (telling : A → Telling) (counted : A → Told) (order : ℕ → ℕ → Bool) (parts : List A) (moves unfinished : List ℕ) (shows : AllItemsShow kept telling counted parts)
-    (right : (counts_tell moves unfinished (ready_moves order (flags_told (map telling parts)) 0 (map telling parts)) (unfinished_told (map telling parts)) (all_right (map telling parts))).is_right ≡ true)
+module _ {A : Type 0} (kept : A → ItemLeft) (telling : A → Telling) (counted : A → Told) (order : ℕ → ℕ → Bool) (parts : List A) (moves unfinished pools : List ℕ) (shows : AllItemsShow kept telling counted parts)
+    (right : (counts_tell moves unfinished pools (ready_moves order (flags_told (map telling parts)) 0 (map telling parts)) (unfinished_told (map telling parts)) (pools_told (map telling parts)) (all_right (map telling parts))).is_right ≡ true)
     (memories : Memories) (held : all_hold (map counted parts) memories ≡ true) (unit number rest : ℕ) (inside : rest < get_or moves number 0) where
   abbrev wanted : List ℕ
   wanted = ready_moves order (flags_told (map telling parts)) 0 (map telling parts)
 
-  kept_right : Were moves wanted unfinished (unfinished_told (map telling parts)) (all_right (map telling parts))
-  kept_right = were moves wanted unfinished (unfinished_told (map telling parts)) (all_right (map telling parts)) right
+  kept_right : Were moves wanted unfinished (unfinished_told (map telling parts)) pools (pools_told (map telling parts)) (all_right (map telling parts))
+  kept_right = were moves wanted unfinished (unfinished_told (map telling parts)) pools (pools_told (map telling parts)) (all_right (map telling parts)) right
 
   pub item-there : number < length parts
   item-there = omega (arith, counted-there moves number rest inside, ap length kept_right.moves_are, ready-length order (flags_told (map telling parts)) 0 (map telling parts), as-long telling parts)

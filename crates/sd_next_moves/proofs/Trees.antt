@@ -49,27 +49,27 @@ module _ (body : BodyNow) (memories : Memories) (right : (body_tells body).is_ri
 
   module _ (unit : ℕ) (found : Found) (is_found : IsFound (out-Body body).moves unit found) where
     pub part-there : found.number < length (out-Body body).parts.items
-    part-there = item-there left_of tells is_counted (told (out-Body body).order) (out-Body body).parts.items (out-Body body).moves (out-Body body).unfinished (items-show (out-Body body).parts.items)
+    part-there = item-there left_of tells is_counted (told (out-Body body).order) (out-Body body).parts.items (out-Body body).moves (out-Body body).unfinished (out-Body body).«open» (items-show (out-Body body).parts.items)
         (sym (ap (λ (t : Telling). t.is_right) (body_told body)) ∙ right) ((out-Body body).own.contents ∷ memories) (sym (body_counted memories body) ∙ held) unit found.number found.rest is_found.inside
 
     module _ (part : LeftNow) (is : part ≡ get_or (out-Body body).parts.items found.number part) where
       pub part-right : (tells part).is_right ≡ true
-      part-right = item-right left_of tells is_counted (told (out-Body body).order) (out-Body body).parts.items (out-Body body).moves (out-Body body).unfinished (items-show (out-Body body).parts.items)
+      part-right = item-right left_of tells is_counted (told (out-Body body).order) (out-Body body).parts.items (out-Body body).moves (out-Body body).unfinished (out-Body body).«open» (items-show (out-Body body).parts.items)
           (sym (ap (λ (t : Telling). t.is_right) (body_told body)) ∙ right) ((out-Body body).own.contents ∷ memories) (sym (body_counted memories body) ∙ held) unit found.number found.rest is_found.inside part is
 
       pub part-held : is_counted part ((out-Body body).own.contents ∷ memories) ≡ true
-      part-held = item-held left_of tells is_counted (told (out-Body body).order) (out-Body body).parts.items (out-Body body).moves (out-Body body).unfinished (items-show (out-Body body).parts.items)
+      part-held = item-held left_of tells is_counted (told (out-Body body).order) (out-Body body).parts.items (out-Body body).moves (out-Body body).unfinished (out-Body body).«open» (items-show (out-Body body).parts.items)
           (sym (ap (λ (t : Telling). t.is_right) (body_told body)) ∙ right) ((out-Body body).own.contents ∷ memories) (sym (body_counted memories body) ∙ held) unit found.number found.rest is_found.inside part is
 
       pub part-less : found.rest < (tells part).moves
-      part-less = item-moves left_of tells is_counted (told (out-Body body).order) (out-Body body).parts.items (out-Body body).moves (out-Body body).unfinished (items-show (out-Body body).parts.items)
+      part-less = item-moves left_of tells is_counted (told (out-Body body).order) (out-Body body).parts.items (out-Body body).moves (out-Body body).unfinished (out-Body body).«open» (items-show (out-Body body).parts.items)
           (sym (ap (λ (t : Telling). t.is_right) (body_told body)) ∙ right) ((out-Body body).own.contents ∷ memories) (sym (body_counted memories body) ∙ held) unit found.number found.rest is_found.inside part is
 
       pub part-place : (items : ItemTrees) (context : Context) → place_of (body_left (body_kept body) items context) ((body_kept body).own ∷ memories) unit
           ≡ found.number ∷ place_of (left_of part (first_kind (behind found.number items)) (first_line (behind found.number items)) context) ((out-Body body).own.contents ∷ memories) found.rest
       part-place items context =
           ap (λ (left : BodyLeft). place_of (body_left left items context) (left.own ∷ memories) unit) (body_opened body)
-          ∙ item-place left_of tells is_counted (told (out-Body body).order) (out-Body body).parts.items (out-Body body).moves (out-Body body).unfinished (items-show (out-Body body).parts.items)
+          ∙ item-place left_of tells is_counted (told (out-Body body).order) (out-Body body).parts.items (out-Body body).moves (out-Body body).unfinished (out-Body body).«open» (items-show (out-Body body).parts.items)
           (sym (ap (λ (t : Telling). t.is_right) (body_told body)) ∙ right) ((out-Body body).own.contents ∷ memories) (sym (body_counted memories body) ∙ held) unit found.number found.rest is_found.inside part is
           is_found.before items context
 
@@ -86,37 +86,37 @@ module _ (bodies : BodiesNow) (memories : Memories) (right : (bodies_tell bodies
   pub busy-counts : (kind : KindTree) (context : Context) → count_active (active_left (bodies_kept bodies) kind context) memories ≡ sum (out-Bodies bodies).moves
   busy-counts kind context =
       ap (λ (all : List BodyLeft). count_active (active_left all kind context) memories) (bodies_opened bodies)
-      ∙ (bodies-show body_kept body_tells is_body_counted (out-Bodies bodies).bodies.items (out-Bodies bodies).moves (out-Bodies bodies).unfinished (all-show (out-Bodies bodies).bodies.items)
+      ∙ (bodies-show body_kept body_tells is_body_counted (out-Bodies bodies).bodies.items (out-Bodies bodies).moves (out-Bodies bodies).unfinished (out-Bodies bodies).«open» (all-show (out-Bodies bodies).bodies.items)
       (sym (ap (λ (t : Telling). t.is_right) (bodies_told bodies)) ∙ right)).elements kind context memories (sym (bodies_counted memories bodies) ∙ held)
 
   module _ (unit : ℕ) (found : Found) (is_found : IsFound (out-Bodies bodies).moves unit found) where
     pub one-there : found.number < length (out-Bodies bodies).bodies.items
-    one-there = body-there body_kept body_tells is_body_counted (out-Bodies bodies).bodies.items (out-Bodies bodies).moves (out-Bodies bodies).unfinished (all-show (out-Bodies bodies).bodies.items)
+    one-there = body-there body_kept body_tells is_body_counted (out-Bodies bodies).bodies.items (out-Bodies bodies).moves (out-Bodies bodies).unfinished (out-Bodies bodies).«open» (all-show (out-Bodies bodies).bodies.items)
         (sym (ap (λ (t : Telling). t.is_right) (bodies_told bodies)) ∙ right) memories (sym (bodies_counted memories bodies) ∙ held) unit found.number found.rest is_found.inside
 
     module _ (body : BodyNow) (is : body ≡ get_or (out-Bodies bodies).bodies.items found.number body) where
       pub one-right : (body_tells body).is_right ≡ true
-      one-right = body-right body_kept body_tells is_body_counted (out-Bodies bodies).bodies.items (out-Bodies bodies).moves (out-Bodies bodies).unfinished (all-show (out-Bodies bodies).bodies.items)
+      one-right = body-right body_kept body_tells is_body_counted (out-Bodies bodies).bodies.items (out-Bodies bodies).moves (out-Bodies bodies).unfinished (out-Bodies bodies).«open» (all-show (out-Bodies bodies).bodies.items)
           (sym (ap (λ (t : Telling). t.is_right) (bodies_told bodies)) ∙ right) memories (sym (bodies_counted memories bodies) ∙ held) unit found.number found.rest is_found.inside body is
 
       pub one-held : is_body_counted body memories ≡ true
-      one-held = body-held body_kept body_tells is_body_counted (out-Bodies bodies).bodies.items (out-Bodies bodies).moves (out-Bodies bodies).unfinished (all-show (out-Bodies bodies).bodies.items)
+      one-held = body-held body_kept body_tells is_body_counted (out-Bodies bodies).bodies.items (out-Bodies bodies).moves (out-Bodies bodies).unfinished (out-Bodies bodies).«open» (all-show (out-Bodies bodies).bodies.items)
           (sym (ap (λ (t : Telling). t.is_right) (bodies_told bodies)) ∙ right) memories (sym (bodies_counted memories bodies) ∙ held) unit found.number found.rest is_found.inside body is
 
       pub one-less : found.rest < (body_tells body).moves
-      one-less = body-moves body_kept body_tells is_body_counted (out-Bodies bodies).bodies.items (out-Bodies bodies).moves (out-Bodies bodies).unfinished (all-show (out-Bodies bodies).bodies.items)
+      one-less = body-moves body_kept body_tells is_body_counted (out-Bodies bodies).bodies.items (out-Bodies bodies).moves (out-Bodies bodies).unfinished (out-Bodies bodies).«open» (all-show (out-Bodies bodies).bodies.items)
           (sym (ap (λ (t : Telling). t.is_right) (bodies_told bodies)) ∙ right) memories (sym (bodies_counted memories bodies) ∙ held) unit found.number found.rest is_found.inside body is
 
       pub one-point : (kind : KindTree) (context : Context) → place_in_parts in_any_order [] 0 (points_left (bodies_kept bodies) kind context) memories unit
           ≡ found.number ∷ place_of (body_left (body_kept body) (body_of kind) (point_inside kind context (body_kept body).at)) ((body_kept body).own ∷ memories) found.rest
       one-point kind context =
           ap (λ (all : List BodyLeft). place_in_parts in_any_order [] 0 (points_left all kind context) memories unit) (bodies_opened bodies)
-          ∙ point-place body_kept body_tells is_body_counted (out-Bodies bodies).bodies.items (out-Bodies bodies).moves (out-Bodies bodies).unfinished (all-show (out-Bodies bodies).bodies.items)
+          ∙ point-place body_kept body_tells is_body_counted (out-Bodies bodies).bodies.items (out-Bodies bodies).moves (out-Bodies bodies).unfinished (out-Bodies bodies).«open» (all-show (out-Bodies bodies).bodies.items)
           (sym (ap (λ (t : Telling). t.is_right) (bodies_told bodies)) ∙ right) memories (sym (bodies_counted memories bodies) ∙ held) unit found.number found.rest is_found.inside body is is_found.before kind context
 
       pub one-element : (kind : KindTree) (context : Context) → place_in_active 0 (active_left (bodies_kept bodies) kind context) memories unit
           ≡ found.number ∷ place_of (body_left (body_kept body) (body_of kind) (element_inside kind context (value_at (body_kept body).at))) ((body_kept body).own ∷ memories) found.rest
       one-element kind context =
           ap (λ (all : List BodyLeft). place_in_active 0 (active_left all kind context) memories unit) (bodies_opened bodies)
-          ∙ element-place body_kept body_tells is_body_counted (out-Bodies bodies).bodies.items (out-Bodies bodies).moves (out-Bodies bodies).unfinished (all-show (out-Bodies bodies).bodies.items)
+          ∙ element-place body_kept body_tells is_body_counted (out-Bodies bodies).bodies.items (out-Bodies bodies).moves (out-Bodies bodies).unfinished (out-Bodies bodies).«open» (all-show (out-Bodies bodies).bodies.items)
           (sym (ap (λ (t : Telling). t.is_right) (bodies_told bodies)) ∙ right) memories (sym (bodies_counted memories bodies) ∙ held) unit found.number found.rest is_found.inside body is is_found.before kind context
