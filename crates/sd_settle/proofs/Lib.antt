@@ -1,0 +1,13 @@
+pub mod Sums
+pub mod Cleared
+pub mod Laid
+pub mod Working
+pub mod Held
+pub mod Trees
+pub mod Points
+pub mod Elements
+pub mod Items
+pub mod FirstUnfinished
+pub mod Levels
+pub mod Owners
+pub mod Recounted
