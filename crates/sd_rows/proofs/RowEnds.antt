@@ -1,6 +1,7 @@
 -- How a row that is run by its tracks ends.
-use Rattle.std.proofs.Common.{◌≡◌, ℤ, List, [], ◌∷◌, drop, Result, Ok, Err, IfOk, ap, sym, ◌∙◌, subst}
+use Rattle.std.proofs.Common.{◌≡◌, ℤ, List, [], ◌∷◌, drop, Result, Ok, Err, IfOk, OnOk, refl, ap, sym, ◌∙◌, subst}
 use Rattle.sd_work.specs.Memory.{Memory}
+use Rattle.sd_work.specs.Change.{innermost}
 use Rattle.sd_work.specs.BigStep.{Reached}
 use Rattle.sd_graph.specs.ContainerParts.{Containers}
 use Rattle.sd_graph.specs.Context.{private_memory}
@@ -12,7 +13,7 @@ use Rattle.sd_row.specs.declared.row.Row.{Row}
 use Rattle.sd_rows.specs.declared.steps.Steps.{Steps}
 use Rattle.sd_row.specs.declared.row_run.RowEnd.{RowEnd}
 use Rattle.sd_rows.specs.declared.map.TaskMap.{TaskMap}
-use Rattle.sd_rows.specs.Map.{tree_of, context_at, row_at}
+use Rattle.sd_rows.specs.Map.{tree_of, context_at, row_at, own_memory}
 use Rattle.sd_rows.specs.Code.{IsInstance}
 use Rattle.sd_row.specs.Point.{IsOver, below}
 use Rattle.sd_row.specs.Setting.{Setting, IsSetting, IsRowOf, row_coming, end_of_row}
@@ -60,6 +61,18 @@ module _ (task : TaskMap) (row : List ℤ) (steps : Steps) where
   tracks_end containers tracks compiled frame own old entered after now end none instance is same_containers same_own same turns dropped kept ends =
       inside_ends containers own old entered after now end same_containers same_own same turns dropped kept
       (ends setting (in_setting tracks compiled frame none instance is) (over_own containers own old entered same_containers same_own same))
+
+  -- and it is given back as it was lent
+  pub given_back : (tracks : Row) (compiled : Compiled) (frame : Frame) (own given : Memory) (old lent after : Reached) → task.private.now ≡ [] →
+      IsInstance (tree_of task) task.ins.now task.outs.now compiled frame → IsRowOf setting compiled tracks steps.count → own ≡ own_memory task → lent.memories ≡ own ∷ old.memories →
+      ((setting : Setting) → IsSetting tracks compiled steps.count setting → IsOver setting.own lent → IsOver setting.own after) → given ≡ innermost after.memories → given ≡ own_memory task
+  given_back tracks compiled frame own given old lent after none instance is same_own same keeps given_is =
+      given_is ∙ ap innermost (keeps setting (in_setting tracks compiled frame none instance is) (over_own (context_at task).containers own old lent refl same_own same))
+
+  -- what is so is so however the row ends
+  pub kept_so : {E : Type 0} (told : Result End E) (Is : Type 0) → Is → OnOk told Is
+  kept_so (Ok end) Is is = is
+  kept_so (Err error) Is is = tt
 
   -- the map ends as the row does
   pub row_told : {E : Type 0} (told : Result End E) (end : RowEnd) (old now : Reached) → IfOk told (λ told. told ≡ end_of_row setting end) → IsEnd (row_coming setting 0 steps.count old) old (end_of_row setting end) now →

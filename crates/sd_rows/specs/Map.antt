@@ -1,9 +1,10 @@
 -- A map whose body is one tasklet.
 use Rattle.std.specs.Prelude.{ℕ, ℤ, List}
+use Rattle.sd_work.specs.Memory.{Memory}
 use Rattle.sd_work.specs.BigStep.{Reached, Coming}
 use Rattle.sd_graph.specs.PlainTree.{TaskletTree, ItemTrees, task, no_item, and_item}
 use Rattle.sd_graph.specs.TreeFold.{graph_tree, tasklet_tree}
-use Rattle.sd_graph.specs.Context.{Context}
+use Rattle.sd_graph.specs.Context.{Context, private_memory}
 use Rattle.sd_graph.specs.declared.place.Place.{Place}
 use Rattle.sd_machine.specs.Coming.{map_coming}
 use Rattle.sd_scope.specs.Standing.{context_of}
@@ -23,6 +24,10 @@ standing here scope = context_of (graph_tree here.graph.now) here.base.now scope
 
 abbrev pub context_at : TaskMap → Context
 context_at here = standing here here.scope.now
+
+-- the memory with which each point of the map begins
+abbrev pub own_memory : TaskMap → Memory
+own_memory here = private_memory (context_at here).containers here.private.now
 
 -- the tasklet as the one item of the body
 abbrev pub body_of : TaskMap → ItemTrees

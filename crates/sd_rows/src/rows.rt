@@ -10,7 +10,7 @@ ghost use Rattle.sd_scope.specs.Standing.{context_of, IsInside};
 ghost use Rattle.sd_row.specs.Setting.{row_coming, IsRowOf};
 ghost use Rattle.sd_rows.specs.Along.{IsLast};
 ghost use Rattle.sd_rows.specs.Code.{IsInstance, AreColumnsOf};
-ghost use Rattle.sd_rows.specs.Map.{tree_of, coming_of, row_at};
+ghost use Rattle.sd_rows.specs.Map.{tree_of, coming_of, row_at, own_memory};
 
 use crate::between::row_between;
 use crate::instance::Instance;
@@ -108,6 +108,7 @@ fn run_all(
     let mut rows = checked_points(alloc, outer, &task.scope.values)?;
     let mut first = task.scope.inside(alloc, task.private)?;
     let mut last = task.scope.inside(alloc, task.private)?;
+    let mut own = Memory::of_scope(alloc, &task.graph.containers, task.private)?;
     while rows.next() {
         let end = run_one(
             alloc,
@@ -118,6 +119,7 @@ fn run_all(
             rows.at(),
             &mut first,
             &mut last,
+            &mut own,
             machine,
         )?;
         match end {
@@ -138,6 +140,7 @@ fn run_one(
     row: &[i128],
     first: &mut Scope,
     last: &mut Scope,
+    own: &mut Memory,
     machine: &mut Machine,
 ) -> Result<End, NoMemory>
     requires none { task.now.private.now ≡ [] }
@@ -146,14 +149,18 @@ fn run_one(
     requires steps { IsLast task.now.params.now outer.now task.now.scope.now.values.values steps.now }
     requires first { IsInside task.now.private.now task.now.scope.now first.old }
     requires last { IsInside task.now.private.now task.now.scope.now last.old }
+    requires own { own.old.contents ≡ own_memory task.now }
     ensures end { IfOk result (λ end. IsEnd (row_coming (row_at task.now row.now steps.now) 0 steps.now.count machine.old) machine.old end machine.new) }
     ensures instance { OnOk result (IsInstance (tree_of task.now) task.now.ins.now task.now.outs.now instance.new.code instance.new.frame) }
     ensures columns { OnOk result (AreColumnsOf instance.new.code instance.new.columns) }
     ensures first { OnOk result (IsInside task.now.private.now task.now.scope.now first.new) }
     ensures last { OnOk result (IsInside task.now.private.now task.now.scope.now last.new) }
+    ensures own { OnOk result (own.new.contents ≡ own_memory task.now) }
 {
     match find_tracks(alloc, task, &instance.code, steps, outer, row, first, last)? {
-        Some(tracks) => run_tracks(alloc, task, &tracks, instance, steps, row, first, machine),
+        Some(tracks) => run_tracks(
+            alloc, task, &tracks, instance, steps, row, first, own, machine,
+        ),
         None => run_points(alloc, task, steps, row, first, machine),
     }
 }
@@ -200,20 +207,22 @@ fn run_tracks(
     steps: &Steps,
     row: &[i128],
     inner: &mut Scope,
+    own: &mut Memory,
     machine: &mut Machine,
 ) -> Result<End, NoMemory>
     requires none { task.now.private.now ≡ [] }
     requires instance { IsInstance (tree_of task.now) task.now.ins.now task.now.outs.now instance.old.code instance.old.frame }
     requires columns { AreColumnsOf instance.old.code instance.old.columns }
+    requires own { own.old.contents ≡ own_memory task.now }
     requires tracks { IsRowOf (row_at task.now row.now steps.now) instance.old.code tracks.now steps.now.count }
     requires inside { IsInside task.now.private.now task.now.scope.now inner.old }
     ensures end { IfOk result (λ end. IsEnd (row_coming (row_at task.now row.now steps.now) 0 steps.now.count machine.old) machine.old end machine.new) }
     ensures instance { OnOk result (IsInstance (tree_of task.now) task.now.ins.now task.now.outs.now instance.new.code instance.new.frame) }
     ensures columns { OnOk result (AreColumnsOf instance.new.code instance.new.columns) }
     ensures inside { OnOk result (IsInside task.now.private.now task.now.scope.now inner.new) }
+    ensures own { OnOk result (own.new.contents ≡ own_memory task.now) }
 {
-    let own = Memory::of_scope(alloc, &task.graph.containers, task.private)?;
-    machine.enter(own)?;
+    machine.lend(own)?;
     let end = run_row(
         tracks,
         &instance.code,
@@ -222,6 +231,6 @@ fn run_tracks(
         steps.count,
         machine,
     );
-    machine.leave();
+    machine.give_back(own);
     end_at(alloc, task, steps, row, inner, end)
 }

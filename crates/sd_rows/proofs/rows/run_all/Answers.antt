@@ -1,6 +1,8 @@
 use Rattle.std.proofs.Common.{◌≡◌, [], is_some, ap, sym, ◌∙◌}
 use Rattle.sd_range.specs.Points.{Walk}
+use Rattle.sd_graph.specs.Context.{private_memory}
 use Rattle.sd_leaves.proofs.Lists.{none_here}
+use Rattle.sd_instance.proofs.Bodies.{containers_in}
 use Rattle.sd_row.proofs.Comes.{as_finished}
 use Rattle.sd_rows.specs.Map.{tree_of, context_at}
 use Rattle.sd_rows.proofs.Points.{point_first}
@@ -16,6 +18,7 @@ loop-alloc-init c =
       columns = c.requires.columns;
       first = c.in_ok-first.ensures;
       last = c.in_ok-last.ensures;
+      own = c.in_ok-own.ensures.contents ∙ ap (λ containers. private_memory containers task.private.now) (containers_in task.graph.now);
     }
 
 pub loop-alloc-preserved : goal.loop-alloc-preserved
@@ -29,6 +32,7 @@ loop-alloc-preserved c =
       columns = c.in_ok-end.ensures.columns;
       first = c.in_ok-end.ensures.first;
       last = c.in_ok-end.ensures.last;
+      own = c.in_ok-end.ensures.own;
     }
 
 pub returns-in_default : goal.returns-in_default
