@@ -1,0 +1,16 @@
+pub mod Signatures
+pub mod Noted
+pub mod Blocks
+pub mod Passed
+pub mod AtTheEnd
+pub mod Values
+pub mod Stretches
+pub mod Sound
+pub mod Said
+pub mod Grown
+pub mod Declared
+pub mod FitSoFar
+pub mod FitLines
+pub mod FitHeads
+pub mod FitEnds
+pub mod FitTexts
