@@ -1,6 +1,6 @@
--- Moves of the code's items are those of their lists, and paths that lead to nothing.
-use Rattle.std.proofs.Common.{◌≡◌, ℕ, zero, suc, ◌<◌, ℤ, List, [], ◌∷◌, length, map, get_or, slice_set, Bool, sym, ap, ap₂, ◌∙◌, subst, refl, arith}
-use Rattle.sd_work.specs.Residual.{Parts, Items, Term, Terms, list, pool, Actives}
+-- Moves of the code's items are those of their lists.
+use Rattle.std.proofs.Common.{◌≡◌, ℕ, zero, suc, ◌<◌, List, [], ◌∷◌, length, map, get_or, slice_set, Bool, sym, ap, ap₂, ◌∙◌, subst, arith}
+use Rattle.sd_work.specs.Residual.{Items, Term, list}
 use Rattle.sd_work.specs.Moves.{Path}
 use Rattle.sd_work.specs.BigStep.{Reached}
 use Rattle.sd_graph.specs.PlainTree.{KindTree}
@@ -10,11 +10,9 @@ use Rattle.sd_graph.specs.declared.graph.Item.{Item}
 use Rattle.sd_graph.specs.declared.graph.ItemKind.TheViews.{out-Item}
 use Rattle.sd_graph.specs.declared.place.Place.{Place}
 use Rattle.sd_machine.specs.declared.end.End.{End}
-use Rattle.sd_machine.specs.declared.end.End.TheVariants.{Finished}
 use Rattle.sd_tree.specs.Standing.{ItemLeft, first_line, first_kind, behind, parts_left}
 use Rattle.sd_fired.specs.Fired.{IsFired}
 use Rattle.sd_fired.proofs.Kept.{kept-item-fired}
-use Rattle.sd_fired.proofs.Nowhere.{nothing-fired}
 use Rattle.sd_begin.proofs.ItemKinds.{item_opened}
 
 -- the same work in other words
@@ -45,17 +43,3 @@ module _ {A : Type 0} (tell : A → ItemLeft) (order : ℕ → ℕ → Bool) (pa
       → IsFired (list Items order (parts_left (map tell parts) (item_trees items) context)) (number ∷ path) before end after (list Items order (parts_left (map tell (slice_set parts number new)) (item_trees items) context))
   parts_fired within is fired =
       kept-item-fired tell order parts number old new (item_trees items) context path before after end within is (retold path before after end (same old) (same new) fired)
-
--- ---- paths that end at a list or a pool
-
-pub no_number : (kind : Parts) (order : ℕ → ℕ → Bool) (parts : Terms Place) (path : Path) (now : Reached) → path ≡ [] → IsFired (list kind order parts) path now Finished now (list kind order parts)
-no_number kind order parts path now none =
-    subst (λ (p : Path). IsFired (list kind order parts) p now Finished now (list kind order parts)) (sym none) (nothing-fired (list kind order parts) [] now refl)
-
-pub no_choice : (level container : ℕ) (body : ℤ → Term Place) (active : Actives Place) (closed : Bool) (path : Path) (now : Reached) → path ≡ [] → IsFired (pool level container body active closed) path now Finished now (pool level container body active closed)
-no_choice level container body active closed path now none =
-    subst (λ (p : Path). IsFired (pool level container body active closed) p now Finished now (pool level container body active closed)) (sym none) (nothing-fired (pool level container body active closed) [] now refl)
-
-pub half_choice : (level container : ℕ) (body : ℤ → Term Place) (active : Actives Place) (closed : Bool) (choice : ℕ) (now : Reached) → IsFired (pool level container body active closed) (choice ∷ []) now Finished now (pool level container body active closed)
-half_choice level container body active closed zero now = nothing-fired (pool level container body active closed) (0 ∷ []) now refl
-half_choice level container body active closed (suc n) now = nothing-fired (pool level container body active closed) (suc n ∷ []) now refl

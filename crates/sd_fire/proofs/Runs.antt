@@ -3,16 +3,13 @@ use Rattle.std.proofs.Common.{◌≡◌, ℕ, List, Bool, true, false, not, sym,
 use Rattle.sd_work.specs.Residual.{finished}
 use Rattle.sd_work.specs.Moves.{Path}
 use Rattle.sd_work.specs.BigStep.{Reached}
-use Rattle.sd_graph.specs.PlainTree.{KindTree, GraphTree, nested_graph}
-use Rattle.sd_graph.specs.TreeParts.{containers_of, states_of_graph, items_at}
-use Rattle.sd_graph.specs.Context.{Reach, Context, frames_at}
-use Rattle.sd_graph.specs.Unfold.{reach_inside}
-use Rattle.sd_graph.specs.declared.link.Link.{Link}
+use Rattle.sd_graph.specs.PlainTree.{GraphTree}
+use Rattle.sd_graph.specs.TreeParts.{states_of_graph, items_at}
+use Rattle.sd_graph.specs.Context.{Reach}
 use Rattle.sd_graph.specs.declared.place.Frame.{Frame}
 use Rattle.sd_machine.specs.Coming.{state_context}
 use Rattle.sd_machine.specs.declared.end.End.{End}
-use Rattle.sd_machine.specs.declared.end.End.TheVariants.{Finished}
-use Rattle.sd_tree.specs.Standing.{RunLeft, state_left, run_left}
+use Rattle.sd_tree.specs.Standing.{RunLeft, state_left}
 use Rattle.sd_left.specs.declared.left.Left.{Left as LeftNow}
 use Rattle.sd_left.specs.declared.left.Bodies.{Bodies as BodiesNow}
 use Rattle.sd_left.specs.declared.left.Body.{Body as BodyNow}
@@ -24,10 +21,9 @@ use Rattle.sd_left.specs.Tells.{Telling, body_tells, run_tells}
 use Rattle.sd_left.proofs.Rolls.{run_opened}
 use Rattle.sd_left.proofs.TellRolls.{run_told}
 use Rattle.sd_left.proofs.Showing.{body-shows-all}
-use Rattle.sd_fired.specs.Fired.{IsFired, IsBodyFired}
+use Rattle.sd_fired.specs.Fired.{IsBodyFired}
 use Rattle.sd_fired.proofs.Owners.{inside-run}
-use Rattle.sd_fired.proofs.Nowhere.{ended-fired}
-use Rattle.sd_advance.specs.Right.{AreItemsFired, IsNestedFired, IsRunFired}
+use Rattle.sd_advance.specs.Right.{AreItemsFired, IsRunFired}
 use Rattle.sd_advance.proofs.Runs.{run_rolled}
 
 pub run_right : (run : RunNow) → (run_tells run).is_right ≡ (body_tells (out-Run run).body).is_right
@@ -37,9 +33,6 @@ pub run_over : (run : RunNow) (over : Bool) → (out-Run run).ended ≡ over →
 run_over run over is = ap (λ (r : RunLeft). r.ended) (run_opened run) ∙ is
 
 module _ (run : RunNow) (tree : GraphTree) (reach : ℕ → Reach) (around : List Frame) (path : Path) where
-  pub run_stays : (now : Reached) → (out-Run run).ended ≡ true → (run_tells run).is_right ≡ true → IsRunFired run tree reach around path now Finished now run
-  run_stays now over right = record { fired = ended-fired (run_kept run) tree reach around path now (run_over run true over); right = right }
-
   -- whether its state is finished, by the counts of its items
   pub state_over : (run_tells run).is_right ≡ true → (over : Bool) → over ≡ not (body_tells (out-Run run).body).is_unfinished → finished (state_left (run_kept run) tree reach around) ≡ over
   state_over right over is =
@@ -67,12 +60,3 @@ module _ (run : RunNow) (tree : GraphTree) (reach : ℕ → Reach) (around : Lis
       }
 
 -- a run of an item's graph
-pub nested_moves : (run new : RunNow) (kind : KindTree) (inner : GraphTree) (links : List Link) (line : ℕ) (context : Context) (reach : ℕ → Reach) (around : List Frame) (path : Path) (before after : Reached) (end : End)
-    → kind ≡ nested_graph inner links → reach ≡ reach_inside context links (containers_of inner) → around ≡ frames_at context line
-    → IsRunFired run inner reach around path before end after new → IsNestedFired run kind line context path before end after new
-nested_moves run new kind inner links line context reach around path before after end same same_reach same_around fired =
-    subst (λ (k : KindTree). IsNestedFired run k line context path before end after new) (sym same) (record {
-      fired = subst (λ (r : ℕ → Reach). IsFired (run_left (run_kept run) inner r (frames_at context line)) path before end after (run_left (run_kept new) inner r (frames_at context line))) same_reach
-          (subst (λ (a : List Frame). IsFired (run_left (run_kept run) inner reach a) path before end after (run_left (run_kept new) inner reach a)) same_around fired.fired);
-      right = fired.right;
-    })

@@ -21,7 +21,7 @@ use Rattle.sd_begin.proofs.Bodies.{items_here}
 use Rattle.sd_advance.specs.Right.{ArePointsFired, ArePartsFired, IsNestedFired}
 use Rattle.sd_fire.proofs.PlainKinds.{map_here, consume_here}
 use Rattle.sd_fire.proofs.Levels.{nested_fired}
-use Rattle.sd_fire.proofs.Ends.{another_choice, elements_moved}
+use Rattle.sd_fire.proofs.Choices.{another_choice, elements_moved}
 use Rattle.sd_fire.proofs.Lists.{body_put, part_put, no_point, no_element, no_item, point_counted, element_counted, item_counted}
 use Rattle.sd_fire.proofs.Bodies.{items_moved, map_moves, numbers_of}
 use Rattle.sd_fire.proofs.Runs.{run_over, state_over, run_moves}
