@@ -1,3 +1,4 @@
 pub mod Machines
 pub mod Reached
 pub mod Stepping
+pub mod Interleaved

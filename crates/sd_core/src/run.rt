@@ -3,7 +3,10 @@ ghost use Rattle.sd_work.specs.Step.{Done, next_moves, step};
 ghost use Rattle.sd_work.specs.Run.{Run};
 ghost use Rattle.sd_graph.specs.TreeFold.{graph_tree};
 ghost use Rattle.sd_graph.specs.Unfold.{run_of};
+ghost use Rattle.sd_race.specs.Pairs.{IsGraphAccepted};
+ghost use Rattle.sd_validity.specs.Valid.{IsValid};
 ghost use Rattle.sd_seq.specs.RunEnd.{outcome_of};
+ghost use Rattle.sd_core.specs.Interleaving.{EndsAsSequential};
 ghost use Rattle.sd_core.specs.Kept.{machine_of};
 ghost use Rattle.sd_core.specs.Stepped.{place_by, left_by, IsStepEnd};
 ghost use Rattle.sd_core.specs.Traced.{IsTraced};
@@ -13,6 +16,7 @@ use crate::stepped::Stepped;
 use sd_graph::Bound;
 use sd_list::NoMemory;
 use sd_mem::Memory;
+use sd_normal::show_normal_forms;
 use sd_seq::RunEnd;
 use std::alloc::Global;
 
@@ -31,7 +35,8 @@ pub struct TracedRun {
 }
 
 /// Runs a graph over a memory, with so many turns: each pick chooses the next move of its number modulo the number of moves, and
-/// the first move where no pick is left.
+/// the first move where no pick is left. Whatever the picks are, the run of a valid graph that is accepted is done where the
+/// sequential run is, and leaves the same but for the order of values in streams.
 pub fn run_picked(
     alloc: Global,
     bound: &Bound,
@@ -39,20 +44,11 @@ pub fn run_picked(
     turns: u64,
     picks: &[u64],
 ) -> Result<RunEnd, NoMemory>
-    ensures { IfOk result (λ end. Run (run_of (graph_tree bound.now.graph) memory.contents) turns picks.now (outcome_of end)) }
+    ensures run { IfOk result (λ end. Run (run_of (graph_tree bound.now.graph) memory.contents) turns picks.now (outcome_of end)) }
+    ensures interleaving { IfOk result (λ end. IsValid (graph_tree bound.now.graph) → IsGraphAccepted (graph_tree bound.now.graph) → EndsAsSequential (run_of (graph_tree bound.now.graph) memory.contents) turns (outcome_of end)) }
 {
-    let mut machine = Machine::new(alloc, bound, memory, turns)?;
-    for number in 0..usize::MAX {
-        if machine.moves() == 0 {
-            return Ok(end_of(machine));
-        }
-        let pick = pick_at(picks, number);
-        if let Some(end) = end_by(alloc, &mut machine, pick)? {
-            return Ok(end);
-        }
-    }
-    // So many steps count as want of memory.
-    Err(NoMemory)
+    show_normal_forms(&bound.graph);
+    run_by(alloc, bound, memory, turns, picks)
 }
 
 /// The same, with its steps.
@@ -79,6 +75,30 @@ pub fn run_traced(
         let found = end_by(alloc, &mut machine, pick)?;
         if let Some(end) = found {
             return Ok(TracedRun { end, trace });
+        }
+    }
+    // So many steps count as want of memory.
+    Err(NoMemory)
+}
+
+/// The run of a graph by picks.
+fn run_by(
+    alloc: Global,
+    bound: &Bound,
+    memory: Memory,
+    turns: u64,
+    picks: &[u64],
+) -> Result<RunEnd, NoMemory>
+    ensures { IfOk result (λ end. Run (run_of (graph_tree bound.now.graph) memory.contents) turns picks.now (outcome_of end)) }
+{
+    let mut machine = Machine::new(alloc, bound, memory, turns)?;
+    for number in 0..usize::MAX {
+        if machine.moves() == 0 {
+            return Ok(end_of(machine));
+        }
+        let pick = pick_at(picks, number);
+        if let Some(end) = end_by(alloc, &mut machine, pick)? {
+            return Ok(end);
         }
     }
     // So many steps count as want of memory.
