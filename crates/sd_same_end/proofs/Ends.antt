@@ -19,7 +19,7 @@ memory_alike : (memory : Memory) → AreAlike memory memory
 memory_alike [] = tt
 memory_alike (contents ∷ memory) = (contents_alike contents, memory_alike memory)
 
-same_end : {P : Type 0} (end : Outcome P Left) → EndAlike end end
+pub same_end : {P : Type 0} (end : Outcome P Left) → EndAlike end end
 same_end (Done left) = record { memory = memory_alike left.memory; turns = refl }
 same_end (Faulted fault) = refl
 same_end Spent = refl

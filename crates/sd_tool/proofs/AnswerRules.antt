@@ -3,12 +3,18 @@ use Rattle.std.proofs.Common.{◌≡◌, ℕ, ◌^◌, ◌≤◌, List, Option, 
 use Rattle.std.proofs.lemmas.Option.{IfSome_then}
 use Rattle.sd_io.specs.Shelf.{IsTold, IsToldLonger}
 use Rattle.sd_graph.specs.PlainTree.{GraphTree}
-use Rattle.sd_tool.specs.Command.{Call, IsCall}
+use Rattle.sd_words.specs.Command.{Command, to_run, to_step, to_print, to_check, Call, IsCall, command_of}
 use Rattle.sd_tool.specs.Work.{Work, source_graph, prepared}
-use Rattle.sd_tool.specs.Answers.{ShelfUse, shelf_use, Answer, source_refused, arrays_refused, Reads, Unread, faulty, longer, ReadsSource, Comes, Answers, no_source, no_program, no_arrays, no_work}
-use Rattle.sd_tool.specs.Ending.{answer_of, Refuses}
+use Rattle.sd_tool.specs.Answers.{ShelfUse, shelf_use, Answer, source_refused, arrays_refused, picks_refused, Reads, Unread, faulty, longer, ReadsSource, Comes, NoPicks, no_file, no_pick, HasPicks, LacksPicks, Answers, no_source, no_program, no_arrays, no_work}
+use Rattle.sd_chain.specs.Picks.{picks_reading, IsRefusal}
+use Rattle.sd_chain.specs.declared.error.PicksError.{PicksError}
+use Rattle.sd_chain.specs.declared.error.PicksError.TheVariants.{NoForm, Memory}
+use Rattle.sd_words.specs.declared.command.Command as asked_command
+use Rattle.sd_words.specs.declared.command.Command.TheVariants as asked
+use Rattle.sd_words.specs.declared.command.Step as asked_step
+use Rattle.sd_tool.specs.Ending.{answer_of, picks_ending, Refuses}
 use Rattle.sd_tool.specs.declared.ending.Ending.{Ending}
-use Rattle.sd_tool.proofs.SinkLemmas.{HasRisen-later, HasRisen-earlier}
+use Rattle.sd_write.proofs.SinkLemmas.{HasRisen-later, HasRisen-earlier}
 
 -- one use is a part of another: what is told is the same, and no count falls outside it
 pub record IsPart (part whole : ShelfUse) : Type 0 where
@@ -100,3 +106,36 @@ pub comes_to : (words : List (List ℕ)) (part whole : ShelfUse) (call : Call) (
     prepared tree bytes ≡ Ok work → Comes words whole call work
 comes_to words part whole call tree bytes work is_part source reads is =
     record { tree = tree; source = source; arrays = bytes; reads = Reads-part part whole call.arrays (2 ^ 26) bytes is_part reads; is = is }
+
+-- what was read in a part of the call was read in the whole
+pub Comes-part : (words : List (List ℕ)) (part whole : ShelfUse) (call : Call) (work : Work) → IsPart part whole → Comes words part call work → Comes words whole call work
+Comes-part words part whole call work is_part comes =
+    let source = comes.source in
+    comes_to words part whole call comes.tree comes.arrays work is_part (reads_source words part whole call source.source comes.tree is_part source.asked source.reads source.is) comes.reads comes.is
+
+pub HasPicks-part : (part whole : ShelfUse) (command : Command) (picks : List ℕ) → IsPart part whole → HasPicks part command picks → HasPicks whole command picks
+HasPicks-part part whole (to_run turns) picks is_part has = has
+HasPicks-part part whole (to_step step) picks is_part has = record { file = has.file; reads = Reads-part part whole step.picks (2 ^ 24) has.file is_part has.reads; is = has.is }
+HasPicks-part part whole to_print picks is_part has = has
+HasPicks-part part whole to_check picks is_part has = has
+
+NoPicks-part : (part whole : ShelfUse) (name : List ℕ) {answer : Answer} → IsPart part whole → NoPicks part name answer → NoPicks whole name answer
+NoPicks-part part whole name is_part (no_file why) = no_file (Unread-part part whole name (2 ^ 24) is_part why)
+NoPicks-part part whole name is_part (no_pick file word reads is) = no_pick file word (Reads-part part whole name (2 ^ 24) file is_part reads) is
+
+pub LacksPicks-part : (part whole : ShelfUse) (command : Command) (answer : Answer) → IsPart part whole → LacksPicks part command answer → LacksPicks whole command answer
+LacksPicks-part part whole (to_run turns) answer is_part lacks = lacks
+LacksPicks-part part whole (to_step step) answer is_part lacks = NoPicks-part part whole step.picks is_part lacks
+LacksPicks-part part whole to_print answer is_part lacks = lacks
+LacksPicks-part part whole to_check answer is_part lacks = lacks
+
+-- a picks file that is not read
+pub lacks_file : (shelf : ShelfUse) (command : asked_command.Command) (step : asked_step.Step) (ending : Ending) → command ≡ asked.Step step → IfSome (answer_of ending) (Unread shelf step.picks.now (2 ^ 24)) →
+    IfSome (answer_of ending) (LacksPicks shelf (command_of command))
+lacks_file shelf command step ending is unread = IfSome_then (answer_of ending) unread (λ answer why. subst (λ c. LacksPicks shelf (command_of c) answer) (sym is) (no_file why))
+
+-- one with a word that is no pick
+pub lacks_pick : (shelf : ShelfUse) (command : asked_command.Command) (step : asked_step.Step) (file : List ℕ) (error : PicksError) → command ≡ asked.Step step → Reads shelf step.picks.now (2 ^ 24) file → IsRefusal (picks_reading file) error →
+    IfSome (answer_of (picks_ending error)) (LacksPicks shelf (command_of command))
+lacks_pick shelf command step file (NoForm word) is reads refused = subst (λ c. LacksPicks shelf (command_of c) (picks_refused word)) (sym is) (no_pick file word reads refused)
+lacks_pick shelf command step file Memory is reads refused = tt

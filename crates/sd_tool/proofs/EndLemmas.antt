@@ -1,9 +1,8 @@
 -- How a call ends, from what was written.
-use Rattle.std.proofs.Common.{◌≡◌, ◌⊎◌, ℕ, List, [], Option, Some, None, Result, Ok, Err, OnOk, OnErr, IsErrOf, refl, ap, sym, ◌∙◌, subst, inl, inr, append-nil, IfSome}
+use Rattle.std.proofs.Common.{◌≡◌, ◌⊎◌, ℕ, List, [], Option, Some, None, Result, Ok, Err, OnOk, OnErr, IsErrOf, refl, ap, ◌∙◌, subst, inl, inr, IfSome}
 use Rattle.std.specs.Option.{option_map_or}
 use Rattle.std.specs.Prelude.{⊤}
 use Rattle.sd_io.specs.Count.{HasRisen}
-use Rattle.sd_io.specs.Sink.{Appends}
 use Rattle.sd_io.specs.declared.sink.SinkError.{SinkError}
 use Rattle.sd_io.specs.declared.sink.SinkError.TheVariants.{Failed, Memory}
 use Rattle.sd_work.specs.Run.{Left, Sequential}
@@ -13,15 +12,13 @@ use Rattle.sd_graph.specs.declared.place.Place.{Place}
 use Rattle.sd_race.specs.Race.{Race, IsRaceOf}
 use Rattle.sd_tool.specs.Written.{written_status}
 use Rattle.sd_tool.specs.Work.{Work, run_of_work}
-use Rattle.sd_tool.specs.Answers.{ShelfUse, Answer, Answers, answer_of_run, raced, TellsRace, status_of, text_of}
+use Rattle.sd_core.specs.Traced.{IsTraced}
+use Rattle.sd_tool.specs.Answers.{ShelfUse, Answer, Answers, ran, answer_of_run, raced, TellsRace, status_of, text_of}
 use Rattle.sd_tool.specs.Ending.{answer_of}
 use Rattle.sd_tool.specs.declared.ending.Ending.{Ending}
 use Rattle.sd_tool.specs.declared.ending.Ending.TheVariants as endings
 use Rattle.sd_tool.specs.Ends.{SinkUse, Ends, written, sink_failed, cut_short, no_memory, Writes, WritesPrefix}
-use Rattle.sd_tool.specs.Headline.{Prints}
-use Rattle.sd_tool.specs.Report.{reported}
-use Rattle.sd_tool.specs.declared.report.Report.{Report}
-use Rattle.sd_tool.specs.declared.report.Report.TheVariants as reports
+use Rattle.sd_tool.specs.Headline.{Prints, PrintsTraced}
 
 -- a text was to be written for an answer
 pub ends_written : (words : List (List ℕ)) (shelf : ShelfUse) (sink : SinkUse) (answer : Answer) (text : List ℕ) (wrote : Result ⊤ SinkError) → Answers words shelf answer → text ≡ text_of answer →
@@ -30,12 +27,6 @@ pub ends_written : (words : List (List ℕ)) (shelf : ShelfUse) (sink : SinkUse)
 ends_written words shelf sink answer text (Ok _) answers is whole prefix rose = written answer answers (subst (Writes sink) is whole) refl
 ends_written words shelf sink answer text (Err Failed) answers is whole prefix rose = sink_failed answer answers (subst (WritesPrefix sink) is prefix) (rose refl) refl
 ends_written words shelf sink answer text (Err Memory) answers is whole prefix rose = cut_short answer answers (subst (WritesPrefix sink) is prefix) refl
-
--- a report has the status 0
-pub status_of_report : (report : Report) → status_of (reported report) ≡ 0
-status_of_report (reports.Arrays after) = refl
-status_of_report (reports.Graph bound) = refl
-status_of_report (reports.Accepted bound) = refl
 
 -- the text of an ending was to be written
 ends_as_told : (words : List (List ℕ)) (shelf : ShelfUse) (sink : SinkUse) (told : Option Answer) (text : List ℕ) (wrote : Result ⊤ SinkError) → (told ≡ None → ⊥) → IfSome told (Answers words shelf) → text ≡ option_map_or text_of told [] →
@@ -50,9 +41,8 @@ has_answer endings.Memory other none = other refl
 has_answer endings.BadWords other none = cc
 has_answer (endings.Source refusal) other none = cc
 has_answer (endings.Arrays refusal) other none = cc
+has_answer (endings.Picks word) other none = cc
 has_answer (endings.Race bound race) other none = cc
-has_answer (endings.Fault place kind) other none = cc
-has_answer (endings.Spent turns) other none = cc
 has_answer (endings.ReadFault name) other none = cc
 has_answer (endings.TooLong name) other none = cc
 
@@ -60,11 +50,6 @@ pub ends_told : (words : List (List ℕ)) (shelf : ShelfUse) (sink : SinkUse) (e
     OnOk wrote (Writes sink text) → OnErr wrote (WritesPrefix sink text) → (IsErrOf wrote Failed → HasRisen sink.faults_before sink.faults_after) →
     Ends words shelf sink (written_status wrote (option_map_or status_of (answer_of ending) 1))
 ends_told words shelf sink ending text wrote other = ends_as_told words shelf sink (answer_of ending) text wrote (has_answer ending other)
-
--- nothing was written
-pub Appends-nothing : (taken : Option (List ℕ)) → Appends taken taken []
-Appends-nothing None = tt
-Appends-nothing (Some bytes) = ap Some (sym (append-nil bytes))
 
 -- where only one answer can come and the sink did not fail, its text is written whole and the status is its own, or memory was wanting
 pub written_from_end : (words : List (List ℕ)) (shelf : ShelfUse) (sink : SinkUse) (status : ℕ) (only : Answer) → ((answer : Answer) → Answers words shelf answer → answer ≡ only) → ¬ HasRisen sink.faults_before sink.faults_after →
@@ -80,6 +65,19 @@ pub prints_from_end : (words : List (List ℕ)) (shelf : ShelfUse) (sink : SinkU
     Prints work turns sink status
 prints_from_end words shelf sink status work turns outcome ends one quiet end =
     record { outcome = outcome; ends = ends; printed = written_from_end words shelf sink status (answer_of_run work.tree turns outcome) one quiet end }
+
+-- so behind a trace
+pub traced_from_end : (words : List (List ℕ)) (shelf : ShelfUse) (sink : SinkUse) (status : ℕ) (work : Work) (picks : List ℕ) (turns : ℕ) (picked : Outcome Place Left) (trace : List (ℕ × ℕ)) (outcome : Outcome Place Left) →
+    IsTraced (run_of_work work) turns picks picked trace → Sequential (run_of_work work) turns outcome → ((answer : Answer) → Answers words shelf answer → answer ≡ ran trace work.tree turns outcome) →
+    ¬ HasRisen sink.faults_before sink.faults_after → Ends words shelf sink status → PrintsTraced work picks turns sink status
+traced_from_end words shelf sink status work picks turns picked trace outcome traced ends one quiet end = record {
+  picked = picked;
+  trace = trace;
+  traced = traced;
+  outcome = outcome;
+  ends = ends;
+  printed = written_from_end words shelf sink status (ran trace work.tree turns outcome) one quiet end;
+}
 
 -- where only the race of a graph can be told and the sink did not fail, it is, or memory was wanting
 pub race_from_end : (words : List (List ℕ)) (shelf : ShelfUse) (sink : SinkUse) (status : ℕ) (tree : GraphTree) → ((answer : Answer) → Answers words shelf answer → TellsRace tree answer) → ¬ HasRisen sink.faults_before sink.faults_after →

@@ -1,19 +1,20 @@
--- How a call ends with neither arrays nor a graph to write, apart from where a name lies in memory.
+-- How a call ends that has nothing to report, apart from where a name lies in memory.
 use Rattle.std.specs.Prelude.{◌≡◌, ⊤, Option, Some, None, Result, Ok, Err}
 use Rattle.std.specs.Option.{option_map_or}
-use Rattle.sd_work.specs.Move.{fault_at}
 use Rattle.sd_graph.specs.TreeFold.{graph_tree}
 use Rattle.sd_check.specs.Found.{race_of}
 use Rattle.sd_tool.specs.Work.{input_refusal, binding_refusal}
-use Rattle.sd_tool.specs.Answers.{Answer, faulted, turns_spent, raced, bad_words, source_refused, arrays_refused, read_fault, too_long}
+use Rattle.sd_tool.specs.Answers.{Answer, raced, bad_words, source_refused, arrays_refused, picks_refused, read_fault, too_long}
 use Rattle.sd_parse.specs.ErrorNumber.{refusal_of}
 use Rattle.sd_parse.specs.declared.error.SourceError.{SourceError}
 use Rattle.sd_valid.specs.declared.error.BindError.{BindError}
 use Rattle.sd_valid.specs.declared.error.BindError.TheVariants as binds
 use Rattle.sd_json.specs.declared.error.InputError.{InputError}
 use Rattle.sd_json.specs.declared.error.InputError.TheVariants as inputs
+use Rattle.sd_chain.specs.declared.error.PicksError.{PicksError}
+use Rattle.sd_chain.specs.declared.error.PicksError.TheVariants as picks
 use Rattle.sd_tool.specs.declared.ending.Ending.{Ending}
-use Rattle.sd_tool.specs.declared.ending.Ending.TheVariants.{Memory, BadWords, Source, Arrays, Race, Fault, Spent, ReadFault, TooLong}
+use Rattle.sd_tool.specs.declared.ending.Ending.TheVariants.{Memory, BadWords, Source, Arrays, Picks, Race, ReadFault, TooLong}
 
 -- the answer; want of memory is none
 abbrev pub answer_of : Ending → Option Answer
@@ -21,9 +22,8 @@ answer_of Memory = None
 answer_of BadWords = Some bad_words
 answer_of (Source refusal) = Some (source_refused refusal)
 answer_of (Arrays refusal) = Some (arrays_refused refusal)
+answer_of (Picks word) = Some (picks_refused word)
 answer_of (Race bound race) = Some (raced (graph_tree bound.graph) (race_of race))
-answer_of (Fault place kind) = Some (faulted (fault_at place kind))
-answer_of (Spent turns) = Some (turns_spent turns)
 answer_of (ReadFault name) = Some (read_fault name.now)
 answer_of (TooLong name) = Some (too_long name.now)
 
@@ -38,6 +38,10 @@ input_ending error = Arrays (input_refusal error)
 abbrev pub binding_ending : BindError → Ending
 binding_ending binds.Memory = Memory
 binding_ending error = Arrays (binding_refusal error)
+
+abbrev pub picks_ending : PicksError → Ending
+picks_ending (picks.NoForm word) = Picks word
+picks_ending picks.Memory = Memory
 
 -- the answer is that of the error which a reading is; want of memory has none
 abbrev pub Refuses : {X E : Type 0} → (E → Answer) → Result X E → Option Answer → Type 0

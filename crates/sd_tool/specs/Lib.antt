@@ -1,5 +1,3 @@
-pub mod Finding
-pub mod Command
 pub mod Work
 pub mod Workspace
 pub mod AnswerText
@@ -7,7 +5,6 @@ pub mod Answers
 pub mod Ends
 pub mod Ending
 pub mod Report
-pub mod Pieces
 pub mod Written
 pub mod Told
 pub mod Headline

@@ -1,8 +1,9 @@
 -- Calls whose files are told, and whose counts did not rise.
-use Rattle.std.specs.Prelude.{◌≡◌, ℕ, ◌^◌, ◌≤◌, List, length, Some, Ok}
+use Rattle.std.specs.Prelude.{◌≡◌, ℕ, ◌^◌, ◌≤◌, List, [], length, Some, Ok}
 use Rattle.sd_io.specs.Count.{HasRisen}
 use Rattle.sd_graph.specs.PlainTree.{GraphTree}
-use Rattle.sd_tool.specs.Command.{Call, IsCall}
+use Rattle.sd_chain.specs.Picks.{picks_reading}
+use Rattle.sd_words.specs.Command.{Command, to_run, to_step, to_print, to_check, Call, IsCall}
 use Rattle.sd_tool.specs.Work.{Work, source_graph, prepared}
 use Rattle.sd_tool.specs.Answers.{ShelfUse}
 
@@ -28,3 +29,22 @@ pub record Asks (words : List (List ℕ)) (shelf : ShelfUse) (call : Call) (work
   pub tells : TellsArrays words shelf call source tree arrays
   pub within : length arrays ≤ 2 ^ 26
   pub comes : prepared tree arrays ≡ Ok work
+
+-- a picks file is told and its count did not rise
+pub record TellsPicks (shelf : ShelfUse) (name : List ℕ) (file : List ℕ) : Type 0 where
+  pub told : shelf.told name ≡ Some file
+  pub quiet : ¬ HasRisen (shelf.faults_before name) (shelf.faults_after name)
+
+-- it is within its limit and in its form, and has these picks
+pub record HoldsPicks (shelf : ShelfUse) (name : List ℕ) (picks : List ℕ) : Type 0 where
+  pub file : List ℕ
+  pub tells : TellsPicks shelf name file
+  pub within : length file ≤ 2 ^ 24
+  pub is : picks_reading file ≡ Ok picks
+
+-- so it is with the picks file of a command, which goes by these picks; a command without such a file has none
+abbrev pub GivesPicks : ShelfUse → Command → (picks : List ℕ) → Type 0
+GivesPicks shelf (to_run turns) picks = picks ≡ []
+GivesPicks shelf (to_step step) picks = HoldsPicks shelf step.picks picks
+GivesPicks shelf to_print picks = picks ≡ []
+GivesPicks shelf to_check picks = picks ≡ []

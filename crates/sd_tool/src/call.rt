@@ -1,81 +1,28 @@
-ghost use Rattle.std.specs.Prelude.{◌≡◌, ◌≤◌, ℕ, List, map, IfOk, IfErr, IfSome, OnOk, OnErr, IsErrOf, string_bytes};
+ghost use Rattle.std.specs.Prelude.{◌≡◌, ◌≤◌, ℕ, true, false, List, map, IfOk, IfErr, IfSome, string_bytes};
 ghost use Rattle.sd_io.specs.Count.{HasRisen};
-ghost use Rattle.sd_io.specs.Sink.{Appends, AppendsPrefix};
 ghost use Rattle.sd_race.specs.Pairs.{IsGraphAccepted};
-ghost use Rattle.sd_tool.specs.Answers.{ShelfUse, Reads, Unread, Comes, Answers, shelf_use};
-ghost use Rattle.sd_tool.specs.Command.{Call, IsCall, to_run, to_print, to_check, MakesRaceCheck, call_of};
+ghost use Rattle.sd_words.specs.Command.{Call, Step, to_run, to_step, to_print, to_check, MakesRaceCheck};
+ghost use Rattle.sd_tool.specs.Answers.{ShelfUse, Answers, shelf_use};
 ghost use Rattle.sd_tool.specs.Ending.{answer_of};
 ghost use Rattle.sd_tool.specs.Ends.{Ends, sink_use};
-ghost use Rattle.sd_tool.specs.Headline.{Prints, Lists, Accepts, TellsItsRace};
-ghost use Rattle.sd_tool.specs.Report.{reported};
+ghost use Rattle.sd_tool.specs.Headline.{Prints, PrintsTraced, Lists, Accepts, TellsItsRace};
+ghost use Rattle.sd_tool.specs.Report.{reported, Says};
 ghost use Rattle.sd_tool.specs.Statuses.{Statuses};
-ghost use Rattle.sd_tool.specs.Told.{Asks};
+ghost use Rattle.sd_tool.specs.Told.{Asks, GivesPicks};
 ghost use Rattle.sd_tool.specs.Work.{Work};
-ghost use Rattle.sd_tool.specs.Workspace.{work_of};
 ghost use Rattle.sd_tool.specs.Written.{written_status};
 
-use crate::command::{self, Asked};
 use crate::ending::Ending;
-use crate::output;
+use crate::files::{picks, prepare};
 use crate::report::Report;
-use crate::workspace::{Workspace, prepared, source_graph};
-use sd_io::{Gate, Shelf, ShelfError, Sink, SinkError};
+use sd_io::{Gate, Shelf, Sink, SinkError};
+use sd_write::write_text;
 use std::alloc::Global;
 
-/// The most bytes of a source and of an arrays file.
-const SOURCE_LIMIT: usize = 1 << 20;
-
-const ARRAYS_LIMIT: usize = 1 << 26;
-
-/// The status of a report that is written, and those of what may go wrong while text is written.
-const DONE: u8 = 0;
-
+/// The statuses of what may go wrong while text is written.
 const NO_MEMORY: u8 = 1;
 
 const WRITE_FAULT: u8 = 10;
-
-/// A file's content, or why it is not read.
-fn content<'a, S: Shelf>(
-    alloc: Global,
-    shelf: &mut S,
-    name: &'a str,
-    most: usize,
-) -> Result<Vec<u8>, Ending<'a>>
-    ensures read { IfOk result (λ bytes. Reads (shelf_use S.told S.faults S.overruns shelf.old shelf.new) name.now most bytes.items) }
-    ensures unread { IfErr result (λ ending.
-        IfSome (answer_of ending) (Unread (shelf_use S.told S.faults S.overruns shelf.old shelf.new) name.now most)) }
-    ensures told_stays { (other : List ℕ) → S.told shelf.new other ≡ S.told shelf.old other }
-    ensures faults_never_fall { (other : List ℕ) → S.faults shelf.old other ≤ S.faults shelf.new other }
-    ensures overruns_never_fall { (other : List ℕ) → S.overruns shelf.old other ≤ S.overruns shelf.new other }
-{
-    match shelf.read(alloc, name, most) {
-        Ok(bytes) => Ok(bytes),
-        Err(ShelfError::Failed) => Err(Ending::ReadFault(name)),
-        Err(ShelfError::TooLong) => Err(Ending::TooLong(name)),
-        Err(ShelfError::Memory) => Err(Ending::Memory),
-    }
-}
-
-/// What the two files of a call come to, or why they come to nothing. The source is refused before the arrays
-/// file is read.
-fn prepare<'a, S: Shelf>(
-    alloc: Global,
-    call: Asked<'a>,
-    shelf: &mut S,
-) -> Result<Workspace, Ending<'a>>
-    ensures comes { (words : List (List ℕ)) → IsCall words (call_of call.entry)
-        → IfOk result (λ opened. Comes words (shelf_use S.told S.faults S.overruns shelf.old shelf.new) (call_of call.entry) (work_of opened)) }
-    ensures refuses { (words : List (List ℕ)) → IsCall words (call_of call.entry)
-        → IfErr result (λ ending. IfSome (answer_of ending) (Answers words (shelf_use S.told S.faults S.overruns shelf.old shelf.new))) }
-    ensures told_stays { (other : List ℕ) → S.told shelf.new other ≡ S.told shelf.old other }
-    ensures faults_never_fall { (other : List ℕ) → S.faults shelf.old other ≤ S.faults shelf.new other }
-    ensures overruns_never_fall { (other : List ℕ) → S.overruns shelf.old other ≤ S.overruns shelf.new other }
-{
-    let text = content(alloc, shelf, call.source, SOURCE_LIMIT)?;
-    let graph = source_graph(alloc, text)?;
-    let file = content(alloc, shelf, call.arrays, ARRAYS_LIMIT)?;
-    prepared(alloc, graph, file)
-}
 
 /// What the words ask for, or why there is nothing to report.
 fn outcome<'a, S: Shelf>(
@@ -84,18 +31,19 @@ fn outcome<'a, S: Shelf>(
     shelf: &mut S,
 ) -> Result<Report, Ending<'a>>
     ensures reports { IfOk result (λ report.
-        Answers (map string_bytes words.now) (shelf_use S.told S.faults S.overruns shelf.old shelf.new) (reported report)) }
+        Says (Answers (map string_bytes words.now) (shelf_use S.told S.faults S.overruns shelf.old shelf.new)) (reported report)) }
     ensures refuses { IfErr result (λ ending.
         IfSome (answer_of ending) (Answers (map string_bytes words.now) (shelf_use S.told S.faults S.overruns shelf.old shelf.new))) }
     ensures told_stays { (other : List ℕ) → S.told shelf.new other ≡ S.told shelf.old other }
     ensures faults_never_fall { (other : List ℕ) → S.faults shelf.old other ≤ S.faults shelf.new other }
     ensures overruns_never_fall { (other : List ℕ) → S.overruns shelf.old other ≤ S.overruns shelf.new other }
 {
-    let Some(call) = command::read(words) else {
+    let Some(call) = sd_words::read(words) else {
         return Err(Ending::BadWords);
     };
     let opened = prepare(alloc, call, shelf)?;
-    Report::of(alloc, call.command, opened)
+    let picks = picks(alloc, call.command, shelf)?;
+    Report::of(alloc, call.command, opened, picks.as_slice())
 }
 
 /// The status of a text that was written, or of what went wrong.
@@ -118,7 +66,7 @@ fn tell<K: Sink>(alloc: Global, out: &mut K, ending: &Ending) -> u8
     match ending {
         Ending::Memory => NO_MEMORY,
         _ => match ending.line(alloc) {
-            Ok(line) => status_of(output::write_text(out, line.as_bytes()), ending.status()),
+            Ok(line) => status_of(write_text(out, line.as_bytes()), ending.status()),
             Err(_) => NO_MEMORY,
         },
     }
@@ -134,14 +82,15 @@ fn perform<S: Shelf, K: Sink>(alloc: Global, words: &[String], shelf: &mut S, ou
     ensures sink_faults_never_fall { K.faults out.old ≤ K.faults out.new }
 {
     match outcome(alloc, words, shelf) {
-        Ok(report) => status_of(report.write(alloc, out), DONE),
+        Ok(report) => status_of(report.write(alloc, out), report.status()),
         Err(ending) => tell(alloc, out, &ending),
     }
 }
 
 /// Does what the words ask: runs a source from the shelf on its arrays and writes the outcome into the sink, or
 /// writes the text of its graph, or what the race check tells of it, or why there is none of these. Answers the
-/// exit status. A graph that the race check refuses is not run.
+/// exit status. A graph that the race check refuses is not run. A run by picks writes what the run without them
+/// does, behind its own steps where they are asked for.
 ///
 /// The words are those after the program's name. Nothing is started or waited for yet, so the runtime and
 /// the gate are not used.
@@ -164,6 +113,25 @@ pub fn sdfg<R, S: Shelf, K: Sink, G: Gate>(
         → ¬ HasRisen (K.faults out.old) (K.faults out.new)
         → Prints work turns (sink_use K.taken K.faults out.old out.new) result }
 
+    // The words ask for a run of such files by the picks of a third, which is told, within its limit and in its form.
+    // Then exactly the text of the sequential run is appended, whatever the picks are, or memory is wanting.
+    ensures interleaving { (call : Call) (step : Step) (picks : List ℕ) (work : Work)
+        → Asks (map string_bytes words.now) (shelf_use S.told S.faults S.overruns shelf.old shelf.new) call work
+        → call.command ≡ to_step step → step.traces ≡ false
+        → GivesPicks (shelf_use S.told S.faults S.overruns shelf.old shelf.new) call.command picks
+        → IsGraphAccepted work.tree
+        → ¬ HasRisen (K.faults out.old) (K.faults out.new)
+        → Prints work step.turns (sink_use K.taken K.faults out.old out.new) result }
+
+    // Where its steps are asked for, the lines of the trace of the run by picks come before exactly that text.
+    ensures trace { (call : Call) (step : Step) (picks : List ℕ) (work : Work)
+        → Asks (map string_bytes words.now) (shelf_use S.told S.faults S.overruns shelf.old shelf.new) call work
+        → call.command ≡ to_step step → step.traces ≡ true
+        → GivesPicks (shelf_use S.told S.faults S.overruns shelf.old shelf.new) call.command picks
+        → IsGraphAccepted work.tree
+        → ¬ HasRisen (K.faults out.old) (K.faults out.new)
+        → PrintsTraced work picks step.turns (sink_use K.taken K.faults out.old out.new) result }
+
     // The words ask for the text of the graph of such files. Then exactly that text is appended, with the sizes
     // in their places, and the status is 0, or memory is wanting.
     ensures listing { (call : Call) (work : Work)
@@ -181,10 +149,12 @@ pub fn sdfg<R, S: Shelf, K: Sink, G: Gate>(
         → ¬ HasRisen (K.faults out.old) (K.faults out.new)
         → Accepts work (sink_use K.taken K.faults out.old out.new) result }
 
-    // The words ask for a run or the race check of such files, and their graph is not accepted. Then exactly its
-    // race is appended, the first pair of accesses that is not accepted, and the status is 6, or memory is wanting.
-    ensures race { (call : Call) (work : Work)
+    // The words ask for a run of such files, by picks or without, or for their race check, and their graph is not
+    // accepted. Then exactly its race is appended, the first pair of accesses that is not accepted, and the status is
+    // 6, or memory is wanting.
+    ensures race { (call : Call) (work : Work) (picks : List ℕ)
         → Asks (map string_bytes words.now) (shelf_use S.told S.faults S.overruns shelf.old shelf.new) call work
+        → GivesPicks (shelf_use S.told S.faults S.overruns shelf.old shelf.new) call.command picks
         → MakesRaceCheck call.command
         → ¬ IsGraphAccepted work.tree
         → ¬ HasRisen (K.faults out.old) (K.faults out.new)

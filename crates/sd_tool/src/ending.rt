@@ -2,14 +2,14 @@ ghost use Rattle.std.specs.Prelude.{◌≡◌, [], IfOk, string_bytes};
 ghost use Rattle.std.specs.Option.{option_map_or};
 ghost use Rattle.sd_tool.specs.declared.ending.Ending.TheVariants.{Memory};
 ghost use Rattle.sd_tool.specs.Answers.{status_of, text_of};
-ghost use Rattle.sd_tool.specs.Ending.{answer_of, source_ending, input_ending, binding_ending};
+ghost use Rattle.sd_tool.specs.Ending.{answer_of, source_ending, input_ending, binding_ending, picks_ending};
 
+use sd_chain::PicksError;
 use sd_check::Race;
-use sd_graph::{Bound, FaultKind, Place};
+use sd_graph::Bound;
 use sd_json::InputError;
 use sd_list::{NoMemory, Text};
 use sd_parse::{Refusal, SourceError};
-use sd_print::fault_text;
 use sd_race_text::race_text;
 use sd_valid::BindError;
 use std::alloc::Global;
@@ -32,12 +32,10 @@ pub(crate) enum Ending<'a> {
     Source(Refusal),
     /// The arrays file is refused, or its sizes or its shapes.
     Arrays(ArraysRefusal),
+    /// The word of this number is the first in the picks file that is no pick.
+    Picks(u64),
     /// The race check refuses the graph, for this race of it.
     Race(Bound, Race),
-    /// The run has a fault.
-    Fault(Place, FaultKind),
-    /// The run wants more turns than these.
-    Spent(u64),
     /// A file cannot be read.
     ReadFault(&'a str),
     /// A file is longer than its limit.
@@ -92,6 +90,17 @@ impl From<BindError> for Ending<'_> {
     }
 }
 
+impl From<PicksError> for Ending<'_> {
+    ghost from_gives = { λ error ending. ending ≡ picks_ending error };
+
+    fn from(error: PicksError) -> Self {
+        match error {
+            PicksError::NoForm(word) => Ending::Picks(word),
+            PicksError::Memory => Ending::Memory,
+        }
+    }
+}
+
 /// Arrays that are refused with this number and this name.
 fn refused<'a>(number: u8, name: Option<Text>) -> Ending<'a>
     ensures { result ≡ Ending.Arrays (record { number = number; name = name }) }
@@ -108,9 +117,8 @@ impl Ending<'_> {
             Ending::BadWords => 2,
             Ending::Source(_) => 3,
             Ending::Arrays(_) => 4,
+            Ending::Picks(_) => 5,
             Ending::Race(..) => 6,
-            Ending::Fault(..) => 7,
-            Ending::Spent(_) => 8,
             Ending::ReadFault(_) => 9,
             Ending::TooLong(_) => 11,
         }
@@ -136,15 +144,11 @@ impl Ending<'_> {
                     name: Some(name),
                 },
             ) => writeln!(line, "arrays error {number} {}", name.as_str())?,
+            Ending::Picks(word) => writeln!(line, "picks refused at word {word}")?,
             Ending::Race(bound, race) => {
                 line.push_str(race_text(alloc, bound, race)?.as_str())?;
                 line.push_str("\n")?;
             }
-            Ending::Fault(place, kind) => {
-                line.push_str(fault_text(alloc, place, *kind)?.as_str())?;
-                line.push_str("\n")?;
-            }
-            Ending::Spent(turns) => writeln!(line, "turns spent {turns}")?,
             Ending::ReadFault(name) => writeln!(line, "read fault {name}")?,
             Ending::TooLong(name) => writeln!(line, "too long {name}")?,
         }

@@ -1,8 +1,7 @@
 ghost use Rattle.std.specs.Prelude.{◌≡◌, ◌≤◌, ◌^◌, Ok, length, IfOk, IfErr, IfSome};
 ghost use Rattle.sd_graph.specs.TreeFold.{graph_tree};
-ghost use Rattle.sd_graph.specs.Upwards.{LeadsUpwards};
 ghost use Rattle.sd_race.specs.Pairs.{IsGraphAccepted};
-ghost use Rattle.sd_tool.specs.Answers.{source_refused, arrays_refused, done, TellsRun, TellsRace};
+ghost use Rattle.sd_tool.specs.Answers.{source_refused, arrays_refused, TellsRace};
 ghost use Rattle.sd_tool.specs.Ending.{answer_of, Refuses};
 ghost use Rattle.sd_tool.specs.Work as definition;
 ghost use Rattle.sd_tool.specs.Workspace.{work_of};
@@ -14,7 +13,6 @@ use sd_graph::{Bound, Sdfg};
 use sd_json::read_arrays;
 use sd_mem::Memory;
 use sd_parse::parse;
-use sd_seq::{RunEnd, run_seq};
 use sd_valid::bind;
 use std::alloc::Global;
 
@@ -67,21 +65,5 @@ pub(crate) fn accepted<'a>(alloc: Global, opened: Workspace) -> Result<Workspace
         Ok(()) => Ok(Workspace { bound, memory }),
         Err(RaceError::At(race)) => Err(Ending::Race(bound, race)),
         Err(RaceError::Memory) => Err(Ending::Memory),
-    }
-}
-
-/// Runs the graph over its memory, with so many turns at most: the memory after it, or its fault, or that
-/// the turns are spent.
-pub(crate) fn run<'a>(alloc: Global, opened: Workspace, turns: u64) -> Result<Workspace, Ending<'a>>
-    requires { LeadsUpwards (graph_tree opened.bound.graph) }
-    ensures done { IfOk result (λ after. TellsRun (work_of opened) turns (done (graph_tree after.bound.graph) after.memory.contents)) }
-    ensures stopped { IfErr result (λ ending. IfSome (answer_of ending) (TellsRun (work_of opened) turns)) }
-{
-    let Workspace { bound, memory } = opened;
-    let end = run_seq(alloc, &bound, memory, turns)?;
-    match end {
-        RunEnd::Done { memory, .. } => Ok(Workspace { bound, memory }),
-        RunEnd::Fault(place, kind) => Err(Ending::Fault(place, kind)),
-        RunEnd::Spent => Err(Ending::Spent(turns)),
     }
 }

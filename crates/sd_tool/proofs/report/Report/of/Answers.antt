@@ -1,0 +1,11 @@
+use Rattle.sd_tool.specs.Workspace.{work_of}
+use Rattle.sd_tool.proofs.Ended.{says_print, says_check}
+use Rattle.sd_tool.proofs.report.Report.of.Goals as goal
+
+pub returns-in-Print-clause-tells : goal.returns-in-Print-clause-tells
+returns-in-Print-clause-tells c = says_print (work_of c.args.opened) c.args.picks.now c.args.command c.in-Print.is
+
+pub returns-in_ok-bound-in-Check-clause-tells : goal.returns-in_ok-bound-in-Check-clause-tells
+returns-in_ok-bound-in-Check-clause-tells c =
+    let after = work_of c.in_ok-bound-in-Check.field-0 in
+    says_check (work_of c.args.opened) after c.args.picks.now c.args.command c.in-Check.is c.in_ok-bound-in-Check.ensures.same c.in_ok-bound-in-Check.ensures.accepted
