@@ -24,16 +24,33 @@ fn file(alloc: Global, name: &str, content: &str) -> Result<(String, Vec<u8>), F
     Ok((String::from_str(alloc, name)?, bytes))
 }
 
-/// A shelf with two files, which fails at the calls of these numbers.
-fn shelf(alloc: Global, source: &str, arrays: &str, failing: &[u64]) -> Result<MemShelf, Fail> {
+/// A shelf with files of these names and contents, which fails at the calls of these numbers.
+fn shelf(alloc: Global, contents: &[(&str, &str)], failing: &[u64]) -> Result<MemShelf, Fail> {
     let mut files = Vec::new(alloc);
-    files.push(file(alloc, "a.py", source)?)?;
-    files.push(file(alloc, "a.json", arrays)?)?;
+    for (name, content) in contents {
+        files.push(file(alloc, name, content)?)?;
+    }
     Ok(MemShelf::new(files, Vec::from_slice(alloc, failing)?))
 }
 
-/// What comes of a call of these words, where the calls of the shelf and of the sink with these numbers fail: the status, and
-/// the bytes that the sink has taken.
+/// What comes of a call of these words with these files, where the calls of the shelf and of the sink with these numbers fail: the
+/// status, and the bytes that the sink has taken.
+pub(crate) fn with_files(
+    alloc: Global,
+    text: &str,
+    contents: &[(&str, &str)],
+    reads: &[u64],
+    writes: &[u64],
+) -> Result<(u8, String), Fail> {
+    let words = words(alloc, text)?;
+    let mut shelf = shelf(alloc, contents, reads)?;
+    let mut sink = MemSink::new(alloc, Vec::from_slice(alloc, writes)?);
+    let status = sdfg(&(), alloc, &words, &mut shelf, &mut sink, &Open);
+    let written = std::str::from_utf8(sink.bytes())?;
+    Ok((status, String::from_str(alloc, written)?))
+}
+
+/// The same with a source and an arrays file.
 pub(crate) fn failing(
     alloc: Global,
     text: &str,
@@ -41,12 +58,8 @@ pub(crate) fn failing(
     reads: &[u64],
     writes: &[u64],
 ) -> Result<(u8, String), Fail> {
-    let words = words(alloc, text)?;
-    let mut shelf = shelf(alloc, files.0, files.1, reads)?;
-    let mut sink = MemSink::new(alloc, Vec::from_slice(alloc, writes)?);
-    let status = sdfg(&(), alloc, &words, &mut shelf, &mut sink, &Open);
-    let written = std::str::from_utf8(sink.bytes())?;
-    Ok((status, String::from_str(alloc, written)?))
+    let contents = [("a.py", files.0), ("a.json", files.1)];
+    with_files(alloc, text, &contents, reads, writes)
 }
 
 /// The same where no call fails.

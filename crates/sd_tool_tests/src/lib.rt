@@ -13,3 +13,5 @@ mod races;
 mod rows;
 #[cfg(test)]
 mod sources;
+#[cfg(test)]
+mod steps;
