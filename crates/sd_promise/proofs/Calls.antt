@@ -6,12 +6,12 @@ use Rattle.sd_work.specs.Run.{Left}
 use Rattle.sd_work.specs.Step.{Outcome, Done, Faulted, Spent}
 use Rattle.sd_graph.specs.declared.place.Place.{Place}
 use Rattle.sd_race.specs.Pairs.{IsGraphAccepted}
-use Rattle.sd_tool.specs.Command.{Call, to_run}
+use Rattle.sd_words.specs.Command.{Call, to_run}
 use Rattle.sd_tool.specs.Work.{Work}
-use Rattle.sd_tool.specs.Answers.{ShelfUse, listed, checked, answer_of_run, text_of}
+use Rattle.sd_tool.specs.Answers.{ShelfUse, ran, listed, checked, answer_of_run, text_of}
 use Rattle.sd_tool.specs.Ends.{SinkUse, Writes}
 use Rattle.sd_tool.specs.Headline.{Prints}
-use Rattle.sd_tool.specs.Statuses.{Statuses, Runs, ListsGraph, AcceptsGraph, EndsAs}
+use Rattle.sd_tool.specs.Statuses.{Statuses, TellsSteps, Runs, ListsGraph, AcceptsGraph, EndsAs}
 use Rattle.sd_tool.specs.Told.{Asks}
 use Rattle.sd_promise.specs.Promise.{FilesSay, PrintsWhatIsSaid, EndsAsSaid, RunWasSaid}
 use Rattle.sd_promise.proofs.Files.{run_is_said, said_is_run, status_told}
@@ -33,12 +33,14 @@ module _ (words : List (List ℕ)) (shelf : ShelfUse) (sink : SinkUse) (status :
       subst (λ text. EndsAsSaid outcome text sink status) (sym runs.1)
       (subst (λ own. ((status ≡ own) × Writes sink (text_of (answer_of_run work.tree turns outcome))) ⊎ ((status ≡ 10) × HasRisen sink.faults_before sink.faults_after) ⊎ (status ≡ 1)) (status_told work.tree turns outcome) ends)
 
-  run_was_said : (work : Work) (turns : ℕ) (outcome : Outcome Place Left) → Runs words shelf work turns outcome → Writes sink (text_of (answer_of_run work.tree turns outcome)) → RunWasSaid words shelf sink outcome
-  run_was_said work turns outcome runs writes = record {
+  run_was_said : (work : Work) (turns : ℕ) (steps : List (ℕ × ℕ)) (outcome : Outcome Place Left) → Runs words shelf work turns steps outcome → Writes sink (text_of (ran steps work.tree turns outcome)) → RunWasSaid words shelf sink outcome
+  run_was_said work turns steps outcome runs writes = record {
     call = runs.call;
     turns = turns;
+    steps = steps;
     asked = runs.comes.source.asked;
     asks = runs.asks;
+    alone = λ is. subst (λ c. TellsSteps work runs.picks c steps) is runs.told;
     text = runs.comes.source.source;
     arrays = runs.comes.arrays;
     text_read = runs.comes.source.reads;
@@ -50,12 +52,12 @@ module _ (words : List (List ℕ)) (shelf : ShelfUse) (sink : SinkUse) (status :
 
   pub done_was_said : Statuses words shelf sink status → status ≡ 0 → ((left : Left) × RunWasSaid words shelf sink (Done left)) ⊎ ((work : Work) × ListsGraph words shelf work × Writes sink (text_of (listed work.tree))) ⊎ ((work : Work) × AcceptsGraph words shelf work × Writes sink (text_of (checked work.tree)))
   done_was_said statuses is = elim (statuses.zero is) [
-    | inl run ↦ inl (run.2, run_was_said run.0 run.1 (Done run.2) run.3 run.4)
+    | inl run ↦ inl (run.3, run_was_said run.0 run.1 run.2 (Done run.3) run.4 run.5)
     | inr other ↦ inr other
   ]
 
   pub fault_was_said : Statuses words shelf sink status → status ≡ 7 → (fault : Fault Place) × RunWasSaid words shelf sink (Faulted fault)
-  fault_was_said statuses is = let run = statuses.seven is in (run.2, run_was_said run.0 run.1 (Faulted run.2) run.3 run.4)
+  fault_was_said statuses is = let run = statuses.seven is in (run.3, run_was_said run.0 run.1 run.2 (Faulted run.3) run.4 run.5)
 
   pub spent_was_said : Statuses words shelf sink status → status ≡ 8 → RunWasSaid words shelf sink Spent
-  spent_was_said statuses is = let run = statuses.eight is in run_was_said run.0 run.1 Spent run.2 run.3
+  spent_was_said statuses is = let run = statuses.eight is in run_was_said run.0 run.1 run.2 Spent run.3 run.4

@@ -8,7 +8,7 @@ use Rattle.sd_graph.specs.declared.place.Place.{Place}
 use Rattle.sd_program.specs.Names.{Name}
 use Rattle.sd_json.specs.AnswerText.{line_of}
 use Rattle.sd_json.specs.Given.{Contents}
-use Rattle.sd_tool.specs.Answers.{faulted, turns_spent, text_of}
+use Rattle.sd_write.specs.RunText.{fault_line, spent_line}
 use Rattle.sd_promise.specs.Source.{names_sought, memory_given, text_said, status_said}
 
 abbrev N : Name
@@ -66,10 +66,10 @@ text_is : text_said source contents.sizes 20 (Done (record { memory = after; tur
 text_is = refl
 
 -- the turns that were allowed are told where they are spent
-spent_is : text_said source contents.sizes 20 Spent ≡ text_of (turns_spent 20)
+spent_is : text_said source contents.sizes 20 Spent ≡ spent_line 20
 spent_is = refl
 
-fault_is : (fault : Fault Place) → text_said source contents.sizes 20 (Faulted fault) ≡ text_of (faulted fault)
+fault_is : (fault : Fault Place) → text_said source contents.sizes 20 (Faulted fault) ≡ fault_line fault
 fault_is fault = refl
 
 abbrev statuses : List ℕ

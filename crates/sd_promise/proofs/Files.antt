@@ -22,8 +22,8 @@ use Rattle.sd_says.specs.Says.{sizes_of, Says}
 use Rattle.sd_tie_programs.specs.Programs.{AreFitting}
 use Rattle.sd_meant.proofs.Sources.{source_fine, graph_latest, graph_turned}
 use Rattle.sd_meant.proofs.Texts.{joined_whole, text_is_run, run_of_text}
+use Rattle.sd_write.specs.RunText.{done_text}
 use Rattle.sd_tool.specs.Answers.{answer_of_run, status_of, text_of}
-use Rattle.sd_tool.specs.AnswerText.{done_text}
 use Rattle.sd_tool.specs.Work.{Work, source_graph, prepared, run_of_work}
 use Rattle.sd_promise.specs.Promise.{FilesSay}
 use Rattle.sd_promise.specs.Source.{names_sought, file_read, memory_given, lines_of_last, text_said, status_said}

@@ -1,5 +1,5 @@
 -- What the files of a call say, and that a call prints it.
-use Rattle.std.specs.Prelude.{◌≡◌, ◌⊎◌, ℕ, ◌^◌, List, Ok}
+use Rattle.std.specs.Prelude.{◌≡◌, ◌⊎◌, ℕ, ◌^◌, List, [], ◌++◌, Ok}
 use Rattle.sd_io.specs.Count.{HasRisen}
 use Rattle.sd_lex.specs.PlainTree.{ProgramTree}
 use Rattle.sd_work.specs.Run.{Left}
@@ -8,7 +8,8 @@ use Rattle.sd_graph.specs.declared.place.Place.{Place}
 use Rattle.sd_source.specs.SourceReading.{reads}
 use Rattle.sd_json.specs.Given.{Contents}
 use Rattle.sd_says.specs.Says.{Says}
-use Rattle.sd_tool.specs.Command.{Call, IsCall, to_run}
+use Rattle.sd_write.specs.RunText.{steps_text}
+use Rattle.sd_words.specs.Command.{Call, IsCall, to_run, RunsWith}
 use Rattle.sd_tool.specs.Answers.{ShelfUse, Reads}
 use Rattle.sd_tool.specs.Ends.{SinkUse, Writes}
 use Rattle.sd_promise.specs.Source.{file_read, memory_given, text_said, status_said}
@@ -36,16 +37,18 @@ EndsAsSaid outcome printed sink status =
     ⊎ ((status ≡ 10) × HasRisen sink.faults_before sink.faults_after)
     ⊎ (status ≡ 1)
 
--- the words ask for a run of two files that were read, which say this outcome, and its text was written
+-- the words ask for a run, by picks or without, of two files that were read, which say this outcome, and its text was written; the lines of some steps stand before it, of which a run without picks has none
 pub record RunWasSaid (words : List (List ℕ)) (shelf : ShelfUse) (sink : SinkUse) (outcome : Outcome Place Left) : Type 0 where
   pub call : Call
   pub turns : ℕ
+  pub steps : List (ℕ × ℕ)
   pub asked : IsCall words call
-  pub asks : call.command ≡ to_run turns
+  pub asks : RunsWith call.command turns
+  pub alone : call.command ≡ to_run turns → steps ≡ []
   pub text : List ℕ
   pub arrays : List ℕ
   pub text_read : Reads shelf call.source (2 ^ 20) text
   pub arrays_read : Reads shelf call.arrays (2 ^ 26) arrays
   pub printed : List ℕ
   pub said : FilesSay text arrays turns outcome printed
-  pub writes : Writes sink printed
+  pub writes : Writes sink (steps_text steps ++ printed)

@@ -16,7 +16,7 @@ use Rattle.sd_says.specs.Held.{Shape, opening_contents}
 use Rattle.sd_says.specs.Setting.{taken_in}
 use Rattle.sd_says.specs.Declared.{Owner, of_caller, of_run, of_scope, Declaration, declared_of}
 use Rattle.sd_says.specs.Says.{sizes_of}
-use Rattle.sd_tool.specs.Answers.{faulted, turns_spent, text_of}
+use Rattle.sd_write.specs.RunText.{fault_line, spent_line}
 
 -- ---- the arrays file
 
@@ -73,8 +73,8 @@ lines_of_last sizes (function ∷ earlier) memory = argument_lines sizes functio
 -- the arguments where all is done, else the fault with its place, or that the turns are spent
 abbrev pub text_said : ProgramTree → (sizes : Named ℤ) → (turns : ℕ) → Outcome Place Left → List ℕ
 text_said source sizes turns (Done left) = lines_of_last (sizes_of source sizes) (reverse source.functions) left.memory
-text_said source sizes turns (Faulted fault) = text_of (faulted fault)
-text_said source sizes turns Spent = text_of (turns_spent turns)
+text_said source sizes turns (Faulted fault) = fault_line fault
+text_said source sizes turns Spent = spent_line turns
 
 -- the exit status that tells it
 abbrev pub status_said : Outcome Place Left → ℕ
