@@ -6,10 +6,11 @@ import operator
 import tempfile
 from dataclasses import dataclass, field
 from pathlib import Path
-from typing import Any, Callable, Mapping
+from typing import Any, Callable, Mapping, Optional
 
 from .accesses import ScopeAccess, read_accesses
 from .arrays import is_size, read_arrays, shape_of, write_entries
+from .moves import After, picks_file, split_moves
 from .picture import Picture
 from .programs import ended
 from .refusals import ProgramFailed, refusal
@@ -21,27 +22,53 @@ Entries = Mapping[str, Any]
 
 @dataclass(frozen=True)
 class Option:
-    """An option: its word, and how its value is written as the word behind it; a file of it may go to the folder."""
+    """An option: its word, and how its value is written as the word behind it; a file of it may go to the folder.
+
+    A flag has no value, and is there or not.
+    """
 
     word: str
-    written: Callable[[Any, Path], str]
+    written: Optional[Callable[[Any, Path], str]] = None
+
+    @property
+    def default(self) -> Any:
+        return None if self.written else False
+
+    def words(self, value: Any, folder: Path) -> list[str]:
+        """Gives the words of this value, which are none for its default."""
+        if self.written is None:
+            return [self.word] * bool(value)
+        return [] if value is None else [self.word, self.written(value, folder)]
+
+
+@dataclass(frozen=True)
+class File:
+    """A file behind that of the arrays: what is given without one, and the name of a value's, which may go to the folder."""
+
+    default: Any
+    named: Callable[[Any, Path], str]
 
 
 @dataclass(frozen=True)
 class Command:
-    """A command of the program: its word, what its answer gives, and its options by their keywords."""
+    """A command of the program: its word, what its answer gives, and its files and options by their keywords."""
 
     word: str
     answer: Callable[[bytes, Entries], Any]
     about: str
     options: Mapping[str, Option] = field(default_factory=dict)
+    files: Mapping[str, File] = field(default_factory=dict)
 
-    def called(self, program: Given, options: Entries, given: Entries) -> Any:
+    def keywords(self) -> dict[str, Any]:
+        """Gives what may be given besides sizes and arrays, with its default."""
+        return {name: it.default for name, it in (*self.files.items(), *self.options.items())}
+
+    def called(self, program: Given, keywords: Entries, given: Entries) -> Any:
         """Runs the command, and gives its answer or raises what it refused."""
         source = source_of(program)
         entries = with_sizes(source, given)
         with tempfile.TemporaryDirectory(prefix="luthkemb-") as made:
-            status, output = ended(self._words(source, options, entries, Path(made)))
+            status, output = ended(self._words(source, keywords, entries, Path(made)))
         if status != 0:
             raise refusal(status, output, source)
         try:
@@ -49,26 +76,26 @@ class Command:
         except ValueError as wrong:
             raise ProgramFailed(status, output.decode(errors="replace")) from wrong
 
-    def _words(self, source: Source, options: Entries, entries: Entries, folder: Path) -> list[str]:
+    def _words(self, source: Source, keywords: Entries, entries: Entries, folder: Path) -> list[str]:
         """Gives the words of a call; what has no file yet is written to the folder."""
         arrays = folder / "arrays.json"
         write_entries(arrays, entries)
         words = [self.word, source.file_in(folder), str(arrays)]
-        for name, value in options.items():
-            if value is not None:
-                words += [self.options[name].word, self.options[name].written(value, folder)]
+        words += [file.named(keywords[name], folder) for name, file in self.files.items()]
+        for name, option in self.options.items():
+            words += option.words(keywords[name], folder)
         return words
 
 
 def call_of(name: str, command: Command) -> Callable[..., Any]:
-    """Gives the function of this name that calls a command: `name(program, options, sizes and arrays)`."""
+    """Gives the function of this name that calls a command: `name(program, files and options, sizes and arrays)`."""
 
     def call(program: Given, /, **given: Any) -> Any:
-        options = {it: given.pop(it, None) for it in command.options}
-        return command.called(program, options, given)
+        keywords = {it: given.pop(it, default) for it, default in command.keywords().items()}
+        return command.called(program, keywords, given)
 
     one = inspect.Parameter
-    options = [one(it, one.KEYWORD_ONLY, default=None) for it in command.options]
+    options = [one(it, one.KEYWORD_ONLY, default=default) for it, default in command.keywords().items()]
     others = one("sizes_and_arrays", one.VAR_KEYWORD)
     call.__name__ = call.__qualname__ = name
     call.__doc__ = command.about
@@ -93,17 +120,31 @@ def read_check(output: bytes, _: Entries) -> list[ScopeAccess]:
     return read_accesses(output.decode())
 
 
+def read_step(output: bytes, given: Entries) -> After:
+    """Gives the arrays after a run by picks, with its moves, or raises `ValueError`."""
+    moves, arrays = split_moves(output)
+    return After(read_arrays(arrays, given), moves)
+
+
 def number(value: Any, _: Path) -> str:
     """Writes the number of an option."""
     return str(operator.index(value))
 
 
+TURNS = Option("--turns", number)
 COMMANDS: dict[str, Command] = {
     "run": Command(
         "run",
         read_arrays,
         "Runs a program on arrays and gives them after the run, by name.",
-        {"turns": Option("--turns", number)},
+        {"turns": TURNS},
+    ),
+    "step": Command(
+        "step",
+        read_step,
+        "Runs a program move by move, as picks choose, and gives the arrays after the run, by name.",
+        {"turns": TURNS, "trace": Option("--trace")},
+        {"picks": File((), picks_file)},
     ),
     "graph": Command(
         "print",

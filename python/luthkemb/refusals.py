@@ -8,6 +8,7 @@ import re
 from dataclasses import dataclass, field
 from typing import ClassVar, Optional
 
+from .moves import Move, split_moves
 from .sources import Source
 
 SOURCE_ERRORS = {
@@ -75,10 +76,11 @@ class DoesNotFit(LuthkembError, ValueError):
 
 
 class Refused(LuthkembError):
-    """The program refused, with the status of the class."""
+    """The program refused, with the status of the class. `moves` are those that a traced run had made."""
 
     status: ClassVar[int]
     form: ClassVar[str] = ""
+    moves: tuple[Move, ...] = ()
 
     @classmethod
     def of(cls, found: re.Match[str], source: Source) -> Refused:
@@ -153,6 +155,23 @@ class ArraysRefused(Refused, ValueError):
     def __str__(self) -> str:
         name = f" {self.name}" if self.name else ""
         return f"arrays error {self.number}{name}: {self.meaning}"
+
+
+@dataclass(eq=False)
+class PicksRefused(Refused, ValueError):
+    """The pick of the number `word`, counted from 1, is no whole number from 0 to 2^64-1."""
+
+    word: int
+
+    status = 5
+    form = r"picks refused at word (\d+)"
+
+    @classmethod
+    def of(cls, found: re.Match[str], source: Source) -> Refused:
+        return cls(int(found[1]))
+
+    def __str__(self) -> str:
+        return f"picks refused at word {self.word}"
 
 
 @dataclass(frozen=True)
@@ -269,7 +288,7 @@ class WriteFault(Refused):
 
 @dataclass(eq=False)
 class TooLong(Refused):
-    """The file `name` is longer than its limit: 2^20 bytes for a source, 2^26 for arrays."""
+    """The file `name` is longer than its limit: 2^20 bytes for a source, 2^26 for arrays, 2^24 for picks."""
 
     name: str
 
@@ -285,6 +304,7 @@ KINDS: tuple[type[Refused], ...] = (
     BadWords,
     SourceRefused,
     ArraysRefused,
+    PicksRefused,
     Race,
     Fault,
     TurnsSpent,
@@ -304,14 +324,19 @@ def _frame(text: str, source: Source) -> Frame:
 
 def refusal(status: int, output: bytes, source: Source) -> LuthkembError:
     """Gives what is raised for an end with this status, which is not 0."""
-    said = output.decode(errors="replace")
+    moves, text = split_moves(output)
+    said = text.decode(errors="replace")
     kind = REFUSALS.get(status)
     if status == NotBuilt.status:
         return NotBuilt()
     # What was written before memory or the output was wanting is left.
     last = "" if kind in (OutOfMemory, WriteFault) else said.removesuffix("\n")
     found = re.fullmatch(kind.form, last, re.DOTALL) if kind else None
+    if kind is None or found is None:
+        return ProgramFailed(status, said)
     try:
-        return ProgramFailed(status, said) if kind is None or found is None else kind.of(found, source)
+        refused = kind.of(found, source)
     except ValueError:
         return ProgramFailed(status, said)
+    refused.moves = moves
+    return refused

@@ -6,6 +6,7 @@
   # fake turns B        the run wants so many turns
   # fake graph TEXT     the text of the graph, with / between its lines
   # fake check TEXT     what the race check tells, so too
+  # fake moves TEXT     the trace of a run by picks, so too
 
 The true program passes comments over, and comes to the same answer by the rest of the source.
 """
@@ -19,13 +20,17 @@ import time
 from pathlib import Path
 from typing import Any, Iterator
 
-LIMITS = (2**20, 2**26)
+LIMITS = (2**20, 2**26, 2**24)
+# How many files and options the words of each command may have.
+FILES = {"run": 2, "print": 2, "check": 2, "step": 3}
+OPTIONS = {"run": {"--turns"}, "step": {"--turns", "--trace"}}
 MOST_TURNS = 10_000_000
 ANSWER = re.compile(r"# fake (-?\d+) ?([^\r\n]*)")
 STATEMENTS = re.compile(r"# fake: (.*)")
 TURNS = re.compile(r"# fake turns (\d+)")
 GRAPH = re.compile(r"# fake graph (.*)")
 CHECK = re.compile(r"# fake check (.*)")
+MOVES = re.compile(r"# fake moves (.*)")
 SYMBOL = re.compile(r"^(\w+) = dace\.symbol\('\w+'\)$", re.MULTILINE)
 FUNCTION = re.compile(r"^def \w+\((.*)\):$", re.MULTILINE)
 ARGUMENT = re.compile(r"(\w+): dace\.int64(?:\[([^]]*)\])?")
@@ -46,12 +51,27 @@ def read(name: str, most: int) -> str:
     return text.decode(errors="replace")
 
 
-def files_of(words: list[str]) -> list[str]:
-    turns = words[4] if len(words) == 5 and words[3] == "--turns" else "1"
-    known = len(words) in {"run": (3, 5), "print": (3,), "check": (3,)}.get("".join(words[:1]), ()) and turns.isdecimal()
-    if not known or not 1 <= int(turns) <= 2**40 or any(it[:1] in ("", "-") for it in words[1:3]):
+def options_of(words: list[str]) -> dict[str, str]:
+    """Gives the options of a call, those behind its files, with their values."""
+    rest = iter(words[1 + FILES.get("".join(words[:1]), len(words)) :])
+    found = {it: next(rest, "") if it == "--turns" else it for it in rest}
+    turns = found.get("--turns", "1")
+    if not set(found) <= OPTIONS.get(words[0], set()) or not turns.isdecimal() or not 1 <= int(turns) <= 2**40:
         raise Ended(2, "bad words")
-    return words[1:3]
+    return found
+
+
+def files_of(words: list[str]) -> list[str]:
+    files = words[1 : 1 + FILES.get("".join(words[:1]), 0)]
+    if not files or len(files) != FILES[words[0]] or any(it[:1] in ("", "-") for it in files):
+        raise Ended(2, "bad words")
+    return files
+
+
+def read_picks(name: str) -> None:
+    for number, word in enumerate(read(name, LIMITS[2]).split(), 1):
+        if not word.isdecimal() or int(word) >= 2**64:
+            raise Ended(5, f"picks refused at word {number}")
 
 
 def line_of(source: str, name: str) -> int:
@@ -78,32 +98,36 @@ def array_line(name: str, extents: str, names: dict[str, Any]) -> str:
 
 
 def answer(words: list[str]) -> str:
-    files = files_of(words)
+    files, options = files_of(words), options_of(words)
     source = read(files[0], LIMITS[0])
     arrays = read(files[1], LIMITS[1])
     found = ANSWER.search(source)
+    moves = MOVES.findall(source)[-1].replace("/", "\n") + "\n" if "--trace" in options else ""
     if found:
         text = re.sub(r"\{(\w+)\}", lambda it: str(line_of(source, it[1])), found[2])
-        raise Ended(int(found[1]), text)
+        raise Ended(int(found[1]), moves + text)
     names = {**json.loads(arrays), "signal": signal, "time": time, "Path": Path}
     for symbol in SYMBOL.findall(source):
         if symbol not in names:
             raise Ended(4, f"arrays error 11 {symbol}")
     arguments = ARGUMENT.findall(FUNCTION.findall(source)[-1])
-    if "turns" in names:
-        raise Ended(4, "arrays error 18 turns")
+    for extra in ("turns", "picks"):
+        if extra in names:
+            raise Ended(4, f"arrays error 18 {extra}")
     for argument in arguments:
         array_line(*argument, names)
+    if words[0] == "step":
+        read_picks(files[2])
     if words[0] == "print":
         return GRAPH.findall(source)[-1].replace("/", "\n")
     if words[0] == "check":
         return CHECK.findall(source)[-1].replace("/", "\n")
-    wanted, turns = TURNS.search(source), int(words[4]) if len(words) == 5 else MOST_TURNS
+    wanted, turns = TURNS.search(source), int(options.get("--turns", MOST_TURNS))
     if wanted and int(wanted[1]) > turns:
-        raise Ended(8, f"turns spent {turns}")
+        raise Ended(8, f"{moves}turns spent {turns}")
     for statements in STATEMENTS.findall(source):
         exec(statements, names)
-    return "\n".join(array_line(*it, names) for it in arguments)
+    return moves + "\n".join(array_line(*it, names) for it in arguments)
 
 
 def main() -> int:

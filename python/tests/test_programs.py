@@ -182,10 +182,11 @@ class Table(Calls):
     def test_each_command_is_one_of_the_program(self) -> None:
         documented = (TOP / "docs/COMMANDS.md").read_text()
         for name, command in COMMANDS.items():
-            self.assertIn(f"sdfg {command.word} SOURCE ARRAYS\n", documented)
+            words = " ".join([f"sdfg {command.word} SOURCE ARRAYS", *(it.upper() for it in command.files)])
+            self.assertIn(f"{words}\n", documented)
             self.assertIn(name, luthkemb.__all__)
             for option in command.options.values():
-                self.assertIn(f"sdfg {command.word} SOURCE ARRAYS {option.word} ", documented)
+                self.assertRegex(documented, rf"(?m)^    {words}.* {option.word}{' [A-Z]' if option.written else '$'}")
 
     def test_a_call_has_a_program_and_what_has_names(self) -> None:
         with self.assertRaises(TypeError):
