@@ -12,4 +12,4 @@ returns c =
     let term = run_of (graph_tree c.args.bound.now.graph) c.args.memory.contents in
     let asked : c.args.traces ≡ false = search rules in
     subst (IsPicked term c.args.turns c.args.picks.now c.args.traces (outcome_of c.in_ok-end.end)) (sym (ap (map (λ (chosen : Chosen). (chosen.number, chosen.moves))) c.new.ensures.items))
-    (without_steps term c.args.turns c.args.picks.now c.args.traces (outcome_of c.in_ok-end.end) asked c.in_ok-end.ensures)
+    (without_steps term c.args.turns c.args.picks.now c.args.traces (outcome_of c.in_ok-end.end) asked c.in_ok-end.ensures.run)
