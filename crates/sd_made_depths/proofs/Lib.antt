@@ -1,0 +1,11 @@
+pub mod Loops
+pub mod Starts
+pub mod Counted
+pub mod Alone
+pub mod Made
+pub mod Items
+pub mod States
+pub mod Begun
+pub mod Told
+pub mod Places
+pub mod Few

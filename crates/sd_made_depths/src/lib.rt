@@ -1,0 +1,10 @@
+//! In the graph of a program, bound to sizes, few scopes and loops are about an item.
+//!
+//! Each marked transition closes a loop of the program, so no more loops are about a state than are
+//! about the statement that makes it (`proofs/Loops`, `proofs/Counted`). With the scopes about an item
+//! they are no more than what is about its statement (`proofs/Items`, `proofs/States`).
+#![tactic(auto)]
+
+mod laws;
+
+pub use laws::items_of_the_bound_graph_of_a_program_have_few_about;
