@@ -1,0 +1,4 @@
+pub mod Expressions
+pub mod Tasklets
+pub mod Bound
+pub mod Small
