@@ -105,7 +105,8 @@ def _read_line(line: bytes, given: Mapping[str, Any]) -> tuple[str, Any]:
 def _numpy_of(elements: bytes, shape: Shape) -> Any:
     import numpy
 
-    return numpy.fromstring(elements.decode(), dtype=numpy.int64, sep=" ").reshape(shape)
+    values = elements.split()
+    return numpy.fromiter(map(int, values), numpy.int64, len(values)).reshape(shape)
 
 
 def _lists_of(elements: bytes, shape: Shape) -> list[Any]:
