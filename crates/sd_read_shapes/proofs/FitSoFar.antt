@@ -58,7 +58,7 @@ module _ (symbols : List Name) (arrays more : Named (List Expression)) (above : 
   shapes_more [] (parameter ∷ parameters) have = absurd have
   shapes_more (argument ∷ arguments) [] have = absurd have
   shapes_more (argument ∷ arguments) (parameter ∷ parameters) have =
-      ((have.0.0, (has argument.0 have.0.0 have.0.1.0, have.0.1.1)), shapes_more arguments parameters have.1)
+      ((have.0.0, (have.0.1.0, (has argument.0 have.0.1.0 have.0.1.1.0, have.0.1.1.1))), shapes_more arguments parameters have.1)
 
   pub fits_more : (s : StatementTree) → Fits symbols arrays above s → Fits symbols more above s
   fits_more (argument_array line name bits extents) fit = (has name (extents_written extents) fit.0, fit.1)

@@ -187,7 +187,7 @@ module _ (names : Names) (symbols : List Name) (place : Name → ℕ) (arrays : 
   arguments_fit (passed ∷ arguments) (parameter ∷ parameters) (first ∷ extents) count known sound matching of =
       let knowns = neither (is_unknown_use names (argument passed)) (list_any (is_unknown_use names) (map argument arguments)) known in
       let matchings = neither (is_no_argument names (passed, parameter)) (list_any (is_no_argument names) (zip arguments parameters)) matching in
-      (argument_fits passed parameter first knowns.0 sound.0 matchings.0 of.0, arguments_fit arguments parameters extents (omega (arith, count)) knowns.1 sound.1 matchings.1 of.1)
+      ((of.0.0, argument_fits passed parameter first knowns.0 sound.0 matchings.0 of.0), arguments_fit arguments parameters extents (omega (arith, count)) knowns.1 sound.1 matchings.1 of.1)
 
   pub call_fits : (name : Name) (arguments : List (Name × List Dimension)) → list_any (is_unknown_use names) (map argument arguments) ≡ false → AllByRecursion (λ passed. EachDimension (IsSound names.meanings) passed.1) arguments →
       is_no_call names arguments (signature_by (meaning_of names name)) ≡ false → (parameters : List (List Expression)) × ((in_force (extents_of_programs above) name ≡ Some parameters) × HaveShapes symbols arrays above arguments parameters)

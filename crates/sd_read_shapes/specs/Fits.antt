@@ -78,11 +78,12 @@ module _ (symbols : List Name) (arrays : Named (List Expression)) (above : List 
       × ((variables : Named ℕ) → let stretches = subset_of variables (values variables extents) argument.1 in
       AllByRecursion (λ stretch. stretch.1 ≡ pos 1) stretches × (or_one (map (λ stretch. stretch.0) stretches) ≡ values variables parameter)))
 
+  -- so has each argument, and the extents of each parameter are of these size symbols
   abbrev pub HaveShapes : List (Name × List Dimension) → (parameters : List (List Expression)) → Type 0
   HaveShapes [] [] = ⊤
   HaveShapes [] (parameter ∷ parameters) = ⊥
   HaveShapes (argument ∷ arguments) [] = ⊥
-  HaveShapes (argument ∷ arguments) (parameter ∷ parameters) = HasShape argument parameter × HaveShapes arguments parameters
+  HaveShapes (argument ∷ arguments) (parameter ∷ parameters) = (AreExtents symbols parameter × HasShape argument parameter) × HaveShapes arguments parameters
 
   abbrev pub Fits : StatementTree → Type 0
   Fits (argument_array line name bits extents) = (in_force arrays name ≡ Some (extents_written extents)) × AreExtents symbols (extents_written extents)

@@ -7,7 +7,7 @@ ghost use Rattle.sd_read_shapes.specs.Fits.{AllFit};
 /// Each program of a source that was read fits: its arrays have the extents that are written, of size
 /// symbols alone; no loop or map has a variable of such a name; and the two sides of a copy or a
 /// reduction, and an argument of a call and its parameter, have one shape, whatever numbers the
-/// variables have.
+/// variables have. A parameter has extents of the size symbols that are in force at the call.
 pub fn shapes_of_a_program_that_was_read_fit()
     ensures { (text : List ℕ) (program : ProgramTree) → reads text ≡ Ok program → AllFit (reverse program.functions) }
 {}
