@@ -1,0 +1,11 @@
+pub mod Distances
+pub mod Spans
+pub mod Agreeing
+pub mod Tied
+pub mod Fitting
+pub mod Sides
+pub mod Items
+pub mod States
+pub mod Programs
+pub mod Holding
+pub mod Read
