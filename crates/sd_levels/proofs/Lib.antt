@@ -1,0 +1,4 @@
+pub mod Lower
+pub mod Named
+pub mod Ends
+pub mod Bound
