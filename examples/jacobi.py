@@ -48,14 +48,19 @@ for steps, heat in after.items():
     print(f'{steps:2} steps: {max(heat)} in the middle, {sum(heat)} in all')
 
 # %% [markdown]
-# The picture: by matplotlib, or by characters.
+# The picture: by matplotlib, in a window or else as `jacobi.png` in the working folder, or by characters.
 
 # %%
 if pyplot is not None:
     for steps, heat in after.items():
         pyplot.plot(heat, label=f'{steps} steps')
     pyplot.legend()
-    pyplot.show()
+    if pyplot.get_backend().lower() == 'agg':
+        # There is no window to show it in.
+        pyplot.savefig('jacobi.png')
+        print('the rods are in jacobi.png')
+    else:
+        pyplot.show()
 else:
     for steps, heat in after.items():
         print(f'{steps:2} steps: ' + ''.join(' .:-=+*#%@'[min(it // 90, 9)] for it in heat))

@@ -57,6 +57,8 @@ def _whole(name: str, array: Any) -> Any:
 
     if array.dtype.kind not in "iuf":
         raise DoesNotFit(name, f"its elements are {array.dtype}, and not whole numbers")
+    if numpy.ma.is_masked(array):
+        raise DoesNotFit(name, "some of its elements are masked")
     if array.dtype.kind == "f":
         wide = array.astype(numpy.result_type(array.dtype, numpy.float64))
         with numpy.errstate(invalid="ignore"):

@@ -1,6 +1,7 @@
 """The example that calls the program from Python, run as a script."""
 from __future__ import annotations
 
+import importlib.util
 import os
 import subprocess
 import sys
@@ -11,6 +12,7 @@ from support import TOP, TRUE, Calls
 
 EXAMPLE = TOP / "examples/jacobi.py"
 STEPS = (0, 5, 50)
+HAS_MATPLOTLIB = importlib.util.find_spec("matplotlib") is not None
 # Does what the program of the example does, for the program that stands for the true one.
 STATEMENTS = "for _ in range(T): A[1:-1] = [sum(A[i - 1:i + 2]) // 3 for i in range(1, len(A) - 1)]"
 
@@ -43,6 +45,9 @@ class Example(Calls):
         for steps in STEPS:
             heat = heat_after(steps)
             self.assertIn(f"{steps:2} steps: {max(heat)} in the middle, {sum(heat)} in all", lines)
+        picture = self.folder / "jacobi.png"
+        self.assertEqual("the rods are in jacobi.png" in lines, HAS_MATPLOTLIB)
+        self.assertEqual(picture.is_file() and picture.read_bytes()[:8] == b"\x89PNG\r\n\x1a\n", HAS_MATPLOTLIB)
         self.assertEqual(lines[-2:], ["error 11 of T: the size has no value", "100 turns are too few"])
 
 

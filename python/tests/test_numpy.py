@@ -78,6 +78,7 @@ class Arrays(Calls):
             (numpy.array([1j]), "complex128"),
             (numpy.array([1], object), "object"),
             (numpy.array([1], "M8[s]"), "datetime64"),
+            (numpy.ma.array([1, 2], mask=[False, True]), "masked"),
         ):
             with self.subTest(given.dtype), self.assertRaises(luthkemb.DoesNotFit) as refused:
                 luthkemb.run("none.py", A=given)

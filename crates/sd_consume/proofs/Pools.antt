@@ -1,15 +1,18 @@
 -- Steps through the values of a pool, inside the memory of its elements.
-use Rattle.std.proofs.Common.{◌≡◌, ℕ, zero, suc, ℤ, List, [], ◌∷◌, drop, Option, Some, None, Bool, true, false, if◌then◌else◌, ◌||◌, nat_eq, slice_get, refl, sym, ap, ◌∙◌, subst, arith, w64, FitsSigned}
+use Rattle.std.proofs.Common.{◌≡◌, ℕ, zero, suc, ◌<◌, ℤ, List, [], ◌∷◌, length, drop, Option, Some, None, Bool, true, false, if◌then◌else◌, ◌||◌, nat_eq, slice_get, slice_index_or, refl, sym, ap, ◌∙◌, subst, arith}
 use Rattle.std.specs.List.{AllByRecursion}
-use Rattle.std.proofs.lemmas.Int.{int_wrap_fits}
 use Rattle.std.proofs.lemmas.Bool.Decides.{nat_tests}
 use Rattle.sd_work.specs.declared.fault.FaultKind.{FaultKind}
-use Rattle.sd_work.specs.Memory.{array, Memory, Memories, waiting}
-use Rattle.sd_work.specs.Change.{changed_at, with_elements, written, write, take, apply}
+use Rattle.sd_work.specs.Memory.{array, stream, Memories, waiting}
+use Rattle.sd_work.specs.Change.{changed_at, take, apply}
 use Rattle.sd_work.specs.BigStep.{Reached, big_step}
-use Rattle.sd_graph.specs.Context.{Context, Reach, own_reach, place_at}
+use Rattle.sd_graph.specs.ContainerParts.{Containers}
+use Rattle.sd_graph.specs.Context.{Context, Reach, own_reach, memory_from, private_memory, place_at}
+use Rattle.sd_graph.specs.TaskletMeaning.{Inputs}
 use Rattle.sd_graph.specs.Wiring.{has_number}
+use Rattle.sd_graph.specs.declared.container.ContainerKind.{ContainerKind}
 use Rattle.sd_graph.specs.declared.link.Link.{Link}
+use Rattle.sd_tcode.specs.Compiled.{Compiled}
 use Rattle.sd_machine.specs.declared.cell.Station.{Station}
 use Rattle.sd_machine.specs.ComesTo.{IsEnd}
 use Rattle.sd_machine.specs.declared.end.End.{End}
@@ -19,19 +22,37 @@ use Rattle.sd_row.specs.Point.{IsOver, below}
 use Rattle.sd_row.specs.Setting.{Setting, term_of}
 use Rattle.sd_row.proofs.Comes.{IsLeft, as_finished}
 use Rattle.sd_row.proofs.RowSteps.{point_comes, point_without_turn}
+use Rattle.sd_instance.specs.declared.accesses.Accesses.{Accesses}
 use Rattle.sd_instance.specs.Known.{AreOutward}
+use Rattle.sd_consume.specs.Own.{with_own, HasValue}
 use Rattle.sd_consume.specs.Taking.{takes_coming}
-use Rattle.sd_consume.specs.Pool.{Pool, body_of, inside, pool_memory, pool_coming}
+use Rattle.sd_consume.specs.declared.source.Source.{Source}
+use Rattle.sd_consume.specs.Pool.{Pool, IsPool, body_of, inside, pool_memory, pool_coming}
 use Rattle.sd_consume.proofs.Takes.{takes_end, element_more, element_stop}
+
+-- the same sources
+pub same_sources : (compiled : Compiled) (given : Inputs) (accesses : Accesses) (old new : List Source) (from : Station) (element : ℕ) (outs : List Link) (here : Context) (pool : Pool) → new ≡ old →
+    IsPool compiled given accesses old from element outs here pool → IsPool compiled given accesses new from element outs here pool
+same_sources compiled given accesses old new from element outs here pool same is = subst (λ (sources : List Source). IsPool compiled given accesses sources from element outs here pool) (sym same) is
 
 -- ---- the memory of an element
 
--- a value is put into it
-value_put : (element : ℕ) (memory : Memory) (held value : ℤ) → FitsSigned w64 value →
-    changed_at element (with_elements (changed_at 0 (written None value))) (changed_at element (λ old. array (held ∷ [])) memory) ≡ changed_at element (λ old. array (value ∷ [])) memory
-value_put element [] held value fits = refl
-value_put zero (contents ∷ memory) held value fits = ap (λ (v : ℤ). array (v ∷ []) ∷ memory) (int_wrap_fits w64 value fits)
-value_put (suc element) (contents ∷ memory) held value fits = ap (λ (rest : Memory). contents ∷ rest) (value_put element memory held value fits)
+at_changed : {A : Type 0} (number : ℕ) (change : A → A) (members : List A) (nowhere : A) → number < length members → slice_index_or (changed_at number change members) number nowhere ≡ change (slice_index_or members number nowhere)
+at_changed number change [] nowhere within = absurd (omega (arith, within))
+at_changed zero change (member ∷ members) nowhere within = refl
+at_changed (suc number) change (member ∷ members) nowhere within = at_changed number change members nowhere (omega (arith, within))
+
+memory_length : (has : ℕ → ContainerKind → Bool) (number : ℕ) (containers : Containers) → length (memory_from has number containers) ≡ length containers
+memory_length has number [] = refl
+memory_length has number (entry ∷ entries) = ap suc (memory_length has (suc number) entries)
+
+-- it has the value
+pub value_held : (pool : Pool) (element : ℕ) (value : ℤ) → element ≡ pool.element → pool.element < length pool.context.containers → HasValue (pool_memory pool value) element value
+value_held pool element value same there =
+    let numbers = pool.element ∷ pool.private in
+    let own = private_memory pool.context.containers numbers in
+    let within : pool.element < length own = subst (λ many. pool.element < many) (sym (memory_length (λ number kind. has_number numbers number) 0 pool.context.containers)) there in
+    ap (λ number. slice_index_or (pool_memory pool value) number (stream [])) same ∙ at_changed pool.element (λ old. array (value ∷ [])) own (stream []) within
 
 -- ---- containers outside
 
@@ -96,52 +117,59 @@ module _ (pool : Pool) where
     pub pool_ends : first ≡ None → IsEnd (pool_coming pool before) before Finished (below took)
     pool_ends none = takes_end (body_of pool) pool.stream pool.element pool.private pool.context (pool_coming pool before) before (below now) (below took) left below_taken turns_are (first_below ∙ none)
 
-    module _ (value : ℤ) (waits : first ≡ Some value) (put : Reached) (fits : FitsSigned w64 value) (element : ℕ) (element_is : element ≡ pool.element)
-        (put_is : put.memories ≡ apply (write (record { level = 0; container = element; element = 0 }) None value) took.memories) (kept : put.turns ≡ took.turns) where
-      all_put : put.memories ≡ pool_memory pool value ∷ drop 1 took.memories
-      all_put = put_is ∙ ap (λ (e : ℕ). apply (write (record { level = 0; container = e; element = 0 }) None value) took.memories) element_is
-          ∙ ap (apply (write (record { level = 0; container = pool.element; element = 0 }) None value)) (all_taken ∙ ap (λ (memories : Memories). pool_memory pool held ∷ drop 1 memories) (sym all_taken))
-          ∙ ap (λ (own : Memory). own ∷ drop 1 took.memories) (value_put pool.element _ held value fits)
+    -- the memory in which an element was taken is still that of the first one
+    pub over_taken : IsOver (pool_memory pool held) took
+    over_taken = all_taken ∙ ap (λ (memories : Memories). pool_memory pool held ∷ memories) (sym (ap (drop 1) all_taken))
 
-      pub over_put : IsOver (pool_memory pool value) put
-      over_put = all_put ∙ ap (λ (memories : Memories). pool_memory pool value ∷ drop 1 memories) (sym all_put)
-
-      below_put : (below put).memories ≡ apply (take level container 0) (below now).memories
-      below_put = ap (drop 1) all_put ∙ below_taken
+    module _ (value : ℤ) (waits : first ≡ Some value) where
+      -- the memories of the element
+      abbrev put : Reached
+      put = with_own (pool_memory pool value) took
 
       module _ (after : Reached) (end : End) (ends : IsEnd (λ most. big_step (term_of (point value) 0) most (below put).memories (below put).turns) (below put) end (below after)) where
         pool_more : end ≡ Finished → IsLeft (pool_coming pool before) before (takes_coming (body_of pool) pool.stream pool.element pool.private pool.context (below after)) (below after)
         pool_more done =
-            element_more (body_of pool) pool.stream pool.element pool.private pool.context (pool_coming pool before) before (below now) (below put) left below_put (kept ∙ turns_are) value (first_below ∙ waits) (below after)
+            element_more (body_of pool) pool.stream pool.element pool.private pool.context (pool_coming pool before) before (below now) (below put) left below_taken turns_are value (first_below ∙ waits) (below after)
             (as_finished _ _ _ end done ends)
 
         pool_stop : ((end ≡ Finished) → ⊥) → IsEnd (pool_coming pool before) before end (below after)
         pool_stop stop =
-            element_stop (body_of pool) pool.stream pool.element pool.private pool.context (pool_coming pool before) before (below now) (below put) left below_put (kept ∙ turns_are) value (first_below ∙ waits) (below after)
+            element_stop (body_of pool) pool.stream pool.element pool.private pool.context (pool_coming pool before) before (below now) (below put) left below_taken turns_are value (first_below ∙ waits) (below after)
             end ends stop
 
       -- no turn is left for it
-      pub value_unpaid : (paid : Reached) → paid.memories ≡ put.memories → put.turns ≡ 0 → paid.turns ≡ 0 → IsEnd (pool_coming pool before) before OutOfTurns (below paid)
-      value_unpaid paid same none_before none_after = pool_stop paid OutOfTurns (point_without_turn (point value) 0 put paid same none_before none_after over_put) (λ same. cc)
+      pub value_unpaid : (paid : Reached) → paid.memories ≡ took.memories → took.turns ≡ 0 → paid.turns ≡ 0 → IsEnd (pool_coming pool before) before OutOfTurns (below paid)
+      value_unpaid paid same none_before none_after =
+          pool_stop paid OutOfTurns (point_without_turn (point value) 0 put (with_own (pool_memory pool value) paid) (ap (λ (memories : Memories). pool_memory pool value ∷ drop 1 memories) same) none_before none_after refl) (λ same. cc)
 
-      module _ (paid after : Reached) (here : Context) (outs : List Link) (some : ℤ) (stands : here ≡ inside pool some) (same_outs : pool.outs ≡ outs) (same : paid.memories ≡ put.memories) (turn : put.turns ≡ suc paid.turns) where
-        point_is : (fault : Option FaultKind) → IsDone (instance_work here pool.tree pool.ins outs) paid fault after → IsDone (instance_work (inside pool value) pool.tree pool.ins pool.outs) paid fault after
-        point_is fault done = subst (λ (outs : List Link). IsDone (instance_work (inside pool value) pool.tree pool.ins outs) paid fault after) (sym same_outs)
-            (subst (λ (here : Context). IsDone (instance_work here pool.tree pool.ins outs) paid fault after) stands done)
+      module _ (paid after : Reached) (here : Context) (outs : List Link) (some : ℤ) (stands : here ≡ inside pool some) (same_outs : pool.outs ≡ outs) (same : paid.memories ≡ took.memories) (turn : took.turns ≡ suc paid.turns) where
+        -- the memories of the element when its turn is spent, and when it is done
+        abbrev spent : Reached
+        spent = with_own (pool_memory pool value) paid
+
+        abbrev behind : Reached
+        behind = with_own (pool_memory pool value) after
+
+        same_spent : spent.memories ≡ put.memories
+        same_spent = ap (λ (memories : Memories). pool_memory pool value ∷ drop 1 memories) same
+
+        point_is : (fault : Option FaultKind) → IsDone (instance_work here pool.tree pool.ins outs) spent fault behind → IsDone (instance_work (inside pool value) pool.tree pool.ins pool.outs) spent fault behind
+        point_is fault done = subst (λ (outs : List Link). IsDone (instance_work (inside pool value) pool.tree pool.ins outs) spent fault behind) (sym same_outs)
+            (subst (λ (here : Context). IsDone (instance_work here pool.tree pool.ins outs) spent fault behind) stands done)
 
         -- its element is done
-        pub value_done : (fault : Option FaultKind) → fault ≡ None → IsDone (instance_work here pool.tree pool.ins outs) paid fault after →
+        pub value_done : (fault : Option FaultKind) → fault ≡ None → IsDone (instance_work here pool.tree pool.ins outs) spent fault behind →
             IsLeft (pool_coming pool before) before (takes_coming (body_of pool) pool.stream pool.element pool.private pool.context (below after)) (below after)
         value_done fault none done =
-            pool_more after Finished (point_comes (point value) 0 put paid after None Finished same turn
-            (point_is None (subst (λ (fault : Option FaultKind). IsDone (instance_work here pool.tree pool.ins outs) paid fault after) none done)) (λ now. refl) over_put) refl
+            pool_more after Finished (point_comes (point value) 0 put spent behind None Finished same_spent turn
+            (point_is None (subst (λ (fault : Option FaultKind). IsDone (instance_work here pool.tree pool.ins outs) spent fault behind) none done)) (λ now. refl) refl) refl
 
         -- its element comes to a fault
-        pub value_fails : (fault : Option FaultKind) (kind : FaultKind) → fault ≡ Some kind → IsDone (instance_work here pool.tree pool.ins outs) paid fault after →
+        pub value_fails : (fault : Option FaultKind) (kind : FaultKind) → fault ≡ Some kind → IsDone (instance_work here pool.tree pool.ins outs) spent fault behind →
             IsEnd (pool_coming pool before) before (Fault (place_at (inside pool value) pool.line) kind) (below after)
         value_fails fault kind failed done =
-            pool_stop after (Fault (place_at (inside pool value) pool.line) kind) (point_comes (point value) 0 put paid after (Some kind) (Fault (place_at (inside pool value) pool.line) kind) same turn
-            (point_is (Some kind) (subst (λ (fault : Option FaultKind). IsDone (instance_work here pool.tree pool.ins outs) paid fault after) failed done)) (λ now. refl) over_put) (λ same. cc)
+            pool_stop after (Fault (place_at (inside pool value) pool.line) kind) (point_comes (point value) 0 put spent behind (Some kind) (Fault (place_at (inside pool value) pool.line) kind) same_spent turn
+            (point_is (Some kind) (subst (λ (fault : Option FaultKind). IsDone (instance_work here pool.tree pool.ins outs) spent fault behind) failed done)) (λ now. refl) refl) (λ same. cc)
 
   -- the scope inside the memory of its elements
   pub pool_entered : (old entered after now : Reached) (held : ℤ) (end : End) → entered.memories ≡ pool_memory pool held ∷ old.memories → entered.turns ≡ old.turns → now.memories ≡ drop 1 after.memories → now.turns ≡ after.turns →

@@ -1,2 +1,4 @@
+pub mod Body
+pub mod Own
 pub mod Pool
 pub mod Taking

@@ -1,5 +1,6 @@
 -- A consume scope whose body is one tasklet.
-use Rattle.std.specs.Prelude.{◌≡◌, ℕ, suc, ℤ, List}
+use Rattle.std.specs.Prelude.{◌≡◌, ℕ, suc, ◌<◌, ℤ, List, length}
+use Rattle.std.specs.List.{AllZip}
 use Rattle.sd_work.specs.Memory.{Memory}
 use Rattle.sd_work.specs.BigStep.{Reached, Coming}
 use Rattle.sd_graph.specs.PlainTree.{TaskletTree, task, no_item, and_item, ItemTrees}
@@ -13,9 +14,12 @@ use Rattle.sd_machine.specs.declared.cell.Station.{Station}
 use Rattle.sd_machine.specs.declared.end.End.{End}
 use Rattle.sd_machine.specs.declared.end.End.TheVariants as ends
 use Rattle.sd_instance.specs.declared.accesses.Accesses.{Accesses}
-use Rattle.sd_instance.specs.Known.{IsSetUp, AreKnown, AreOutward}
+use Rattle.sd_instance.specs.Known.{AreKnown, AreOutward}
+use Rattle.sd_consume.specs.declared.source.Source.{Source}
 use Rattle.sd_consume.specs.declared.taking.TakingEnd.{TakingEnd}
 use Rattle.sd_consume.specs.declared.taking.TakingEnd.TheVariants.{Finished, Fault, OutOfTurns}
+use Rattle.sd_consume.specs.Body.{IsBody}
+use Rattle.sd_consume.specs.Own.{IsSource}
 use Rattle.sd_consume.specs.Taking.{consume_coming}
 
 -- a tasklet in its line as the body of a consume scope, and where the scope stands
@@ -50,13 +54,15 @@ pool_memory pool value = element_memory pool.context pool.element pool.private v
 abbrev pub pool_coming : Pool → Reached → (most : ℕ) → Coming Place
 pool_coming pool now most = consume_coming (body_of pool) pool.stream pool.element pool.private pool.context now most
 
--- code that is given this, with these accesses, for the elements of a scope, whose values come from here
-pub record IsPool (compiled : Compiled) (given : Inputs) (accesses : Accesses) (from : Station) (element : ℕ) (outs : List Link) (here : Context) (pool : Pool) : Type 0 where
-  pub set : IsSetUp pool.tree pool.ins outs compiled given here
+-- code that is given this, with these accesses and sources of its inputs, for the elements of a scope, whose values come from here
+pub record IsPool (compiled : Compiled) (given : Inputs) (accesses : Accesses) (sources : List Source) (from : Station) (element : ℕ) (outs : List Link) (here : Context) (pool : Pool) : Type 0 where
+  pub body : IsBody pool.tree pool.ins outs compiled given here
   pub known : AreKnown pool.tree pool.ins outs 0 here here accesses
   pub outward : AreOutward here outs
   pub same_outs : pool.outs ≡ outs
   pub same_element : element ≡ pool.element
+  pub there : pool.element < length pool.context.containers
+  pub inputs : AllZip (IsSource element) accesses.reads.items sources
   pub first : ℤ
   pub stands : here ≡ inside pool first
   pub level : from.level ≡ suc (pool.context.reach pool.stream).level

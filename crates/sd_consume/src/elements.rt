@@ -5,7 +5,7 @@ ghost use Rattle.sd_graph.specs.TreeFold.{graph_tree, tasklet_tree, item_trees};
 ghost use Rattle.sd_machine.specs.ComesTo.{IsEnd};
 ghost use Rattle.sd_tcode.specs.Held.{IsReady, given};
 ghost use Rattle.sd_scope.specs.Standing.{context_of, IsInside};
-ghost use Rattle.sd_instance.specs.Known.{HasRoom};
+ghost use Rattle.sd_consume.specs.Body.{HasSingles};
 ghost use Rattle.sd_consume.specs.Pool.{IsPool, pool_of, pool_coming};
 ghost use Rattle.sd_consume.specs.Taking.{consume_coming};
 
@@ -108,9 +108,9 @@ fn run_set_up(
     machine: &mut Machine,
 ) -> Result<End, NoMemory>
     requires ready { IsReady setup.old.runner.code setup.old.runner.frame }
-    requires room { HasRoom (length setup.old.accesses.reads.items) (length setup.old.accesses.variables.items) (given setup.old.runner.frame) }
+    requires singles { HasSingles (length setup.old.sources.items) (given setup.old.runner.frame) }
     requires inside { IsInside (element ∷ private.now) scope.now setup.old.inner }
-    requires pool { IsPool setup.old.runner.code (given setup.old.runner.frame) setup.old.accesses setup.old.from element outs.now (context_of (graph_tree graph.now) base.now setup.old.inner)
+    requires pool { IsPool setup.old.runner.code (given setup.old.runner.frame) setup.old.accesses setup.old.sources.items setup.old.from element outs.now (context_of (graph_tree graph.now) base.now setup.old.inner)
         (pool_of (tasklet_tree tasklet.now) ins.now outs.now line stream element private.now (context_of (graph_tree graph.now) base.now scope.now)) }
     ensures { IfOk result (λ end. IsEnd (pool_coming (pool_of (tasklet_tree tasklet.now) ins.now outs.now line stream element private.now (context_of (graph_tree graph.now) base.now scope.now)) machine.old) machine.old end machine.new) }
 {
@@ -119,9 +119,9 @@ fn run_set_up(
     let end = take_values(
         alloc,
         &setup.accesses,
+        &setup.sources,
         &mut setup.runner,
         setup.from,
-        element,
         outs,
         graph,
         base,

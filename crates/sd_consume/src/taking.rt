@@ -1,17 +1,19 @@
 //! The values of a stream one after another.
-ghost use Rattle.std.specs.Prelude.{◌≡◌, ℤ, length, IfOk};
+ghost use Rattle.std.specs.Prelude.{ℕ, ℤ, length, IfOk};
 ghost use Rattle.sd_graph.specs.TreeFold.{graph_tree};
 ghost use Rattle.sd_tcode.specs.Held.{IsReady, given};
 ghost use Rattle.sd_machine.specs.ComesTo.{IsEnd};
 ghost use Rattle.sd_scope.specs.Standing.{context_of};
 ghost use Rattle.sd_row.specs.Point.{IsOver, below};
-ghost use Rattle.sd_instance.specs.Known.{HasRoom};
+ghost use Rattle.sd_consume.specs.Body.{HasSingles};
 ghost use Rattle.sd_consume.specs.Pool.{Pool, IsPool, pool_memory, pool_coming, end_of_taking};
 
+use crate::element::run_element;
+use crate::source::Source;
 use sd_graph::{FaultKind, Link, Sdfg};
-use sd_instance::{Accesses, Runner, run_instance};
+use sd_instance::{Accesses, Runner};
 use sd_list::NoMemory;
-use sd_machine::{Cell, Machine, Station};
+use sd_machine::{Machine, Station};
 use sd_scope::{Base, Scope};
 use std::alloc::Global;
 
@@ -25,13 +27,13 @@ pub(crate) enum TakingEnd {
     OutOfTurns,
 }
 
-/// Takes the values of a stream until it is empty and runs the code for each, inside the memory of the elements.
+/// Takes the values of a stream until it is empty and runs the code for each, inside the memory of an element.
 pub(crate) fn take_values(
     alloc: Global,
     accesses: &Accesses,
+    sources: &[Source],
     runner: &mut Runner,
     from: Station,
-    element: u32,
     outs: &[Link],
     graph: &Sdfg,
     base: &Base,
@@ -39,32 +41,25 @@ pub(crate) fn take_values(
     machine: &mut Machine,
 ) -> Result<TakingEnd, NoMemory>
     requires ready { IsReady runner.old.code runner.old.frame }
-    requires room { HasRoom (length accesses.now.reads.items) (length accesses.now.variables.items) (given runner.old.frame) }
-    ensures { IfOk result (λ end. (pool : Pool) (held : ℤ) → IsPool runner.old.code (given runner.old.frame) accesses.now from element outs.now (context_of (graph_tree graph.now) base.now inner.now) pool
+    requires singles { HasSingles (length sources.now) (given runner.old.frame) }
+    ensures { IfOk result (λ end. (pool : Pool) (held : ℤ) (element : ℕ) → IsPool runner.old.code (given runner.old.frame) accesses.now sources.now from element outs.now (context_of (graph_tree graph.now) base.now inner.now) pool
         → IsOver (pool_memory pool held) machine.old
         → IsEnd (pool_coming pool (below machine.old)) (below machine.old) (end_of_taking pool end) (below machine.new)) }
 {
-    let cell = Cell {
-        station: Station {
-            level: 0,
-            container: element,
-        },
-        element: 0,
-    };
     for _ in 0..u64::MAX {
         let Some(value) = machine.take(from) else {
             return Ok(TakingEnd::Finished);
         };
-        machine.write(cell, None, value);
         if !machine.pay(true) {
             return Ok(TakingEnd::OutOfTurns);
         }
-        let fault = run_instance(
+        let fault = run_element(
             alloc,
             accesses,
+            sources,
+            value,
             &runner.code,
             &mut runner.frame,
-            0,
             outs,
             graph,
             base,

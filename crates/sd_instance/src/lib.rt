@@ -20,5 +20,6 @@ pub use fit::{
     is_stream,
 };
 pub use instance::run_instance;
+pub use performing::perform_all;
 pub use runner::{Runner, ones};
 pub use target::Target;

@@ -111,15 +111,15 @@ nothing_asked : {A : Type 0} (members : List A) → list_all (λ (member : A). t
 nothing_asked [] = refl
 nothing_asked (member ∷ members) = nothing_asked members
 
-range_passed : (range : Range) → is_range_passed names_tests range ≡ true
+pub range_passed : (range : Range) → is_range_passed names_tests range ≡ true
 range_passed range = nothing_asked range.ends
 
-dims_passed : (dims : List Dim) → list_all (is_dim_passed names_tests) dims ≡ true
+pub dims_passed : (dims : List Dim) → list_all (is_dim_passed names_tests) dims ≡ true
 dims_passed [] = refl
 dims_passed (Index at ∷ dims) = dims_passed dims
 dims_passed (Span range ∷ dims) = rw (range_passed range) (dims_passed dims)
 
-links_passed : (links : List Link) → are_links_passed names_tests links ≡ true
+pub links_passed : (links : List Link) → are_links_passed names_tests links ≡ true
 links_passed [] = refl
 links_passed (link ∷ links) = rw (dims_passed link.memlet.subset.dims) (links_passed links)
 

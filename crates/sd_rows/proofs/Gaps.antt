@@ -86,3 +86,13 @@ divided first last apart gaps k gap none first_fits last_fits gap_fits low high 
     let fits_all : FitsSigned w64 (apart *ℤ pos gaps) = subst (λ z. FitsSigned w64 z) between (difference_fits first last first_fits last_fits low high) in
     let fits_one : FitsSigned w64 apart = subst (λ z. FitsSigned w64 z) (quotient apart gaps some) (quot_fits w64 (apart *ℤ pos gaps) (pos gaps) fits_all (omega (arith, ints, some))) in
     ap (λ step. spaced first step k) (ap (λ z. to_z w64 (of_z w64 z)) is ∙ to_z-of_z w64 apart fits_one)
+
+-- two distances between the same numbers are one
+pub same_distance : (first last step apart : ℤ) (gaps k : ℕ) → last ≡ spaced first step gaps → last ≡ spaced first apart gaps → k ≤ gaps → spaced first step k ≡ spaced first apart k
+same_distance first last step apart zero zero by to within = ap (λ z. first +ℤ z) (*ℤ-zero step ∙ sym (*ℤ-zero apart))
+same_distance first last step apart zero (suc k) by to within = absurd (omega (arith, within))
+same_distance first last step apart (suc gaps) k by to within =
+    let some : 0 < suc gaps = omega arith in
+    let whole : step *ℤ pos (suc gaps) ≡ apart *ℤ pos (suc gaps) = sym (difference first last (step *ℤ pos (suc gaps)) by) ∙ difference first last (apart *ℤ pos (suc gaps)) to in
+    let same : step ≡ apart = sym (quotient step (suc gaps) some) ∙ ap (λ z. quot_z z (pos (suc gaps))) whole ∙ quotient apart (suc gaps) some in
+    ap (λ step. spaced first step k) same

@@ -1,8 +1,10 @@
+pub mod Bands
 pub mod Free
 pub mod Fresh
 pub mod Gaps
 pub mod KeptSteps
 pub mod Matched
+pub mod RowBetween
 pub mod PlacesOfRange
 pub mod Points
 pub mod RowEnds

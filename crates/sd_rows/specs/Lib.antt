@@ -1,4 +1,5 @@
 pub mod Along
+pub mod Band
 pub mod Code
 pub mod Kept
 pub mod Map

@@ -81,7 +81,7 @@ pub(crate) fn track_of(
     let Some(end) = link_cell(alloc, task.graph, task.base, last, link, &[])? else {
         return Ok(None);
     };
-    match spaced_between(begin.element, end.element, gaps) {
+    match spaced_between(begin.element, end.element, gaps, 0) {
         Some(elements) => Ok(Some(Track {
             station: begin.station,
             elements,

@@ -8,10 +8,12 @@
 //! map of another kind alone.
 #![tactic(auto)]
 
+mod band;
 mod between;
 mod instance;
 mod kept;
 mod map;
+mod moving;
 mod pointwise;
 mod rows;
 mod spacing;

@@ -1,4 +1,4 @@
-ghost use Rattle.std.specs.Prelude.{◌≡◌, [], ◌++◌, true, IfOk, OnOk};
+ghost use Rattle.std.specs.Prelude.{◌≡◌, [], ◌++◌, true, IsTrue, IfOk, OnOk};
 ghost use Rattle.std.specs.Option.{MatchOption};
 ghost use Rattle.std.specs.Bool.{⊤};
 ghost use Rattle.std.specs.List.{AllByRecursion};
@@ -9,9 +9,11 @@ ghost use Rattle.sd_machine.specs.Coming.{map_coming};
 ghost use Rattle.sd_scope.specs.Standing.{context_of, IsInside};
 ghost use Rattle.sd_row.specs.Setting.{row_coming, IsRowOf};
 ghost use Rattle.sd_rows.specs.Along.{IsLast};
+ghost use Rattle.sd_rows.specs.Band.{IsAcross, IsBand};
 ghost use Rattle.sd_rows.specs.Code.{IsInstance, AreColumnsOf};
 ghost use Rattle.sd_rows.specs.Map.{tree_of, coming_of, row_at, own_memory};
 
+use crate::band::{Band, across_of};
 use crate::between::row_between;
 use crate::instance::Instance;
 use crate::kept::{kept_code, run_kept_rows};
@@ -109,16 +111,20 @@ fn run_all(
     let mut first = task.scope.inside(alloc, task.private)?;
     let mut last = task.scope.inside(alloc, task.private)?;
     let mut own = Memory::of_scope(alloc, &task.graph.containers, task.private)?;
+    let across = across_of(alloc, outer, steps, &task.scope.values)?;
+    let mut band = Band::none(alloc, steps);
     while rows.next() {
         let end = run_one(
             alloc,
             task,
             instance,
             steps,
+            across,
             outer,
             rows.at(),
             &mut first,
             &mut last,
+            &mut band,
             &mut own,
             machine,
         )?;
@@ -130,16 +136,18 @@ fn run_all(
     Ok(End::Finished)
 }
 
-/// One row: by tracks, or else point by point.
+/// One row: by the tracks of a band or its own, or else point by point.
 fn run_one(
     alloc: Global,
     task: &TaskMap<'_>,
     instance: &mut Instance,
     steps: &Steps,
+    across: Option<Steps>,
     outer: &[(u32, Range)],
     row: &[i128],
     first: &mut Scope,
     last: &mut Scope,
+    band: &mut Band,
     own: &mut Memory,
     machine: &mut Machine,
 ) -> Result<End, NoMemory>
@@ -147,22 +155,76 @@ fn run_one(
     requires instance { IsInstance (tree_of task.now) task.now.ins.now task.now.outs.now instance.old.code instance.old.frame }
     requires columns { AreColumnsOf instance.old.code instance.old.columns }
     requires steps { IsLast task.now.params.now outer.now task.now.scope.now.values.values steps.now }
+    requires across { MatchOption across ⊤ (λ across. IsAcross outer.now task.now.scope.now.values.values across steps.now) }
     requires first { IsInside task.now.private.now task.now.scope.now first.old }
     requires last { IsInside task.now.private.now task.now.scope.now last.old }
+    requires band { IsBand task.now steps.now instance.old.code band.old }
     requires own { own.old.contents ≡ own_memory task.now }
     ensures end { IfOk result (λ end. IsEnd (row_coming (row_at task.now row.now steps.now) 0 steps.now.count machine.old) machine.old end machine.new) }
     ensures instance { OnOk result (IsInstance (tree_of task.now) task.now.ins.now task.now.outs.now instance.new.code instance.new.frame) }
     ensures columns { OnOk result (AreColumnsOf instance.new.code instance.new.columns) }
     ensures first { OnOk result (IsInside task.now.private.now task.now.scope.now first.new) }
     ensures last { OnOk result (IsInside task.now.private.now task.now.scope.now last.new) }
+    ensures band { OnOk result (IsBand task.now steps.now instance.new.code band.new) }
     ensures own { OnOk result (own.new.contents ≡ own_memory task.now) }
 {
+    if find_in_band(
+        alloc,
+        task,
+        &instance.code,
+        steps,
+        across,
+        outer,
+        row,
+        first,
+        last,
+        band,
+    )? {
+        let tracks = &band.tracks;
+        return run_tracks(
+            alloc, task, tracks, instance, steps, row, first, own, machine,
+        );
+    }
     match find_tracks(alloc, task, &instance.code, steps, outer, row, first, last)? {
         Some(tracks) => run_tracks(
             alloc, task, &tracks, instance, steps, row, first, own, machine,
         ),
         None => run_points(alloc, task, steps, row, first, machine),
     }
+}
+
+/// Goes on to a row in the band, or in another one that begins with it; `false` where it has no tracks in it.
+fn find_in_band(
+    alloc: Global,
+    task: &TaskMap<'_>,
+    code: &Code,
+    steps: &Steps,
+    across: Option<Steps>,
+    outer: &[(u32, Range)],
+    row: &[i128],
+    first: &mut Scope,
+    last: &mut Scope,
+    band: &mut Band,
+) -> Result<bool, NoMemory>
+    requires scalars { AllByRecursion (λ link. is_scalar link.memlet.subset.dims ≡ true) (task.now.ins.now ++ task.now.outs.now) }
+    requires steps { IsLast task.now.params.now outer.now task.now.scope.now.values.values steps.now }
+    requires across { MatchOption across ⊤ (λ across. IsAcross outer.now task.now.scope.now.values.values across steps.now) }
+    requires first { IsInside task.now.private.now task.now.scope.now first.old }
+    requires last { IsInside task.now.private.now task.now.scope.now last.old }
+    requires band { IsBand task.now steps.now code.now band.old }
+    ensures tracks { IfOk result (λ found. IsTrue found → IsRowOf (row_at task.now row.now steps.now) code.now band.new.tracks steps.now.count) }
+    ensures first { OnOk result (IsInside task.now.private.now task.now.scope.now first.new) }
+    ensures last { OnOk result (IsInside task.now.private.now task.now.scope.now last.new) }
+    ensures band { OnOk result (IsBand task.now steps.now code.now band.new) }
+{
+    if band.go_on(task, steps, outer, row)? {
+        return Ok(true);
+    }
+    let Some(across) = across else {
+        return Ok(false);
+    };
+    *band = Band::from(alloc, task, code, steps, &across, outer, row, first, last)?;
+    band.go_on(task, steps, outer, row)
 }
 
 /// The tracks of a row, where it has a point and each access is inside at both ends.
@@ -219,6 +281,7 @@ fn run_tracks(
     ensures end { IfOk result (λ end. IsEnd (row_coming (row_at task.now row.now steps.now) 0 steps.now.count machine.old) machine.old end machine.new) }
     ensures instance { OnOk result (IsInstance (tree_of task.now) task.now.ins.now task.now.outs.now instance.new.code instance.new.frame) }
     ensures columns { OnOk result (AreColumnsOf instance.new.code instance.new.columns) }
+    ensures code { instance.new.code ≡ instance.old.code }
     ensures inside { OnOk result (IsInside task.now.private.now task.now.scope.now inner.new) }
     ensures own { OnOk result (own.new.contents ≡ own_memory task.now) }
 {

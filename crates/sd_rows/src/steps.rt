@@ -78,7 +78,7 @@ fn steps_from(variable: u32, begin: i128, step: i128, count: u128) -> Option<Ste
 }
 
 /// A number behind others.
-fn followed_by(alloc: Global, row: &[i128], value: i128) -> Result<Vec<i128>, NoMemory>
+pub(crate) fn followed_by(alloc: Global, row: &[i128], value: i128) -> Result<Vec<i128>, NoMemory>
     ensures { IfOk result (λ point. point.items ≡ row.now ++ value ∷ []) }
 {
     let mut point = Vec::with_capacity(alloc, row.len().saturating_add(1))?;

@@ -148,7 +148,7 @@ fn track_of_places(
     else {
         return Ok(None);
     };
-    match spaced_between(begin.element, end.element, gaps) {
+    match spaced_between(begin.element, end.element, gaps, 0) {
         Some(elements) => Ok(places_on(
             Track {
                 station: begin.station,

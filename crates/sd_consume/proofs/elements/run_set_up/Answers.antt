@@ -12,7 +12,7 @@ use Rattle.sd_scope.specs.Standing.{context_of}
 use Rattle.sd_instance.proofs.Bodies.{containers_in}
 use Rattle.sd_consume.specs.declared.taking.TakingEnd.{TakingEnd}
 use Rattle.sd_consume.specs.Pool.{pool_of, pool_memory, pool_coming, inside, end_of_taking}
-use Rattle.sd_consume.proofs.Pools.{pool_entered}
+use Rattle.sd_consume.proofs.Pools.{pool_entered, same_sources}
 use Rattle.sd_consume.proofs.elements.run_set_up.Goals as goal
 
 pub returns-in-Finished : goal.returns-in-Finished
@@ -25,7 +25,7 @@ returns-in-Finished c =
     let entered : c.enter.new.self.memories ≡ pool_memory pool (pos 0) ∷ c.args.machine.now.memories = c.in_ok-enter.ensures.memories ∙ ap (λ (own : Memory). own ∷ c.args.machine.now.memories) own in
     subst (λ (end : TakingEnd). IsEnd (pool_coming pool c.args.machine.now) c.args.machine.now (end_of_taking pool end) c.leave.new.self) c.in-Finished.is
     (pool_entered pool c.args.machine.now c.enter.new.self c.take_values.new.machine c.leave.new.self (pos 0) (end_of_taking pool c.in_ok-end.end) entered c.in_ok-enter.ensures.turns c.leave.ensures.memories c.leave.ensures.turns
-    (c.in_ok-end.ensures pool (pos 0) c.requires.pool))
+    (c.in_ok-end.ensures pool (pos 0) c.args.element (same_sources _ _ _ _ _ _ _ _ _ _ c.deref.ensures.value c.requires.pool)))
 
 pub returns-in-OutOfTurns : goal.returns-in-OutOfTurns
 returns-in-OutOfTurns c =
@@ -37,7 +37,7 @@ returns-in-OutOfTurns c =
     let entered : c.enter.new.self.memories ≡ pool_memory pool (pos 0) ∷ c.args.machine.now.memories = c.in_ok-enter.ensures.memories ∙ ap (λ (own : Memory). own ∷ c.args.machine.now.memories) own in
     subst (λ (end : TakingEnd). IsEnd (pool_coming pool c.args.machine.now) c.args.machine.now (end_of_taking pool end) c.leave.new.self) c.in-OutOfTurns.is
     (pool_entered pool c.args.machine.now c.enter.new.self c.take_values.new.machine c.leave.new.self (pos 0) (end_of_taking pool c.in_ok-end.end) entered c.in_ok-enter.ensures.turns c.leave.ensures.memories c.leave.ensures.turns
-    (c.in_ok-end.ensures pool (pos 0) c.requires.pool))
+    (c.in_ok-end.ensures pool (pos 0) c.args.element (same_sources _ _ _ _ _ _ _ _ _ _ c.deref.ensures.value c.requires.pool)))
 
 pub returns-in_ok-place-in-Fault : goal.returns-in_ok-place-in-Fault
 returns-in_ok-place-in-Fault c =
@@ -54,4 +54,4 @@ returns-in_ok-place-in-Fault c =
     subst (λ (place : Place). IsEnd (pool_coming pool c.args.machine.now) c.args.machine.now (ends.Fault place c.in-Fault.kind) c.leave.new.self) (sym place_is)
     (subst (λ (end : TakingEnd). IsEnd (pool_coming pool c.args.machine.now) c.args.machine.now (end_of_taking pool end) c.leave.new.self) c.in-Fault.is
     (pool_entered pool c.args.machine.now c.enter.new.self c.take_values.new.machine c.leave.new.self (pos 0) (end_of_taking pool c.in_ok-end.end) entered c.in_ok-enter.ensures.turns c.leave.ensures.memories c.leave.ensures.turns
-    (c.in_ok-end.ensures pool (pos 0) c.requires.pool)))
+    (c.in_ok-end.ensures pool (pos 0) c.args.element (same_sources _ _ _ _ _ _ _ _ _ _ c.deref.ensures.value c.requires.pool))))

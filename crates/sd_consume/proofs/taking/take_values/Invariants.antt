@@ -1,10 +1,10 @@
-use Rattle.std.proofs.Common.{◌≡◌, ℤ, length}
+use Rattle.std.proofs.Common.{◌≡◌, ℕ, ℤ, length}
 use Rattle.sd_graph.specs.TreeFold.{graph_tree}
 use Rattle.sd_tcode.specs.Held.{IsReady, given}
 use Rattle.sd_scope.specs.Standing.{context_of}
 use Rattle.sd_row.specs.Point.{IsOver, below}
 use Rattle.sd_row.proofs.Comes.{IsLeft}
-use Rattle.sd_instance.specs.Known.{HasRoom}
+use Rattle.sd_consume.specs.Body.{HasSingles}
 use Rattle.sd_consume.specs.Taking.{takes_coming}
 use Rattle.sd_consume.specs.Pool.{Pool, IsPool, body_of, pool_memory, pool_coming}
 use Rattle.sd_consume.proofs.taking.take_values.Given as goal
@@ -12,12 +12,13 @@ use Rattle.sd_consume.proofs.taking.take_values.Given as goal
 -- what the takes that are left come to, the scope comes to
 abbrev pub invariant-loop : goal.invariant-loop
 invariant-loop l = record {
-  left : (pool : Pool) (held : ℤ) → IsPool l.fn.runner.code (given l.fn.runner.frame) l.accesses l.from l.element l.outs (context_of (graph_tree l.graph) l.base l.inner) pool → IsOver (pool_memory pool held) l.fn.machine →
+  left : (pool : Pool) (held : ℤ) (element : ℕ) → IsPool l.fn.runner.code (given l.fn.runner.frame) l.accesses l.sources l.from element l.outs (context_of (graph_tree l.graph) l.base l.inner) pool → IsOver (pool_memory pool held) l.fn.machine →
       IsLeft (pool_coming pool (below l.fn.machine)) (below l.fn.machine) (takes_coming (body_of pool) pool.stream pool.element pool.private pool.context (below l.machine)) (below l.machine);
-  over : (pool : Pool) (held : ℤ) → IsPool l.fn.runner.code (given l.fn.runner.frame) l.accesses l.from l.element l.outs (context_of (graph_tree l.graph) l.base l.inner) pool → IsOver (pool_memory pool held) l.fn.machine →
-      (value : ℤ) × IsOver (pool_memory pool value) l.machine;
+  over : (pool : Pool) (held : ℤ) (element : ℕ) → IsPool l.fn.runner.code (given l.fn.runner.frame) l.accesses l.sources l.from element l.outs (context_of (graph_tree l.graph) l.base l.inner) pool → IsOver (pool_memory pool held) l.fn.machine →
+      IsOver (pool_memory pool held) l.machine;
   code : l.runner.code ≡ l.fn.runner.code;
   ready : IsReady l.runner.code l.runner.frame;
-  room : HasRoom (length l.accesses.reads.items) (length l.accesses.variables.items) (given l.runner.frame);
+  singles : HasSingles (length l.sources) (given l.runner.frame);
   extents : (given l.runner.frame).extents ≡ (given l.fn.runner.frame).extents;
+  variables : (given l.runner.frame).variables ≡ (given l.fn.runner.frame).variables;
 }

@@ -18,6 +18,7 @@ loop-alloc-init c =
       columns = c.requires.columns;
       first = c.in_ok-first.ensures;
       last = c.in_ok-last.ensures;
+      band = c.none-band.ensures task c.args.steps.now c.args.instance.now.code;
       own = c.in_ok-own.ensures.contents ∙ ap (λ containers. private_memory containers task.private.now) (containers_in task.graph.now);
     }
 
@@ -32,6 +33,7 @@ loop-alloc-preserved c =
       columns = c.in_ok-end.ensures.columns;
       first = c.in_ok-end.ensures.first;
       last = c.in_ok-end.ensures.last;
+      band = c.in_ok-end.ensures.band;
       own = c.in_ok-end.ensures.own;
     }
 

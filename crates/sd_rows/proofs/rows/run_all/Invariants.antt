@@ -1,6 +1,7 @@
 use Rattle.std.proofs.Common.{◌≡◌, length}
 use Rattle.sd_scope.specs.Standing.{IsInside}
 use Rattle.sd_row.proofs.Comes.{IsLeft}
+use Rattle.sd_rows.specs.Band.{IsBand}
 use Rattle.sd_rows.specs.Code.{IsInstance, AreColumnsOf}
 use Rattle.sd_rows.specs.Map.{tree_of, context_at, coming_of, own_memory}
 use Rattle.sd_rows.proofs.RowsOfMap.{rows_coming}
@@ -15,6 +16,7 @@ invariant-loop-alloc l = record {
   columns : AreColumnsOf l.instance.code l.instance.columns;
   first : IsInside l.task.private.now l.task.scope.now l.first;
   last : IsInside l.task.private.now l.task.scope.now l.last;
+  band : IsBand l.task l.steps l.instance.code l.band;
   own : l.own.contents ≡ own_memory l.task;
 }
 

@@ -1,5 +1,5 @@
 use Rattle.std.proofs.Common.{refl}
-use Rattle.sd_rows.specs.Map.{context_at, own_memory}
+use Rattle.sd_rows.specs.Map.{context_at}
 use Rattle.sd_rows.proofs.RowEnds.{tracks_end, row_told, given_back, kept_so}
 use Rattle.sd_rows.proofs.rows.run_tracks.Goals as goal
 

@@ -1,0 +1,4 @@
+pub mod DrawnNodes
+pub mod CountedNodes
+pub mod Noted
+pub mod Agreed

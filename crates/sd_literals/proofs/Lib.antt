@@ -1,0 +1,2 @@
+pub mod LiftedLists
+pub mod LiftedMeaning

@@ -1,0 +1,13 @@
+pub mod Places
+pub mod Bound
+pub mod Entries
+pub mod Modes
+pub mod Known
+pub mod Own
+pub mod OwnOfStates
+pub mod Outside
+pub mod Uses
+pub mod Items
+pub mod States
+pub mod Functions
+pub mod Kept

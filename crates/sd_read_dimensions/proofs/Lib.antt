@@ -1,0 +1,11 @@
+pub mod Connectors
+pub mod Meanings
+pub mod Accepted
+pub mod Wholes
+pub mod Stack
+pub mod Kept
+pub mod Held
+pub mod Adding
+pub mod Lines
+pub mod Ends
+pub mod Read
