@@ -1,5 +1,5 @@
 -- Columns side by side.
-use Rattle.std.proofs.Common.{◌≡◌, ℕ, ◌+◌, ◌-◌, ◌*◌, ◌^◌, ◌<◌, ◌≤◌, ℤ, pos, negsuc, ◌+ℤ◌, ◌*ℤ◌, unsigned_abs, FitsSigned, w64, slice_range, List, [], ◌∷◌, length, drop, get_or, slice_index_or, slice_set, Bool, true, false, nat_eq, Vec, Ok, refl, sym, ap, ◌∙◌, arith, subst}
+use Rattle.std.proofs.Common.{◌≡◌, ℕ, zero, suc, ◌+◌, ◌-◌, ◌*◌, ◌^◌, ◌<◌, ◌≤◌, ℤ, pos, negsuc, ◌+ℤ◌, ◌*ℤ◌, unsigned_abs, FitsSigned, w64, slice_range, List, [], ◌∷◌, length, drop, get_or, slice_index_or, slice_set, Bool, true, false, nat_eq, Vec, Ok, refl, sym, ap, ◌∙◌, arith, subst}
 use Rattle.std.proofs.lemmas.Bool.{eqb-true, eqb-false}
 use Rattle.std.specs.declared.alloc.Global.{Global}
 use Rattle.std.proofs.Math.ListN.{drop_of_length-le}
@@ -15,6 +15,7 @@ use Rattle.std.proofs.lemmas.Int.{int_wrap-add_left, int_wrap_fits}
 use Rattle.sd_num.specs.Wrapped.{wrapped}
 use Rattle.sd_columns.specs.declared.spacing.Spaced.{Spaced}
 use Rattle.sd_columns.specs.Columns.{value_on, registers_of, state_of, register_count}
+use Rattle.sd_columns.specs.Products.{added}
 
 -- one value more is so
 pub set_more : (Is : ℕ → ℤ → Type 0) (column : List ℤ) (number : ℕ) (value : ℤ) → number < length column → Is number value →
@@ -115,3 +116,11 @@ in_part cells part first end i is below within =
     ap (λ part. slice_index_or part i (pos 0)) is
     ∙ get_or-take (end - first) (drop first cells) i (pos 0) (omega (arith, below))
     ∙ get_or-drop first cells i (pos 0)
+
+-- ---- values that are added up
+
+-- the same values come to the same sum
+pub same_added : (value other : ℕ → ℤ) (number : ℤ) (count : ℕ) → ((run : ℕ) → run < count → value run ≡ other run) → added value number count ≡ added other number count
+same_added value other number zero same = refl
+same_added value other number (suc count) same =
+    λ i. wrapped (same_added value other number count (λ run below. same run (omega (arith, below))) i +ℤ same count (omega arith) i)

@@ -79,7 +79,7 @@ fn spread_variables(
 }
 
 /// Whether the code has a register for each read and each variable of a row.
-fn is_for(code: &Code, row: &Row) -> bool
+pub(crate) fn is_for(code: &Code, row: &Row) -> bool
     ensures inputs { IsTrue result → code.now.layout.inputs ≡ length row.now.reads.items }
     ensures variables { IsTrue result → code.now.layout.variables ≡ length row.now.variables.items }
     ensures safe { IsSafe code.now }
