@@ -107,6 +107,3 @@ pub fn are_harmless(
     }
     are_apart(alloc, around, own, one, other)
 }
-
-#[cfg(test)]
-mod tests;

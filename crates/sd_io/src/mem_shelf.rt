@@ -86,32 +86,3 @@ impl Shelf for MemShelf {
         Vec::from_slice(alloc, content).map_err(|_| ShelfError::Memory)
     }
 }
-
-#[cfg(test)]
-mod tests {
-    use super::*;
-    use std::test::Fail;
-
-    #[test]
-    fn listed_calls_and_missing_files_fail(rt: HostRuntime) -> Result<(), Fail> {
-        let alloc = rt.alloc();
-        let mut files = Vec::new(alloc);
-        let content = Vec::from_slice(alloc, b"first".as_slice())?;
-        files.push((String::from_str(alloc, "a")?, content))?;
-        let content = Vec::from_slice(alloc, &[b'x'; 10_000])?;
-        files.push((String::from_str(alloc, "long")?, content))?;
-        let mut shelf = MemShelf::new(files, Vec::from_slice(alloc, &[1])?);
-        for (name, most, refusal) in [
-            ("a", 5, None),
-            ("a", 5, Some(ShelfError::Failed)),
-            ("a", 5, None),
-            ("a", 4, Some(ShelfError::TooLong)),
-            ("b", 5, Some(ShelfError::Failed)),
-        ] {
-            assert_eq!(rt; shelf.read(alloc, name, most).err(), refusal, "{name}");
-        }
-        assert_eq!(rt; shelf.read(alloc, "a", 5)?.as_slice(), b"first".as_slice());
-        assert_eq!(rt; shelf.read(alloc, "long", 10_000)?.len(), 10_000);
-        Ok(())
-    }
-}

@@ -46,29 +46,3 @@ pub trait Shelf {
         ensures faults_never_fall { (other : List ℕ) → faults self.old other ≤ faults self.new other }
         ensures overruns_never_fall { (other : List ℕ) → overruns self.old other ≤ overruns self.new other };
 }
-
-#[cfg(test)]
-mod tests {
-    use super::*;
-    use crate::sink::SinkError;
-    use std::test::Fail;
-
-    #[test]
-    fn each_error_has_its_text(rt: HostRuntime) -> Result<(), Fail> {
-        let alloc = rt.alloc();
-        for (error, text) in [
-            (ShelfError::Failed, "the file cannot be read"),
-            (ShelfError::TooLong, "the file is too long"),
-            (ShelfError::Memory, "out of memory"),
-        ] {
-            assert_eq!(rt; format!(in alloc; "{error}")?.as_str(), text);
-        }
-        for (error, text) in [
-            (SinkError::Failed, "the output cannot be written"),
-            (SinkError::Memory, "out of memory"),
-        ] {
-            assert_eq!(rt; format!(in alloc; "{error}")?.as_str(), text);
-        }
-        Ok(())
-    }
-}

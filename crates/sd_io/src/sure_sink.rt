@@ -49,21 +49,3 @@ impl Sink for SureSink {
             .map_err(|_| SinkError::Memory)
     }
 }
-
-#[cfg(test)]
-mod tests {
-    use super::*;
-    use std::test::Fail;
-
-    #[test]
-    fn pieces_stand_in_the_order_written(rt: HostRuntime) -> Result<(), Fail> {
-        let mut sink = SureSink::new(rt.alloc());
-        for piece in ["one\n", "", "two\n"] {
-            sink.write(piece.as_bytes())?;
-        }
-        assert_eq!(rt; sink.bytes(), b"one\ntwo\n".as_slice());
-        sink.write(&[b'x'; 10_000])?;
-        assert_eq!(rt; sink.bytes().len(), 10_008);
-        Ok(())
-    }
-}

@@ -98,6 +98,3 @@ impl<T> From<Vec<T>> for Sequence<T> {
         Sequence { items }
     }
 }
-
-#[cfg(test)]
-mod tests;

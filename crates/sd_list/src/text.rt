@@ -61,6 +61,3 @@ impl From<String> for Text {
         Text { text }
     }
 }
-
-#[cfg(test)]
-mod tests;

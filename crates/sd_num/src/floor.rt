@@ -38,32 +38,3 @@ pub fn floor_mod(a: i64, b: i64) -> Option<i64>
     let (_, remainder) = divided(a, b)?;
     Some(remainder)
 }
-
-#[cfg(test)]
-mod tests {
-    use super::*;
-
-    #[test]
-    fn quotients_round_down_and_remainders_have_the_divisors_sign(rt: HostRuntime) {
-        for (a, b, quotient, remainder) in [
-            (7, 2, 3, 1),
-            (-7, 2, -4, 1),
-            (7, -2, -4, -1),
-            (-7, -2, 3, -1),
-            (6, 3, 2, 0),
-            (-6, 3, -2, 0),
-            (0, -5, 0, 0),
-            (i64::MIN, -1, i64::MIN, 0),
-            (i64::MIN, 1, i64::MIN, 0),
-            (i64::MAX, i64::MIN, -1, -1),
-            (i64::MIN, i64::MAX, -2, i64::MAX - 1),
-            (-1, i64::MAX, -1, i64::MAX - 1),
-            (1, i64::MIN, -1, i64::MIN + 1),
-        ] {
-            assert_eq!(rt; floor_div(a, b), Some(quotient), "{a} // {b}");
-            assert_eq!(rt; floor_mod(a, b), Some(remainder), "{a} % {b}");
-        }
-        assert_eq!(rt; floor_div(1, 0), None);
-        assert_eq!(rt; floor_mod(0, 0), None);
-    }
-}

@@ -171,6 +171,3 @@ impl Affine {
         combination_of(alloc, &others, self.terms.coefficient(variable), by)
     }
 }
-
-#[cfg(test)]
-pub(crate) mod tests;

@@ -35,6 +35,3 @@ impl Env {
         self.values.set(variable as usize, value);
     }
 }
-
-#[cfg(test)]
-mod tests;

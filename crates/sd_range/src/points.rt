@@ -149,6 +149,3 @@ impl Points {
         self.stage = opening_stage(self.axes.as_slice());
     }
 }
-
-#[cfg(test)]
-mod tests;

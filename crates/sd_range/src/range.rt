@@ -81,6 +81,3 @@ pub(crate) fn ranges_copied(
     }
     Ok(copy)
 }
-
-#[cfg(test)]
-mod tests;

@@ -77,6 +77,3 @@ fn are_same(a: &[Dim], b: &[Dim]) -> bool
     }
     true
 }
-
-#[cfg(test)]
-mod tests;

@@ -99,6 +99,3 @@ fn sums(alloc: Global, begin: &Affine, others: &[Affine]) -> Result<Vec<Affine>,
     }
     Ok(sums)
 }
-
-#[cfg(test)]
-mod tests;

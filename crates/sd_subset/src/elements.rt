@@ -96,6 +96,3 @@ impl Elements {
         self.points.restart(env);
     }
 }
-
-#[cfg(test)]
-mod tests;

@@ -23,6 +23,3 @@ fn is_within(extent: &u64, number: &i128) -> bool
 {
     0 <= *number && *number < i128::from(*extent)
 }
-
-#[cfg(test)]
-mod tests;

@@ -5,7 +5,7 @@ use Rattle.std.proofs.lemmas.List.Elements.{All-append}
 use Rattle.sd_range.specs.Range.{IsRange, IsEvaluableRange}
 use Rattle.sd_range.specs.Points.{ranges_of}
 use Rattle.sd_range.specs.declared.range.Range.{Range}
-use Rattle.sd_range.proofs.points.tests.parameters.Goals as goal
+use Rattle.sd_value_tests.proofs.points.parameters.Goals as goal
 
 -- a range more
 ranges_more : (P : Range → Type 0) (parameters : List (ℕ × Range)) (next : ℕ × Range) → All P (ranges_of parameters) → P next.1 → All P (ranges_of (parameters ++ next ∷ []))

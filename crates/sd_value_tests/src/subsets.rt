@@ -1,10 +1,13 @@
+//! Elements of subsets, indices inside containers and subsets of subsets.
 ghost use Rattle.std.specs.Prelude.{◌≡◌, [], length, IfOk};
 ghost use Rattle.std.specs.List.{All};
 ghost use Rattle.sd_range.specs.Subset.{IsDim};
 ghost use Rattle.sd_subset.specs.Way.{IsEvaluableDim};
 
-use super::*;
-use sd_range::Affine;
+use sd_list::{NoMemory, Sequence};
+use sd_range::{Affine, Dim, Env, Range, Subset};
+use sd_subset::{Elements, compose, contains};
+use std::alloc::Global;
 use std::test::Fail;
 
 /// From a number up to another.
@@ -65,5 +68,35 @@ fn the_last_dimension_is_the_fastest(rt: HostRuntime) -> Result<(), Fail> {
     assert!(rt; goes_to(&mut elements, [9, 1, -3, 5]));
     assert!(rt; goes_to(&mut elements, [9, 1, -3, 6]));
     assert!(rt; !goes_to(&mut elements, [9, 1, -3, 6]));
+    Ok(())
+}
+
+#[test]
+fn an_index_is_inside_by_each_of_its_numbers(rt: HostRuntime) {
+    assert!(rt; contains(&[3, 4], &[2, 3]));
+    assert!(rt; contains(&[], &[]));
+    for outside in [[3, 0], [0, 4], [-1, 0], [0, -1], [i128::MAX, i128::MIN]] {
+        assert!(rt; !contains(&[3, 4], &outside));
+    }
+    assert!(rt; !contains(&[3, 4], &[0]));
+    assert!(rt; !contains(&[0], &[0]));
+}
+
+/// Whether a row of a row is that element.
+fn composes(alloc: Global) -> Result<bool, NoMemory> {
+    let outer = Subset {
+        dims: Sequence::from(vec![in alloc; Dim::Index(Affine::constant(alloc, 7))]?),
+    };
+    let inner = Subset {
+        dims: Sequence::from(vec![in alloc; Dim::Index(Affine::constant(alloc, 0))]?),
+    };
+    let composed = compose(alloc, &outer, &inner)?;
+    Ok(composed.same(&outer))
+}
+
+#[test]
+fn an_index_of_an_index_is_it(rt: HostRuntime) -> Result<(), Fail> {
+    let alloc = rt.alloc();
+    assert!(rt; composes(alloc)?);
     Ok(())
 }

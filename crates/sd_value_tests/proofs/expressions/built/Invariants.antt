@@ -1,5 +1,5 @@
 use Rattle.std.proofs.Common.{◌≡◌, take}
-use Rattle.sd_range.proofs.arithmetic.tests.built.Given as goal
+use Rattle.sd_value_tests.proofs.expressions.built.Given as goal
 
 -- the terms so far
 abbrev pub invariant-loop-variable : goal.invariant-loop-variable

@@ -1,6 +1,8 @@
+//! Lists and texts.
 ghost use Rattle.std.specs.Prelude.{◌≡◌, ◌<◌, length, slice_set};
 
-use super::*;
+use sd_list::{NoMemory, Sequence, Text};
+use std::alloc::Global;
 use std::test::Fail;
 
 /// Puts a number in the place of the item at this index.
@@ -37,5 +39,23 @@ fn an_item_is_changed_in_its_place(rt: HostRuntime) -> Result<(), Fail> {
     let mut numbers = Sequence::from(vec![in alloc; 1, 2, 3]?);
     put(&mut numbers, 1, 7);
     assert!(rt; numbers.into_vec().as_slice() == [1, 7, 3].as_slice());
+    Ok(())
+}
+
+/// The text of these words.
+fn text(alloc: Global, words: &str) -> Result<Text, NoMemory> {
+    Ok(Text::from(words.to_string(alloc)?))
+}
+
+#[test]
+fn texts_are_the_same_where_all_bytes_are(rt: HostRuntime) -> Result<(), Fail> {
+    let alloc = rt.alloc();
+    let name = text(alloc, "a_name_of_thirty_letters_$1_ä")?;
+    let copy = name.copy_of(alloc)?;
+    assert!(rt; copy.same(&name));
+    assert!(rt; !copy.same(&text(alloc, "a_name_of_thirty_letters_$1_ö")?));
+    assert!(rt; !copy.same(&text(alloc, "")?));
+    assert_eq!(rt; name.as_str(), "a_name_of_thirty_letters_$1_ä");
+    assert!(rt; copy.into_string().as_str() == "a_name_of_thirty_letters_$1_ä");
     Ok(())
 }

@@ -3,7 +3,7 @@ use Rattle.std.specs.Int.{w128}
 use Rattle.std.proofs.lemmas.Int.{to_z-of_z}
 use Rattle.std.proofs.lemmas.List.{take_more}
 use Rattle.sd_range.proofs.Normal.{normal-take}
-use Rattle.sd_range.proofs.arithmetic.tests.built.Goals as goal
+use Rattle.sd_value_tests.proofs.expressions.built.Goals as goal
 
 pub push-requires : goal.push-requires
 push-requires c =

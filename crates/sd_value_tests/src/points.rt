@@ -1,11 +1,12 @@
+//! Points of ranges and of parameters, and pieces of them.
 ghost use Rattle.std.specs.Prelude.{◌≡◌, pos, None, [], ◌∷◌, IfOk};
 ghost use Rattle.std.specs.List.{All};
 ghost use Rattle.sd_range.specs.Points.{tuples, ranges_of};
 ghost use Rattle.sd_range.specs.Range.{IsRange, IsEvaluableRange};
 
-use super::*;
-use crate::affine::Affine;
-use sd_list::Sequence;
+use sd_list::{NoMemory, Sequence};
+use sd_range::{Affine, Env, Points, Range};
+use std::alloc::Global;
 use std::test::Fail;
 
 /// The values of ten variables: 3 for the first one, and 0.
@@ -69,10 +70,21 @@ fn of_parameters(alloc: Global, count: u32) -> Result<Points, NoMemory>
     Points::of_parameters(alloc, parameters.as_slice(), &values(alloc)?)
 }
 
+/// So many times that range.
+fn ranges(alloc: Global, count: u32) -> Result<Vec<Range>, NoMemory>
+    ensures ranges { IfOk result (λ all. All IsRange all.items) }
+    ensures evaluable { IfOk result (λ all. All (IsEvaluableRange (pos 3 ∷ pos 0 ∷ pos 0 ∷ pos 0 ∷ pos 0 ∷ pos 0 ∷ pos 0 ∷ pos 0 ∷ pos 0 ∷ pos 0 ∷ [])) all.items) }
+{
+    let mut all = Vec::new(alloc);
+    for _ in 0..count {
+        all.push(two(alloc)?)?;
+    }
+    Ok(all)
+}
+
 /// The points of so many ranges.
 fn of_ranges(alloc: Global, count: u32) -> Result<Points, NoMemory> {
-    let parameters = parameters(alloc, count)?;
-    let ranges = ranges_copied(alloc, parameters.as_slice())?;
+    let ranges = ranges(alloc, count)?;
     Points::new(alloc, ranges.as_slice(), &values(alloc)?)
 }
 

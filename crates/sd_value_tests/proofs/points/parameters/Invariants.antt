@@ -2,7 +2,7 @@ use Rattle.std.proofs.Common.{pos, [], ◌∷◌}
 use Rattle.std.specs.List.{All}
 use Rattle.sd_range.specs.Range.{IsRange, IsEvaluableRange}
 use Rattle.sd_range.specs.Points.{ranges_of}
-use Rattle.sd_range.proofs.points.tests.parameters.Given as goal
+use Rattle.sd_value_tests.proofs.points.parameters.Given as goal
 
 -- the ranges so far
 abbrev pub invariant-loop-variable : goal.invariant-loop-variable

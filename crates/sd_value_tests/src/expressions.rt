@@ -1,7 +1,10 @@
+//! Sums, products and substitutions of expressions.
 ghost use Rattle.std.specs.Prelude.{◌≡◌, pos, [], ◌∷◌, IfOk};
 ghost use Rattle.sd_range.specs.Terms.{IsNormal};
 
-use super::*;
+use sd_list::NoMemory;
+use sd_range::{Affine, Terms};
+use std::alloc::Global;
 use std::test::Fail;
 
 /// The expression of this constant and these terms.

@@ -1,5 +1,7 @@
-use super::*;
-use sd_list::Sequence;
+//! Boxes that share no element at two points of a map.
+use sd_box::{Bounds, are_harmless};
+use sd_list::{NoMemory, Sequence};
+use sd_range::{Affine, Range};
 use std::alloc::Global;
 use std::test::Fail;
 
