@@ -1,28 +1,38 @@
 -- What a call prints of its files.
-use Rattle.std.proofs.Common.{◌≡◌, ◌⊎◌, inl, inr, ℕ, List, sym, subst}
+use Rattle.std.proofs.Common.{◌≡◌, ◌⊎◌, inl, inr, ℕ, List, [], ◌++◌, if◌then◌else◌, false, ap, ◌∙◌, sym, subst}
 use Rattle.sd_io.specs.Count.{HasRisen}
 use Rattle.sd_work.specs.Move.{Fault}
 use Rattle.sd_work.specs.Run.{Left}
 use Rattle.sd_work.specs.Step.{Outcome, Done, Faulted, Spent}
 use Rattle.sd_graph.specs.declared.place.Place.{Place}
 use Rattle.sd_race.specs.Pairs.{IsGraphAccepted}
-use Rattle.sd_words.specs.Command.{Call, to_run}
+use Rattle.sd_write.specs.RunText.{steps_text}
+use Rattle.sd_words.specs.Command.{Command, Call, to_run, to_step, to_print, to_check}
 use Rattle.sd_tool.specs.Work.{Work}
 use Rattle.sd_tool.specs.Answers.{ShelfUse, ran, listed, checked, answer_of_run, text_of}
 use Rattle.sd_tool.specs.Ends.{SinkUse, Writes}
-use Rattle.sd_tool.specs.Headline.{Prints}
+use Rattle.sd_tool.specs.Headline.{Prints, PrintsTraced}
 use Rattle.sd_tool.specs.Statuses.{Statuses, TellsSteps, Runs, ListsGraph, AcceptsGraph, EndsAs}
 use Rattle.sd_tool.specs.Told.{Asks}
-use Rattle.sd_promise.specs.Promise.{FilesSay, PrintsWhatIsSaid, EndsAsSaid, RunWasSaid}
+use Rattle.sd_promise.specs.Promise.{FilesSay, PrintsWhatIsSaid, EndsAsSaid, wants_moves, RunWasSaid}
 use Rattle.sd_promise.proofs.Files.{run_is_said, said_is_run, status_told}
 
 module _ (words : List (List ℕ)) (shelf : ShelfUse) (sink : SinkUse) (status : ℕ) where
-  pub printed_is_said : (call : Call) (work : Work) (turns : ℕ) (asks : Asks words shelf call work) → Prints work turns sink status → PrintsWhatIsSaid asks.source asks.arrays turns sink status
+  pub printed_is_said : (call : Call) (work : Work) (turns : ℕ) (asks : Asks words shelf call work) → Prints work turns sink status → PrintsWhatIsSaid asks.source asks.arrays turns [] sink status
   printed_is_said call work turns asks prints = record {
     outcome = prints.outcome;
     printed = text_of (answer_of_run work.tree turns prints.outcome);
     said = run_is_said asks.source asks.arrays asks.tree work turns prints.outcome asks.tells.has_graph asks.comes prints.ends;
     ends = subst (λ own. ((status ≡ own) × Writes sink (text_of (answer_of_run work.tree turns prints.outcome))) ⊎ (status ≡ 1)) (status_told work.tree turns prints.outcome) prints.printed;
+  }
+
+  pub moves_and_said : (call : Call) (work : Work) (picks : List ℕ) (turns : ℕ) (asks : Asks words shelf call work) → (prints : PrintsTraced work picks turns sink status) →
+      PrintsWhatIsSaid asks.source asks.arrays turns prints.trace sink status
+  moves_and_said call work picks turns asks prints = record {
+    outcome = prints.outcome;
+    printed = text_of (answer_of_run work.tree turns prints.outcome);
+    said = run_is_said asks.source asks.arrays asks.tree work turns prints.outcome asks.tells.has_graph asks.comes prints.ends;
+    ends = subst (λ own. ((status ≡ own) × Writes sink (steps_text prints.trace ++ text_of (answer_of_run work.tree turns prints.outcome))) ⊎ (status ≡ 1)) (status_told work.tree turns prints.outcome) prints.printed;
   }
 
   pub said_is_printed : (call : Call) (work : Work) (turns : ℕ) (outcome : Outcome Place Left) (printed : List ℕ) → Statuses words shelf sink status → (asks : Asks words shelf call work) → call.command ≡ to_run turns → IsGraphAccepted work.tree →
@@ -33,14 +43,21 @@ module _ (words : List (List ℕ)) (shelf : ShelfUse) (sink : SinkUse) (status :
       subst (λ text. EndsAsSaid outcome text sink status) (sym runs.1)
       (subst (λ own. ((status ≡ own) × Writes sink (text_of (answer_of_run work.tree turns outcome))) ⊎ ((status ≡ 10) × HasRisen sink.faults_before sink.faults_after) ⊎ (status ≡ 1)) (status_told work.tree turns outcome) ends)
 
-  run_was_said : (work : Work) (turns : ℕ) (steps : List (ℕ × ℕ)) (outcome : Outcome Place Left) → Runs words shelf work turns steps outcome → Writes sink (text_of (ran steps work.tree turns outcome)) → RunWasSaid words shelf sink outcome
-  run_was_said work turns steps outcome runs writes = record {
+  -- a command that does not ask for its moves tells none
+  none_told : (work : Work) (picks : List ℕ) (command : Command) (moves : List (ℕ × ℕ)) → TellsSteps work picks command moves → wants_moves command ≡ false → moves ≡ []
+  none_told work picks (to_run turns) moves told none = told
+  none_told work picks (to_step step) moves told none = told.1.kept ∙ ap (λ traces. if traces then told.1.trace else []) none
+  none_told work picks to_print moves told none = told
+  none_told work picks to_check moves told none = told
+
+  run_was_said : (work : Work) (turns : ℕ) (moves : List (ℕ × ℕ)) (outcome : Outcome Place Left) → Runs words shelf work turns moves outcome → Writes sink (text_of (ran moves work.tree turns outcome)) → RunWasSaid words shelf sink outcome
+  run_was_said work turns moves outcome runs writes = record {
     call = runs.call;
     turns = turns;
-    steps = steps;
+    moves = moves;
     asked = runs.comes.source.asked;
     asks = runs.asks;
-    alone = λ is. subst (λ c. TellsSteps work runs.picks c steps) is runs.told;
+    alone = none_told work runs.picks runs.call.command moves runs.told;
     text = runs.comes.source.source;
     arrays = runs.comes.arrays;
     text_read = runs.comes.source.reads;

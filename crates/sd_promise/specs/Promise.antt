@@ -1,5 +1,5 @@
 -- What the files of a call say, and that a call prints it.
-use Rattle.std.specs.Prelude.{◌≡◌, ◌⊎◌, ℕ, ◌^◌, List, [], ◌++◌, Ok}
+use Rattle.std.specs.Prelude.{◌≡◌, ◌⊎◌, ℕ, ◌^◌, List, [], ◌++◌, Bool, false, Ok}
 use Rattle.sd_io.specs.Count.{HasRisen}
 use Rattle.sd_lex.specs.PlainTree.{ProgramTree}
 use Rattle.sd_work.specs.Run.{Left}
@@ -9,7 +9,7 @@ use Rattle.sd_source.specs.SourceReading.{reads}
 use Rattle.sd_json.specs.Given.{Contents}
 use Rattle.sd_says.specs.Says.{Says}
 use Rattle.sd_write.specs.RunText.{steps_text}
-use Rattle.sd_words.specs.Command.{Call, IsCall, to_run, RunsWith}
+use Rattle.sd_words.specs.Command.{Command, Call, IsCall, to_run, to_step, to_print, to_check, RunsWith}
 use Rattle.sd_tool.specs.Answers.{ShelfUse, Reads}
 use Rattle.sd_tool.specs.Ends.{SinkUse, Writes}
 use Rattle.sd_promise.specs.Source.{file_read, memory_given, text_said, status_said}
@@ -23,12 +23,12 @@ pub record FilesSay (text arrays : List ℕ) (turns : ℕ) (outcome : Outcome Pl
   pub says : Says source contents.sizes (memory_given source contents) turns outcome
   pub is : printed ≡ text_said source contents.sizes turns outcome
 
--- the files say an outcome; its text is written whole and the status is its own, or memory was wanting
-pub record PrintsWhatIsSaid (text arrays : List ℕ) (turns : ℕ) (sink : SinkUse) (status : ℕ) : Type 0 where
+-- the files say an outcome; the lines of these moves and then its text are written whole and the status is its own, or memory was wanting
+pub record PrintsWhatIsSaid (text arrays : List ℕ) (turns : ℕ) (moves : List (ℕ × ℕ)) (sink : SinkUse) (status : ℕ) : Type 0 where
   pub outcome : Outcome Place Left
   pub printed : List ℕ
   pub said : FilesSay text arrays turns outcome printed
-  pub ends : ((status ≡ status_said outcome) × Writes sink printed) ⊎ (status ≡ 1)
+  pub ends : ((status ≡ status_said outcome) × Writes sink (steps_text moves ++ printed)) ⊎ (status ≡ 1)
 
 -- the text of an outcome is written whole and the status is its own; or the sink failed, or memory was wanting
 abbrev pub EndsAsSaid : Outcome Place Left → (printed : List ℕ) → SinkUse → (status : ℕ) → Type 0
@@ -37,18 +37,25 @@ EndsAsSaid outcome printed sink status =
     ⊎ ((status ≡ 10) × HasRisen sink.faults_before sink.faults_after)
     ⊎ (status ≡ 1)
 
--- the words ask for a run, by picks or without, of two files that were read, which say this outcome, and its text was written; the lines of some steps stand before it, of which a run without picks has none
+-- the command asks that the moves of its run are told: a run by picks with `--trace`
+abbrev pub wants_moves : Command → Bool
+wants_moves (to_run turns) = false
+wants_moves (to_step step) = step.traces
+wants_moves to_print = false
+wants_moves to_check = false
+
+-- the words ask for a run, by picks or without, of two files that were read, which say this outcome, and its text was written; lines of moves stand before it where they are asked for, and else none
 pub record RunWasSaid (words : List (List ℕ)) (shelf : ShelfUse) (sink : SinkUse) (outcome : Outcome Place Left) : Type 0 where
   pub call : Call
   pub turns : ℕ
-  pub steps : List (ℕ × ℕ)
+  pub moves : List (ℕ × ℕ)
   pub asked : IsCall words call
   pub asks : RunsWith call.command turns
-  pub alone : call.command ≡ to_run turns → steps ≡ []
+  pub alone : wants_moves call.command ≡ false → moves ≡ []
   pub text : List ℕ
   pub arrays : List ℕ
   pub text_read : Reads shelf call.source (2 ^ 20) text
   pub arrays_read : Reads shelf call.arrays (2 ^ 26) arrays
   pub printed : List ℕ
   pub said : FilesSay text arrays turns outcome printed
-  pub writes : Writes sink (steps_text steps ++ printed)
+  pub writes : Writes sink (steps_text moves ++ printed)

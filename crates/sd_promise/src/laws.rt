@@ -1,4 +1,4 @@
-ghost use Rattle.std.specs.Prelude.{◌≡◌, ◌⊎◌, ℕ, List, Ok};
+ghost use Rattle.std.specs.Prelude.{◌≡◌, ◌⊎◌, ℕ, List, [], Ok};
 ghost use Rattle.sd_work.specs.Move.{Fault};
 ghost use Rattle.sd_work.specs.Run.{Left, Sequential};
 ghost use Rattle.sd_work.specs.Step.{Outcome, Done, Faulted, Spent};
@@ -9,7 +9,7 @@ ghost use Rattle.sd_tool.specs.Work.{Work, source_graph, prepared, run_of_work};
 ghost use Rattle.sd_race.specs.Pairs.{IsGraphAccepted};
 ghost use Rattle.sd_tool.specs.Answers.{ShelfUse, listed, checked, answer_of_run, text_of};
 ghost use Rattle.sd_tool.specs.Ends.{SinkUse, Writes};
-ghost use Rattle.sd_tool.specs.Headline.{Prints};
+ghost use Rattle.sd_tool.specs.Headline.{Prints, PrintsTraced};
 ghost use Rattle.sd_tool.specs.Statuses.{Statuses, ListsGraph, AcceptsGraph};
 ghost use Rattle.sd_tool.specs.Told.{Asks};
 ghost use Rattle.sd_promise.specs.Promise.{FilesSay, PrintsWhatIsSaid, EndsAsSaid, RunWasSaid};
@@ -26,12 +26,14 @@ pub fn files_say_what_their_graph_runs()
 {}
 
 /// What a run prints is what its source says. Where two files are told and fit, what is printed is the text of
-/// an outcome that the source says with the sizes and arrays of the file (`prints`), and the text of what the
-/// source says is printed (`said`). Status 0 of a run, 7 and 8 come only where the source says that all is done, or this
+/// an outcome that the source says with the sizes and arrays of the file (`prints`), behind the lines of the moves where a
+/// run by picks tells them (`moves`), and the text of what the source says is printed (`said`). Status 0 of a run, 7 and 8 come only where the source says that all is done, or this
 /// fault at this place, or that the turns are spent (`done`, `fault`, `spent`); so it is of a run by picks.
 pub fn run_prints_what_the_source_says()
     ensures prints { (words : List (List ℕ)) (shelf : ShelfUse) (sink : SinkUse) (status : ℕ) (call : Call) (work : Work) (turns : ℕ) (asks : Asks words shelf call work)
-        → Prints work turns sink status → PrintsWhatIsSaid asks.source asks.arrays turns sink status }
+        → Prints work turns sink status → PrintsWhatIsSaid asks.source asks.arrays turns [] sink status }
+    ensures moves { (words : List (List ℕ)) (shelf : ShelfUse) (sink : SinkUse) (status : ℕ) (call : Call) (work : Work) (picks : List ℕ) (turns : ℕ) (asks : Asks words shelf call work)
+        → (prints : PrintsTraced work picks turns sink status) → PrintsWhatIsSaid asks.source asks.arrays turns prints.trace sink status }
     ensures said { (words : List (List ℕ)) (shelf : ShelfUse) (sink : SinkUse) (status : ℕ) (call : Call) (work : Work) (turns : ℕ) (outcome : Outcome Place Left) (printed : List ℕ)
         → Statuses words shelf sink status → (asks : Asks words shelf call work) → call.command ≡ to_run turns → IsGraphAccepted work.tree
         → FilesSay asks.source asks.arrays turns outcome printed → EndsAsSaid outcome printed sink status }
