@@ -58,6 +58,3 @@ impl Sdfg {
         Ok(number)
     }
 }
-
-#[cfg(test)]
-mod tests;

@@ -88,6 +88,3 @@ pub(crate) fn is_on_loop(
     }
     leads_to(alloc, states, begin, state, end)
 }
-
-#[cfg(test)]
-mod tests;

@@ -184,6 +184,3 @@ fn replaced(holdings: Vec<Holding>, container: u32, cells: Vec<i64>) -> Vec<Hold
     }
     holdings
 }
-
-#[cfg(test)]
-mod tests;

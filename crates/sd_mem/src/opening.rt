@@ -159,6 +159,3 @@ fn opening_holdings(
     }
     Ok(holdings)
 }
-
-#[cfg(test)]
-mod tests;

@@ -54,6 +54,3 @@ impl Memory {
         }
     }
 }
-
-#[cfg(test)]
-mod tests;

@@ -146,14 +146,3 @@ pub enum Op {
         count: u32,
     },
 }
-
-#[cfg(test)]
-mod tests {
-    use super::*;
-    use std::mem::size_of;
-
-    #[test]
-    fn an_instruction_takes_at_most_sixteen_bytes(rt: HostRuntime) {
-        assert_eq!(rt; size_of::<Op>(), 16);
-    }
-}

@@ -30,6 +30,3 @@ pub fn bind(alloc: Global, graph: &Sdfg, sizes: &Sizes) -> Result<Bound, BindErr
     count_graph(alloc, &bound, 0)?;
     Ok(Bound { graph: bound })
 }
-
-#[cfg(test)]
-mod tests;

@@ -1,7 +1,9 @@
-use super::*;
-use sd_graph::Exit;
-use sd_list::Sequence;
+//! Loops in force in a state.
+use sd_graph::{Exit, State};
+use sd_list::{NoMemory, Sequence};
+use sd_loops::loops_in_force;
 use sd_range::Affine;
+use std::alloc::Global;
 use std::test::Fail;
 
 /// A transition without a condition.

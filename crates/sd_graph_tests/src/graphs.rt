@@ -1,9 +1,7 @@
-use super::*;
-use crate::container::ContainerKind;
-use crate::graph::ItemKind;
-use crate::link::{Link, Memlet};
+//! What adds to a graph, and copies of graphs.
 use indexmap::IndexMap;
-use sd_list::{Sequence, Text};
+use sd_graph::{Container, ContainerKind, Exit, Item, ItemKind, Link, Memlet, Sdfg, State};
+use sd_list::{NoMemory, Sequence, Text};
 use sd_range::Subset;
 use std::alloc::Global;
 

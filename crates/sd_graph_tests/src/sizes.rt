@@ -1,8 +1,10 @@
-use super::*;
+//! Graphs that sizes are given to.
 use indexmap::IndexMap;
-use sd_graph::{Container, ContainerKind, Item, ItemKind, State};
+use sd_graph::{Container, ContainerKind, Item, ItemKind, Sdfg, State};
 use sd_list::{NoMemory, Sequence, Text};
 use sd_range::Affine;
+use sd_valid::{Sizes, bind};
+use std::alloc::Global;
 use std::test::Fail;
 
 /// Containers with one square array of this kind, whose sides are the size symbol.
