@@ -1,9 +1,9 @@
 //! A run by picks, told as the sequential run.
 //!
-//! `step` runs an accepted graph by picks (`sd_core`) and tells its end, and its steps where they are asked for
-//! (`specs/Step.antt`). Where the run is done and the graph valid, its own end is told, which is that of the sequential run
-//! but for the order of values in streams; and else that of the sequential run from the opening memory. So no fault of a
-//! picked run is told, whatever the picks are.
+//! `step` runs a valid, accepted graph by picks (`sd_core`) and tells its end, and its steps where they are asked for
+//! (`specs/Step.antt`). Where the run is done, its own end is told, which is that of the sequential run but for the order of
+//! values in streams; and else that of the sequential run from the opening memory. So no fault of a picked run is told,
+//! whatever the picks are.
 #![tactic(auto)]
 
 mod telling;

@@ -3,7 +3,6 @@ ghost use Rattle.sd_work.specs.Run.{Left, Run};
 ghost use Rattle.sd_work.specs.Step.{Done};
 ghost use Rattle.sd_graph.specs.TreeFold.{graph_tree};
 ghost use Rattle.sd_graph.specs.Unfold.{run_of};
-ghost use Rattle.sd_graph.specs.Upwards.{LeadsUpwards};
 ghost use Rattle.sd_race.specs.Pairs.{IsGraphAccepted};
 ghost use Rattle.sd_validity.specs.Valid.{IsValid};
 ghost use Rattle.sd_seq.specs.RunEnd.{outcome_of};
@@ -15,7 +14,6 @@ use sd_list::NoMemory;
 use sd_mem::Memory;
 use sd_normal::show_normal_forms;
 use sd_seq::{RunEnd, run_seq};
-use sd_validate::{Invalid, validate};
 use std::alloc::Global;
 
 /// Whether a run is done.
@@ -25,17 +23,6 @@ fn is_done(end: &RunEnd) -> bool
     match end {
         RunEnd::Done { .. } => true,
         RunEnd::Fault(..) | RunEnd::Spent => false,
-    }
-}
-
-/// Whether a graph is valid.
-fn is_valid(alloc: Global, bound: &Bound) -> Result<bool, NoMemory>
-    ensures { IfOk result (λ valid. IsTrue valid → IsValid (graph_tree bound.now.graph)) }
-{
-    match validate(alloc, bound) {
-        Ok(()) => Ok(true),
-        Err(Invalid::At { .. }) => Ok(false),
-        Err(Invalid::Memory) => Err(NoMemory),
     }
 }
 
@@ -60,8 +47,7 @@ fn picked(
     })
 }
 
-/// The end that is told of a run by picks from this memory: its own where it is done and the graph is valid, and else that
-/// of the sequential run.
+/// The end that is told of a run by picks from this memory: its own where it is done, and else that of the sequential run.
 fn told_end(
     alloc: Global,
     bound: &Bound,
@@ -69,20 +55,20 @@ fn told_end(
     turns: u64,
     end: RunEnd,
 ) -> Result<RunEnd, NoMemory>
-    requires upwards { LeadsUpwards (graph_tree bound.now.graph) }
+    requires valid { IsValid (graph_tree bound.now.graph) }
     requires accepted { IsGraphAccepted (graph_tree bound.now.graph) }
     ensures { (picks : List ℕ) → Run (run_of (graph_tree bound.now.graph) opening.contents) turns picks (outcome_of end)
         → IfOk result (λ told. IsToldEnd (run_of (graph_tree bound.now.graph) opening.contents) turns (outcome_of told)) }
 {
-    if is_done(&end) && is_valid(alloc, bound)? {
+    if is_done(&end) {
         show_normal_forms(&bound.graph);
         return Ok(end);
     }
     run_seq(alloc, bound, opening, turns)
 }
 
-/// Runs an accepted graph over a memory by picks, with so many turns, and tells its end as that of the sequential run, with
-/// its steps where they are asked for. The memory is copied first.
+/// Runs a valid, accepted graph over a memory by picks, with so many turns, and tells its end as that of the sequential run,
+/// with its steps where they are asked for. The memory is copied first.
 pub fn step(
     alloc: Global,
     bound: &Bound,
@@ -91,7 +77,7 @@ pub fn step(
     picks: &[u64],
     traces: bool,
 ) -> Result<TracedRun, NoMemory>
-    requires upwards { LeadsUpwards (graph_tree bound.now.graph) }
+    requires valid { IsValid (graph_tree bound.now.graph) }
     requires accepted { IsGraphAccepted (graph_tree bound.now.graph) }
     ensures { IfOk result (λ told. IsStep (run_of (graph_tree bound.now.graph) memory.contents) turns picks.now traces (outcome_of told.end) (steps_of told)) }
 {

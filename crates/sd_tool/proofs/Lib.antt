@@ -1,7 +1,7 @@
 pub mod Reading
 pub mod AnswerRules
 pub mod ToldFiles
-pub mod BoundUpwards
+pub mod BoundValid
 pub mod RunOutcome
 pub mod Ended
 pub mod EndLemmas

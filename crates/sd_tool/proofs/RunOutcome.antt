@@ -7,19 +7,20 @@ use Rattle.sd_graph.specs.PlainTree.{GraphTree}
 use Rattle.sd_graph.specs.declared.place.Place.{Place}
 use Rattle.sd_graph.proofs.UnfoldedCycles.{run_pays}
 use Rattle.sd_graph.proofs.UnfoldedNew.{run_unfolds_new}
-use Rattle.sd_graph.specs.Upwards.{LeadsUpwards}
+use Rattle.sd_validity.specs.Valid.{IsValid}
+use Rattle.sd_validity.proofs.UpwardsLemmas.{leads_upwards}
 use Rattle.sd_core.specs.Traced.{IsTraced}
 use Rattle.sd_step.specs.Step.{IsPicked}
 use Rattle.sd_step.proofs.Steps.{trace_of, with_steps, without_steps}
 use Rattle.sd_tool.specs.Answers.{ShelfUse, Comes}
 use Rattle.sd_words.specs.Command.{Call}
 use Rattle.sd_tool.specs.Work.{Work, source_graph, prepared, run_of_work}
-use Rattle.sd_tool.proofs.BoundUpwards.{work_leads}
+use Rattle.sd_tool.proofs.BoundValid.{work_valid}
 
 pub ends_by : (text : List ℕ) (tree : GraphTree) (arrays : List ℕ) (work : Work) (turns : ℕ) (picks : List ℕ) → source_graph text ≡ Ok tree → prepared tree arrays ≡ Ok work →
     (outcome : Outcome Place Left) × Run (run_of_work work) turns picks outcome
 ends_by text tree arrays work turns picks is comes =
-    run-ends_with_pools (run_of_work work) turns picks (run_pays work.tree work.memory (work_leads text tree arrays work is comes)) (run_unfolds_new work.tree work.memory)
+    run-ends_with_pools (run_of_work work) turns picks (run_pays work.tree work.memory (leads_upwards work.tree (work_valid text tree arrays work is comes).transitions)) (run_unfolds_new work.tree work.memory)
 
 pub ends_somehow : (text : List ℕ) (tree : GraphTree) (arrays : List ℕ) (work : Work) (turns : ℕ) → source_graph text ≡ Ok tree → prepared tree arrays ≡ Ok work →
     (outcome : Outcome Place Left) × Sequential (run_of_work work) turns outcome
@@ -45,5 +46,6 @@ steps_somehow text tree arrays work turns picks traces is comes =
       all = λ asked. with_steps (run_of_work work) turns picks traces picked.0 steps.0 asked steps.1;
     }
 
-pub comes_leads : (words : List (List ℕ)) (shelf : ShelfUse) (call : Call) (work : Work) → Comes words shelf call work → LeadsUpwards work.tree
-comes_leads words shelf call work comes = work_leads comes.source.source comes.tree comes.arrays work comes.source.is comes.is
+-- the graph that a call comes to is valid
+pub comes_valid : (words : List (List ℕ)) (shelf : ShelfUse) (call : Call) (work : Work) → Comes words shelf call work → IsValid work.tree
+comes_valid words shelf call work comes = work_valid comes.source.source comes.tree comes.arrays work comes.source.is comes.is

@@ -3,6 +3,7 @@ ghost use Rattle.std.specs.Prelude.{[], IfOk};
 ghost use Rattle.sd_graph.specs.TreeFold.{graph_tree};
 ghost use Rattle.sd_graph.specs.Upwards.{LeadsUpwards};
 ghost use Rattle.sd_race.specs.Pairs.{IsGraphAccepted};
+ghost use Rattle.sd_validity.specs.Valid.{IsValid};
 ghost use Rattle.sd_words.specs.Command.{step_of};
 ghost use Rattle.sd_tool.specs.Answers.{TellsRun, TellsStep};
 ghost use Rattle.sd_tool.specs.Report.{Says, answer_of_ran};
@@ -39,14 +40,14 @@ pub(crate) fn run(alloc: Global, opened: Workspace, turns: u64) -> Result<Ran, N
     Ok(Ran { bound, turns, told })
 }
 
-/// Runs the graph over its memory by picks. Its end is told as that of the sequential run.
+/// Runs the valid graph over its memory by picks. Its end is told as that of the sequential run.
 pub(crate) fn run_by(
     alloc: Global,
     opened: Workspace,
     asked: Step<'_>,
     picks: &[u64],
 ) -> Result<Ran, NoMemory>
-    requires upwards { LeadsUpwards (graph_tree opened.bound.graph) }
+    requires valid { IsValid (graph_tree opened.bound.graph) }
     requires accepted { IsGraphAccepted (graph_tree opened.bound.graph) }
     ensures { IfOk result (λ ran. Says (TellsStep (work_of opened) picks.now (step_of asked.entry)) (answer_of_ran ran)) }
 {

@@ -2,9 +2,9 @@ ghost use Rattle.std.specs.Prelude.{◌≡◌, ◌≤◌, IfOk, IfErr, IfSome, O
 ghost use Rattle.sd_io.specs.Count.{HasRisen};
 ghost use Rattle.sd_io.specs.Sink.{Appends, AppendsPrefix};
 ghost use Rattle.sd_graph.specs.TreeFold.{graph_tree};
-ghost use Rattle.sd_graph.specs.Upwards.{LeadsUpwards};
 ghost use Rattle.sd_graph_text.specs.GraphText as listing;
 ghost use Rattle.sd_race_text.specs.CheckText as checking;
+ghost use Rattle.sd_validity.specs.Valid.{IsValid};
 ghost use Rattle.sd_words.specs.Command.{command_of};
 ghost use Rattle.sd_tool.specs.Answers.{Tells, text_of};
 ghost use Rattle.sd_tool.specs.Answers as answers;
@@ -70,7 +70,7 @@ impl Report {
         opened: Workspace,
         picks: &[u64],
     ) -> Result<Report, Ending<'a>>
-        requires { LeadsUpwards (graph_tree opened.bound.graph) }
+        requires { IsValid (graph_tree opened.bound.graph) }
         ensures tells { IfOk result (λ report. Says (Tells (work_of opened) picks.now (command_of command.entry)) (reported report)) }
         ensures refuses { IfErr result (λ ending. IfSome (answer_of ending) (Tells (work_of opened) picks.now (command_of command.entry))) }
     {

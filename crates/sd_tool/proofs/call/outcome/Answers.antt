@@ -6,7 +6,7 @@ use Rattle.sd_tool.specs.Answers.{ShelfUse, shelf_use, Comes, HasPicks, no_comma
 use Rattle.sd_tool.specs.Workspace.{work_of}
 use Rattle.sd_tool.proofs.AnswerRules.{IsPart, first_part, second_part, Comes-part, HasPicks-part, LacksPicks-part}
 use Rattle.sd_tool.proofs.Reading.{wanted, unwanted}
-use Rattle.sd_tool.proofs.RunOutcome.{comes_leads}
+use Rattle.sd_tool.proofs.RunOutcome.{comes_valid}
 use Rattle.sd_tool.proofs.call.outcome.Given.{Over}
 use Rattle.sd_tool.proofs.call.outcome.Goals as goal
 use Rattle.sd_tool.proofs.call.outcome.Goals.{After-prepare, After-picks}
@@ -27,7 +27,7 @@ returns-in_err-opened-clause-refuses g c =
 pub of-requires : goal.of-requires
 of-requires g c =
     let at = (goal.at.of-requires g c).After-prepare in
-    comes_leads _ _ (call_of c.in-Some.call) (work_of c.in_ok-opened.opened) (c.in_ok-opened.ensures.comes _ (asked g at))
+    comes_valid _ _ (call_of c.in-Some.call) (work_of c.in_ok-opened.opened) (c.in_ok-opened.ensures.comes _ (asked g at))
 
 -- how the shelf is used by the whole call
 abbrev use_of : (g : Over) (c : After-picks g) → ShelfUse
