@@ -18,7 +18,7 @@ returns-then-is_done c = λ picks run.
     (done_end tree memory c.args.turns picks done.0 c.requires.valid c.show_normal_forms.ensures c.requires.accepted (subst (Run (run_of tree memory) c.args.turns picks) done.1 run))
 
 pub run_seq-requires : goal.run_seq-requires
-run_seq-requires c = leads_upwards (graph_tree c.args.bound.now.graph) c.requires.valid.transitions
+run_seq-requires c = record { upwards = leads_upwards (graph_tree c.args.bound.now.graph) c.requires.valid.transitions }
 
 pub returns : goal.returns
 returns c = λ picks run. IfOk-weaker c.run_seq.result _ _ (λ end ends. sequential_end (run_of (graph_tree c.args.bound.now.graph) c.args.opening.contents) c.args.turns (outcome_of end) ends) c.run_seq.ensures

@@ -1,6 +1,16 @@
+use Rattle.std.proofs.Common.{sym, subst}
+use Rattle.sd_validity.specs.Valid.{IsValid}
+use Rattle.sd_validity.proofs.UpwardsLemmas.{leads_upwards}
+use Rattle.sd_tool.specs.Work.{Work}
 use Rattle.sd_tool.specs.Workspace.{work_of}
 use Rattle.sd_tool.proofs.Ended.{says_print, says_check}
 use Rattle.sd_tool.proofs.report.Report.of.Goals as goal
+
+pub run-requires : goal.run-requires
+run-requires c =
+    let after = work_of c.in_ok-accepted-in-Run.field-0 in
+    let valid = subst (λ (work : Work). IsValid work.tree) (sym c.in_ok-accepted-in-Run.ensures.same) c.requires in
+    leads_upwards after.tree valid.transitions
 
 pub returns-in-Print-clause-tells : goal.returns-in-Print-clause-tells
 returns-in-Print-clause-tells c = says_print (work_of c.args.opened) c.args.picks.now c.args.command c.in-Print.is
