@@ -2,8 +2,8 @@
 """Looks at the edits of the crates: wrong bodies and wrong statements that the prover has to refuse.
 
 The gate tries those in crates/NAME/must-fail/. Further ones lie in crates/NAME/further-edits/, so that the gate stays
-within its time; each is one that the prover has refused. Without words this looks whether each edit of both kinds can
-still be applied: each `old:` text stands in its file exactly once, and the edit changes something. With names of crates
+within its time; nothing but a call of this with the crate's name tries them. Without words this looks whether each edit
+of both kinds can still be applied: each `old:` text stands in its file exactly once, and the edit changes something. With names of crates
 (`all` is each crate with further edits) it copies the repository and has `rt must-fail` try all edits of these there.
 
 The last line is 'N passed, M failed', and the status is 0 where some passed and none failed.
