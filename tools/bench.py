@@ -7,7 +7,7 @@ PROGRAM is the program to time; without it, it is the one that ./sdfg runs, whic
 not. Each side reads the same arrays file and prints the arrays after the run, and what they print is compared. A line for
 each program has
 
-- the processor seconds of both, user and system of the whole process, the least of five runs, and their ratio;
+- the processor seconds of both, user and system of the whole process, the least of five runs in turns, and their ratio;
 - the peak memory of both in MiB, the greatest of five runs, and the ratio of sdfg's to its limit: three times the arrays and
   twice the arrays file.
 
@@ -98,20 +98,25 @@ def run(words, out):
     return os.waitstatus_to_exitcode(status), usage
 
 
-def measured(words):
-    """Returns the least processor seconds of some runs, the greatest peak in bytes, and what was printed."""
-    seconds, peak = [], []
+def measured(sides):
+    """Returns of each side its least processor seconds of some runs, its greatest peak in bytes, and what it printed.
+
+    The sides take turns, so that a machine whose speed changes is as fast for one as for the other.
+    """
+    seconds, peaks, texts = [[] for _ in sides], [[] for _ in sides], [None for _ in sides]
     with tempfile.TemporaryFile() as out:
         for _ in range(RUNS):
-            out.seek(0)
-            out.truncate()
-            status, usage = run(words, out)
-            if status != 0:
-                raise SystemExit(f"{' '.join(map(str, words))} ended with {status}")
-            seconds.append(usage.ru_utime + usage.ru_stime)
-            peak.append(usage.ru_maxrss * 1024)
-        out.seek(0)
-        return min(seconds), max(peak), out.read()
+            for side, words in enumerate(sides):
+                out.seek(0)
+                out.truncate()
+                status, usage = run(words, out)
+                if status != 0:
+                    raise SystemExit(f"{' '.join(map(str, words))} ended with {status}")
+                seconds[side].append(usage.ru_utime + usage.ru_stime)
+                peaks[side].append(usage.ru_maxrss * 1024)
+                out.seek(0)
+                texts[side] = out.read()
+    return list(zip(map(min, seconds), map(max, peaks), texts))
 
 
 def verdict(ratio, mark):
@@ -124,8 +129,9 @@ def compared(program, source, given, mark):
         json.dump(given, arrays, separators=(",", ":"))
         arrays.flush()
         limit = 3 * 8 * elements(given) + 2 * os.path.getsize(arrays.name)
-        ours, peak, text = measured([program, "run", source, arrays.name, "--turns", str(TURNS)])
-        theirs, their_peak, other = measured([sys.executable, LOOPS, source.stem, arrays.name])
+        words = [program, "run", source, arrays.name, "--turns", str(TURNS)]
+        loops = [sys.executable, LOOPS, source.stem, arrays.name]
+        (ours, peak, text), (theirs, their_peak, other) = measured([words, loops])
     memory_mark = 1 if mark is not None and limit >= LEAST_LIMIT else None
     verdicts = [verdict(ours / theirs, mark), verdict(peak / limit, memory_mark)]
     cells = [
