@@ -44,6 +44,22 @@ pub fn write_text<K: Sink>(out: &mut K, text: &[u8]) -> Result<(), SinkError>
     Ok(())
 }
 
+/// Writes a text in pieces of 4,096 bytes, whatever lines it has.
+fn write_bytes<K: Sink>(out: &mut K, text: &[u8]) -> Result<(), SinkError>
+    ensures ok { OnOk result (Appends (K.taken out.old) (K.taken out.new) text.now) }
+    ensures err { OnErr result (AppendsPrefix (K.taken out.old) (K.taken out.new) text.now) }
+    ensures failed { IsErrOf result SinkError.Failed → HasRisen (K.faults out.old) (K.faults out.new) }
+    ensures faults_never_fall { K.faults out.old ≤ K.faults out.new }
+{
+    let mut rest = text;
+    while !rest.is_empty() {
+        let (piece, behind) = rest.split_at(rest.len().min(PIECE));
+        out.write(piece)?;
+        rest = behind;
+    }
+    Ok(())
+}
+
 /// Writes what a line begins with in pieces of 4,096 bytes, and gives what is left of it.
 pub(crate) fn write_pieces<K: Sink>(out: &mut K, line: Vec<u8>) -> Result<Vec<u8>, SinkError>
     ensures ok { IfOk result (λ rest. AppendsAllBut (K.taken out.old) (K.taken out.new) line.items rest.items) }
@@ -56,6 +72,6 @@ pub(crate) fn write_pieces<K: Sink>(out: &mut K, line: Vec<u8>) -> Result<Vec<u8
     let Ok(rest) = line.split_off(whole) else {
         return Err(SinkError::Memory);
     };
-    write_text(out, line.as_slice())?;
+    write_bytes(out, line.as_slice())?;
     Ok(rest)
 }
