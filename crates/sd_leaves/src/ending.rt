@@ -13,7 +13,7 @@ use sd_scope::{Base, Scope, place_of};
 use std::alloc::Global;
 
 /// How work in a line ends: with this fault, at the line's place, or with none.
-pub(crate) fn end_of(
+pub fn end_of(
     alloc: Global,
     fault: Option<FaultKind>,
     graph: &Sdfg,

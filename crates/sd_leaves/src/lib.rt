@@ -19,6 +19,7 @@ mod task;
 
 pub use copy::run_copy;
 pub use effects::{dimensions_of, is_stream, perform_effect, widened};
+pub use ending::end_of;
 pub use evaluation::{evaluated, inputs_of};
 pub use exit::{Next, next_exit};
 pub use reduction::{places_of, put_target_place, run_reduction};

@@ -1,14 +1,16 @@
 ghost use Rattle.std.specs.Prelude.{◌≡◌, map, option_map, IfOk};
 ghost use Rattle.sd_work.specs.Exit.{all_seen};
 ghost use Rattle.sd_graph.specs.TreeFold.{graph_tree};
+ghost use Rattle.sd_graph.specs.Context.{link_elements};
 ghost use Rattle.sd_machine.specs.Stack.{reference_of};
 ghost use Rattle.sd_scope.specs.Standing.{context_of};
 ghost use Rattle.sd_leaves.specs.Read.{links_seen};
 
+use sd_even::has_one_element;
 use sd_graph::{Link, Sdfg};
 use sd_list::{NoMemory, Sequence};
 use sd_machine::{Cell, Machine};
-use sd_scope::{Base, Scope, link_cells};
+use sd_scope::{Base, Scope, link_cell, link_cells};
 use std::alloc::Global;
 
 /// The values of the elements of each link, in row order; `None` where one is outside.
@@ -24,13 +26,31 @@ pub(crate) fn values_of_links(
 {
     let mut read = Vec::with_capacity(alloc, links.len())?;
     for link in links {
-        let cells = link_cells(alloc, graph, base, scope, link)?;
-        match values_of(alloc, cells.as_slice(), machine)? {
+        match values_of_link(alloc, link, graph, base, scope, machine)? {
             Some(values) => read.push(values)?,
             None => return Ok(None),
         }
     }
     Ok(Some(Sequence::from(read)))
+}
+
+/// The values of the elements of a link, in row order; `None` where one is outside. Where it is one element, that is looked up at once.
+fn values_of_link(
+    alloc: Global,
+    link: &Link,
+    graph: &Sdfg,
+    base: &Base,
+    scope: &Scope,
+    machine: &Machine,
+) -> Result<Option<Sequence<i64>>, NoMemory>
+    ensures { IfOk result (λ values. values ≡ all_seen (link_elements (context_of (graph_tree graph.now) base.now scope.now) link.now) machine.now.memories) }
+{
+    if has_one_element(link.memlet.subset.dims.as_slice()) {
+        let cell = link_cell(alloc, graph, base, scope, link, &[])?;
+        return values_of(alloc, &[cell], machine);
+    }
+    let cells = link_cells(alloc, graph, base, scope, link)?;
+    values_of(alloc, cells.as_slice(), machine)
 }
 
 /// The values of elements; `None` where one is outside.
