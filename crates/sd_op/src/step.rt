@@ -1,5 +1,6 @@
 ghost use Rattle.std.specs.Prelude.{◌≡◌, ◌^◌, ◌+◌, ◌≤◌, ◌<◌, length, take, pos, slice_set, slice_range, slice_index_or, Ok, OnErr, IfOk};
 ghost use Rattle.sd_graph.specs.TaskletMeaning as meaning;
+ghost use Rattle.sd_tasklet.specs.Kept as kept;
 ghost use Rattle.sd_op.specs.Machine.{State, after_one, passed, answered, extents_at, cell_of};
 ghost use Rattle.sd_op.specs.Within.{Room, IsWithin, kept_by};
 ghost use Rattle.sd_op.specs.Memory.{HasCells};
@@ -47,6 +48,20 @@ fn index_of(registers: &[i64], first: u32, dims: u8) -> &[i64]
 {
     let first = first as usize;
     &registers[first..first + dims as usize]
+}
+
+/// The index of an effect, from the registers that hold it. A scalar has none, and most others one number.
+#[inline(always)]
+fn kept_index(registers: &[i64], first: u32, dims: u8) -> [u64; 4]
+    requires there { first + dims ≤ length registers.now }
+    requires few { dims ≤ 4 }
+    ensures { result ≡ kept.filled (slice_range registers.now first (first + dims)) }
+{
+    match dims {
+        0 => [0; 4],
+        1 => [registers[first as usize].unsigned_abs(), 0, 0, 0],
+        _ => filled(index_of(registers, first, dims)),
+    }
 }
 
 /// One instruction. Gives how many instructions are passed after it.
@@ -131,7 +146,7 @@ pub(crate) fn step(
             value,
         } => log.keep(Effect {
             connector,
-            at: filled(index_of(registers, first, dims)),
+            at: kept_index(registers, first, dims),
             value: registers[value as usize],
         }),
         Op::Skip { count } => return Ok(count as usize),

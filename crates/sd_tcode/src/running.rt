@@ -55,6 +55,7 @@ fn keep_outputs(order: &[u32], variables: usize, registers: &[i64], log: &mut Lo
 
 /// Runs the code on what the frame holds: its effects stand in the frame, or else the fault comes
 /// that the tasklet has. What the frame was given stays. Takes no memory.
+#[inline(always)]
 pub fn run(code: &Code, frame: &mut Frame) -> Result<(), FaultKind>
     requires { IsReady code.now frame.old }
     ensures meaning { (tree : TaskletTree) → IsCodeOf tree code.now → meaning_of tree (given frame.old) ≡ answered result (effects_of frame.new) }
