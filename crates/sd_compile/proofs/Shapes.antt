@@ -10,9 +10,10 @@ use Rattle.sd_graph.specs.declared.operator.TwoSign.TheVariants as between
 use Rattle.sd_tcode.specs.Named.{count_of, dimensions_of, NamesOf, AllNamesOf, SetsOf, AllSetsOf, IsNamed}
 use Rattle.sd_op.specs.Within.{Room, IsWithin}
 use Rattle.sd_compile.specs.Reach.{reach, reach_all}
-use Rattle.sd_tcode.specs.Emitted.{output_register, local_register, free_register, one_op, two_op, is_lazy, is_ready, operand_register, unless_ready, test_op, either_code, jumps_where, second_code, input_code, inside_code, keep_code, value_code, values_code, act_code, acts_code, locals_code, tasklet_code, layout_of}
+use Rattle.sd_tcode.specs.Emitted.{output_register, local_register, free_register, one_op, two_op, is_lazy, is_ready, is_comparison, operand_register, unless_ready, unless_op, test_op, either_code, jumps_where, second_code, condition_op, condition_code, input_code, inside_code, keep_code, value_code, values_code, act_code, acts_code, locals_code, tasklet_code, layout_of}
+use Rattle.sd_tcode.specs.declared.layout.Layout.{Layout}
 use Rattle.sd_op.specs.declared.op.Op.{Op}
-use Rattle.sd_op.specs.declared.op.Op.TheVariants.{Number, Copy, Not, Neg, Inv, Or, And, Less, LessEqual, Greater, GreaterEqual, Equal, Differ, BitOr, BitXor, BitAnd, Add, Sub, Mul, FloorDiv, Mod, Min, Max, Element, Inside, Keep, Skip, SkipIfZero, SkipUnlessZero}
+use Rattle.sd_op.specs.declared.op.Op.TheVariants.{Number, Copy, Not, Neg, Inv, Or, And, Less, LessEqual, Greater, GreaterEqual, Equal, Differ, BitOr, BitXor, BitAnd, Add, Sub, Mul, FloorDiv, Mod, Min, Max, Element, Inside, Keep, Skip, SkipIfZero, SkipUnlessZero, SkipUnlessLess, SkipUnlessLessEqual, SkipUnlessEqual, SkipUnlessDiffer}
 
 -- what instructions name beside registers that are read
 abbrev pub IsShaped : Room → Op → Type 0
@@ -45,6 +46,10 @@ IsShaped room (Keep dims connector first value) = dims ≤ 4
 IsShaped room (Skip count) = ⊤
 IsShaped room (SkipIfZero value count) = ⊤
 IsShaped room (SkipUnlessZero value count) = ⊤
+IsShaped room (SkipUnlessLess left right count) = ⊤
+IsShaped room (SkipUnlessLessEqual left right count) = ⊤
+IsShaped room (SkipUnlessEqual left right count) = ⊤
+IsShaped room (SkipUnlessDiffer left right count) = ⊤
 
 within_one : (room : Room) (op : Op) → IsShaped room op → reach op ≤ room.registers → IsWithin room op
 within_one room (Number to value) h r = (h, omega (arith, r))
@@ -76,6 +81,10 @@ within_one room (Keep dims connector first value) h r = ((omega (arith, r), h), 
 within_one room (Skip count) h r = tt
 within_one room (SkipIfZero value count) h r = omega (arith, r)
 within_one room (SkipUnlessZero value count) h r = omega (arith, r)
+within_one room (SkipUnlessLess left right count) h r = (omega (arith, r), omega (arith, r))
+within_one room (SkipUnlessLessEqual left right count) h r = (omega (arith, r), omega (arith, r))
+within_one room (SkipUnlessEqual left right count) h r = (omega (arith, r), omega (arith, r))
+within_one room (SkipUnlessDiffer left right count) h r = (omega (arith, r), omega (arith, r))
 
 pub within_all : (room : Room) (ops : List Op) → AllByRecursion (IsShaped room) ops → reach_all ops ≤ room.registers → AllByRecursion (IsWithin room) ops
 within_all room [] all r = tt
@@ -118,8 +127,8 @@ module _ (code : TaskletTree) (room : Room) where
   shaped_test true value count = tt
   shaped_test false value count = tt
 
-  shaped_either : (skips : Bool) (value : ℕ) (first second : List Op) → Shaped first → Shaped second → Shaped (either_code skips value first second)
-  shaped_either skips value first second all more = (shaped_test skips value (length first + 1), join first (Skip (length second) ∷ second) all (tt, more))
+  shaped_either : (test : ℕ → Op) (first second : List Op) → ((count : ℕ) → IsShaped room (test count)) → Shaped first → Shaped second → Shaped (either_code test first second)
+  shaped_either test first second h all more = (h (length first + 1), join first (Skip (length second) ∷ second) all (tt, more))
 
   shaped_unless : (tree : ValueTree) (ops : List Op) → Shaped ops → Shaped (unless_ready tree ops)
   shaped_unless tree ops all = either_way (is_ready tree)
@@ -128,11 +137,47 @@ module _ (code : TaskletTree) (room : Room) where
       either_way true = tt
       either_way false = all
 
+  shaped_op : (sign : TwoSign) (left right value count : ℕ) → IsShaped room (unless_op sign left right value count)
+  shaped_op between.Or left right value count = tt
+  shaped_op between.And left right value count = tt
+  shaped_op between.Less left right value count = tt
+  shaped_op between.LessEqual left right value count = tt
+  shaped_op between.Greater left right value count = tt
+  shaped_op between.GreaterEqual left right value count = tt
+  shaped_op between.Equal left right value count = tt
+  shaped_op between.Differ left right value count = tt
+  shaped_op between.BitOr left right value count = tt
+  shaped_op between.BitXor left right value count = tt
+  shaped_op between.BitAnd left right value count = tt
+  shaped_op between.Add left right value count = tt
+  shaped_op between.Sub left right value count = tt
+  shaped_op between.Mul left right value count = tt
+  shaped_op between.FloorDiv left right value count = tt
+  shaped_op between.Mod left right value count = tt
+  shaped_op between.Min left right value count = tt
+  shaped_op between.Max left right value count = tt
+
+  shaped_condition : (layout : Layout) (free : ℕ) (when : ValueTree) (count : ℕ) → IsShaped room (condition_op layout free when count)
+  shaped_condition layout free (literal value) count = tt
+  shaped_condition layout free (variable place) count = tt
+  shaped_condition layout free (local number) count = tt
+  shaped_condition layout free (input connector at) count = tt
+  shaped_condition layout free (one sign of) count = tt
+  shaped_condition layout free (two sign left right) count = shaped_op sign (operand_register layout free left) (operand_register layout (free + 1) right) free count
+  shaped_condition layout free (choice value when other) count = tt
+
+  shaped_compared : (sign : TwoSign) (compared straight : List Op) → Shaped compared → Shaped straight → Shaped (if is_comparison sign then compared else straight)
+  shaped_compared sign compared straight all more = either_way (is_comparison sign)
+    where
+      either_way : (b : Bool) → Shaped (if b then compared else straight)
+      either_way true = all
+      either_way false = more
+
   shaped_second : (sign : TwoSign) (left to right : ℕ) (tree : ValueTree) (jumped straight : List Op) → room.given ≤ to → Shaped jumped → Shaped straight → Shaped (second_code sign left to right tree jumped straight)
   shaped_second sign left to right tree jumped straight h all more = either_way (is_lazy sign && not (is_ready tree))
     where
-      either_way : (b : Bool) → Shaped (if b then either_code (jumps_where sign) left jumped (Copy to left ∷ []) else unless_ready tree straight ++ two_op sign to left right ∷ [])
-      either_way true = shaped_either (jumps_where sign) left jumped (Copy to left ∷ []) all (h, tt)
+      either_way : (b : Bool) → Shaped (if b then either_code (test_op (jumps_where sign) left) jumped (Copy to left ∷ []) else unless_ready tree straight ++ two_op sign to left right ∷ [])
+      either_way true = shaped_either (test_op (jumps_where sign) left) jumped (Copy to left ∷ []) (shaped_test (jumps_where sign) left) all (h, tt)
       either_way false = join (unless_ready tree straight) (two_op sign to left right ∷ []) (shaped_unless tree straight more) (shaped_two sign to left right h, tt)
 
   -- the room of the code
@@ -169,9 +214,26 @@ module _ (code : TaskletTree) (room : Room) where
         let layout = layout_of code in
         let first = value_code layout to free value in
         let second = value_code layout to free other in
-        join (unless_ready when (value_code layout free (free + 1) when)) (either_code false (operand_register layout free when) first second)
-        (shaped_unless when (value_code layout free (free + 1) when) (value_shaped room_is when free (free + 1) names.1 low (omega arith)))
-        (shaped_either false (operand_register layout free when) first second (value_shaped room_is value to free names.0 h low) (value_shaped room_is other to free names.2 h low))
+        let straight = value_code layout free (free + 1) when in
+        let test = condition_op layout free when in
+        join (condition_code layout free when straight) (either_code test first second)
+        (condition_shaped room_is when free names.1 low straight (value_shaped room_is when free (free + 1) names.1 low (omega arith)))
+        (shaped_either test first second (shaped_condition layout free when) (value_shaped room_is value to free names.0 h low) (value_shaped room_is other to free names.2 h low))
+
+    condition_shaped : IsRoom → (when : ValueTree) (free : ℕ) → NamesOf code when → room.given ≤ free → (straight : List Op) → Shaped straight → Shaped (condition_code (layout_of code) free when straight)
+    condition_shaped room_is (literal value) free names low straight all = all
+    condition_shaped room_is (variable place) free names low straight all = tt
+    condition_shaped room_is (local number) free names low straight all = tt
+    condition_shaped room_is (input connector at) free names low straight all = shaped_unless (input connector at) straight all
+    condition_shaped room_is (one sign of) free names low straight all = all
+    condition_shaped room_is (two sign left right) free names low straight all =
+        let layout = layout_of code in
+        let first = value_code layout free (free + 1) left in
+        let second = value_code layout (free + 1) (free + 1 + 1) right in
+        shaped_compared sign (unless_ready left first ++ unless_ready right second) straight
+        (join (unless_ready left first) (unless_ready right second) (shaped_unless left first (value_shaped room_is left free (free + 1) names.0 low (omega arith)))
+        (shaped_unless right second (value_shaped room_is right (free + 1) (free + 1 + 1) names.1 (omega arith) (omega arith)))) all
+    condition_shaped room_is (choice value when other) free names low straight all = all
 
     values_shaped : IsRoom → (trees : ValueTrees) (free : ℕ) → AllNamesOf code trees → room.given ≤ free → Shaped (values_code (layout_of code) free trees)
     values_shaped room_is no_value free names low = tt
@@ -205,12 +267,13 @@ module _ (code : TaskletTree) (room : Room) where
     act_shaped room_is plain (branch when body other) sets =
         let layout = layout_of code in
         let free = free_register layout in
-        let ops = value_code layout free (free + 1) when in
+        let straight = value_code layout free (free + 1) when in
+        let test = condition_op layout free when in
         let first = acts_code plain layout body in
         let second = acts_code plain layout other in
-        join (unless_ready when ops) (either_code false (operand_register layout free when) first second)
-        (shaped_unless when ops (value_shaped room_is when free (free + 1) sets.0 (omega (arith, room_is.given)) (omega (arith, room_is.given))))
-        (shaped_either false (operand_register layout free when) first second (acts_shaped room_is plain body sets.1) (acts_shaped room_is plain other sets.2))
+        join (condition_code layout free when straight) (either_code test first second)
+        (condition_shaped room_is when free sets.0 (omega (arith, room_is.given)) straight (value_shaped room_is when free (free + 1) sets.0 (omega (arith, room_is.given)) (omega (arith, room_is.given))))
+        (shaped_either test first second (shaped_condition layout free when) (acts_shaped room_is plain body sets.1) (acts_shaped room_is plain other sets.2))
 
     acts_shaped : IsRoom → (plain : Bool) (acts : ActTrees) → AllSetsOf code acts → Shaped (acts_code plain (layout_of code) acts)
     acts_shaped room_is plain no_act sets = tt

@@ -1,7 +1,7 @@
 -- How many registers instructions need.
 use Rattle.std.specs.Prelude.{ℕ, ◌+◌, List, [], ◌∷◌, max}
 use Rattle.sd_op.specs.declared.op.Op.{Op}
-use Rattle.sd_op.specs.declared.op.Op.TheVariants.{Number, Copy, Not, Neg, Inv, Or, And, Less, LessEqual, Greater, GreaterEqual, Equal, Differ, BitOr, BitXor, BitAnd, Add, Sub, Mul, FloorDiv, Mod, Min, Max, Element, Inside, Keep, Skip, SkipIfZero, SkipUnlessZero}
+use Rattle.sd_op.specs.declared.op.Op.TheVariants.{Number, Copy, Not, Neg, Inv, Or, And, Less, LessEqual, Greater, GreaterEqual, Equal, Differ, BitOr, BitXor, BitAnd, Add, Sub, Mul, FloorDiv, Mod, Min, Max, Element, Inside, Keep, Skip, SkipIfZero, SkipUnlessZero, SkipUnlessLess, SkipUnlessLessEqual, SkipUnlessEqual, SkipUnlessDiffer}
 
 -- how many registers there have to be for those that an instruction names
 abbrev pub reach : Op → ℕ
@@ -34,6 +34,10 @@ reach (Keep dims connector first value) = max (first + dims) (value + 1)
 reach (Skip count) = 0
 reach (SkipIfZero value count) = value + 1
 reach (SkipUnlessZero value count) = value + 1
+reach (SkipUnlessLess left right count) = max (left + 1) (right + 1)
+reach (SkipUnlessLessEqual left right count) = max (left + 1) (right + 1)
+reach (SkipUnlessEqual left right count) = max (left + 1) (right + 1)
+reach (SkipUnlessDiffer left right count) = max (left + 1) (right + 1)
 
 -- the same for all of them
 abbrev pub reach_all : List Op → ℕ

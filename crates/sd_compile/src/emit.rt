@@ -3,6 +3,7 @@ ghost use Rattle.sd_graph.specs.TreeFold.{value_tree, value_trees};
 ghost use Rattle.sd_tcode.specs.Named.{count_of};
 ghost use Rattle.sd_tcode.specs.Emitted as emitted;
 ghost use Rattle.sd_tcode.specs.Emitted.{IsReadyAt};
+ghost use Rattle.sd_compile.specs.Jumps as jumps;
 
 use sd_graph::{OneSign, TwoSign, Value};
 use sd_list::NoMemory;
@@ -75,14 +76,75 @@ fn jumps_where(sign: TwoSign) -> bool
     matches!(sign, TwoSign::Or)
 }
 
-/// A jump by a register.
-fn test_op(skips: bool, value: u32, count: u32) -> Op
-    ensures { result ≡ emitted.test_op skips value count }
+/// A jump by a register, which is not told yet how many instructions it passes.
+fn test_op(skips: bool, value: u32) -> Op
+    ensures { result ≡ emitted.test_op skips value 0 }
 {
+    let count = 0;
     if skips {
         Op::SkipUnlessZero { value, count }
     } else {
         Op::SkipIfZero { value, count }
+    }
+}
+
+/// The sign compares two values.
+fn is_comparison(sign: TwoSign) -> bool
+    ensures { result ≡ emitted.is_comparison sign }
+{
+    matches!(
+        sign,
+        TwoSign::Less
+            | TwoSign::LessEqual
+            | TwoSign::Greater
+            | TwoSign::GreaterEqual
+            | TwoSign::Equal
+            | TwoSign::Differ
+    )
+}
+
+/// The jump unless a sign between two registers holds, of which another register has the value where it
+/// is no comparison.
+fn unless_op(sign: TwoSign, left: u32, right: u32, value: u32) -> Op
+    ensures { result ≡ emitted.unless_op sign left right value 0 }
+{
+    let count = 0;
+    match sign {
+        TwoSign::Less => Op::SkipUnlessLess { left, right, count },
+        TwoSign::LessEqual => Op::SkipUnlessLessEqual { left, right, count },
+        TwoSign::Greater => Op::SkipUnlessLess {
+            left: right,
+            right: left,
+            count,
+        },
+        TwoSign::GreaterEqual => Op::SkipUnlessLessEqual {
+            left: right,
+            right: left,
+            count,
+        },
+        TwoSign::Equal => Op::SkipUnlessEqual { left, right, count },
+        TwoSign::Differ => Op::SkipUnlessDiffer { left, right, count },
+        _ => Op::SkipIfZero { value, count },
+    }
+}
+
+/// A jump that passes so many instructions.
+fn with_count(op: Op, count: u32) -> Op
+    ensures { result ≡ jumps.with_count op count }
+{
+    match op {
+        Op::Skip { .. } => Op::Skip { count },
+        Op::SkipIfZero { value, .. } => Op::SkipIfZero { value, count },
+        Op::SkipUnlessZero { value, .. } => Op::SkipUnlessZero { value, count },
+        Op::SkipUnlessLess { left, right, .. } => Op::SkipUnlessLess { left, right, count },
+        Op::SkipUnlessLessEqual { left, right, .. } => Op::SkipUnlessLessEqual {
+            left,
+            right,
+            count,
+        },
+        Op::SkipUnlessEqual { left, right, .. } => Op::SkipUnlessEqual { left, right, count },
+        Op::SkipUnlessDiffer { left, right, .. } => Op::SkipUnlessDiffer { left, right, count },
+        _ => op,
     }
 }
 
@@ -93,21 +155,15 @@ fn count_op(count: usize) -> Result<u32, NoMemory>
     u32::try_from(count).map_err(|_| NoMemory)
 }
 
-/// Writes the jumps past the first instructions, which begin behind `test`, and past the second,
+/// Writes a jump past the first instructions, which begin behind `test`, and the one past the second,
 /// which begin behind `middle`.
-pub(crate) fn join(
-    ops: &mut Vec<Op>,
-    skips: bool,
-    value: u32,
-    test: usize,
-    middle: usize,
-) -> Result<(), NoMemory>
+pub(crate) fn join(ops: &mut Vec<Op>, jump: Op, test: usize, middle: usize) -> Result<(), NoMemory>
     requires test { test < middle }
     requires middle { middle < length ops.old.items }
-    ensures { OnOk result (ops.new.items ≡ slice_set (slice_set ops.old.items test (emitted.test_op skips value (middle - test))) middle (Op.Skip (length ops.old.items - middle - 1))) }
+    ensures { OnOk result (ops.new.items ≡ slice_set (slice_set ops.old.items test (jumps.with_count jump (middle - test))) middle (Op.Skip (length ops.old.items - middle - 1))) }
 {
     let end = ops.len();
-    ops[test] = test_op(skips, value, count_op(middle - test)?);
+    ops[test] = with_count(jump, count_op(middle - test)?);
     ops[middle] = Op::Skip {
         count: count_op(end - middle - 1)?,
     };
@@ -202,14 +258,39 @@ pub(crate) fn emit_value(
             emit_second(ops, layout, *sign, left, right, to, behind(free, 1)?)
         }
         Value::Choice { value, when, other } => {
-            let register = emit_operand(ops, layout, when, free)?;
+            let jump = emit_condition(ops, layout, when, free)?;
             let test = ops.len();
-            put(ops, Op::Skip { count: 0 })?;
+            put(ops, jump)?;
             emit_value(ops, layout, value, to, free)?;
             let middle = ops.len();
             put(ops, Op::Skip { count: 0 })?;
             emit_value(ops, layout, other, to, free)?;
-            join(ops, false, register, test, middle)
+            join(ops, jump, test, middle)
+        }
+    }
+}
+
+/// What is computed before the jump of a condition: both sides of a comparison, or else its value.
+/// Gives the jump, which is not told yet how many instructions it passes.
+#[cycle(values)]
+pub(crate) fn emit_condition(
+    ops: &mut Vec<Op>,
+    layout: Layout,
+    when: &Value,
+    free: u32,
+) -> Result<Op, NoMemory>
+    ensures code { OnOk result (ops.new.items ≡ ops.old.items ++ emitted.condition_code layout free (value_tree when.now) (emitted.value_code layout free (free + 1) (value_tree when.now))) }
+    ensures jump { IfOk result (λ jump. jump ≡ emitted.condition_op layout free (value_tree when.now) 0) }
+{
+    match when {
+        Value::Two { sign, left, right } if is_comparison(*sign) => {
+            let left = emit_operand(ops, layout, left, free)?;
+            let right = emit_operand(ops, layout, right, behind(free, 1)?)?;
+            Ok(unless_op(*sign, left, right, free))
+        }
+        _ => {
+            let value = emit_operand(ops, layout, when, free)?;
+            Ok(Op::SkipIfZero { value, count: 0 })
         }
     }
 }
@@ -261,13 +342,14 @@ fn emit_second(
     ensures { OnOk result (ops.new.items ≡ ops.old.items ++ emitted.second_code sign left to (emitted.operand_register layout free (value_tree right.now)) (value_tree right.now) (emitted.value_code layout to free (value_tree right.now)) (emitted.value_code layout free (free + 1) (value_tree right.now))) }
 {
     if is_lazy(sign) && !is_ready(right) {
+        let jump = test_op(jumps_where(sign), left);
         let test = ops.len();
-        put(ops, Op::Skip { count: 0 })?;
+        put(ops, jump)?;
         emit_value(ops, layout, right, to, free)?;
         let middle = ops.len();
         put(ops, Op::Skip { count: 0 })?;
         put(ops, Op::Copy { to, from: left })?;
-        return join(ops, jumps_where(sign), left, test, middle);
+        return join(ops, jump, test, middle);
     }
     let right = emit_operand(ops, layout, right, free)?;
     put(ops, two_op(sign, to, left, right))

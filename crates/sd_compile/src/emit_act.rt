@@ -4,7 +4,7 @@ ghost use Rattle.sd_graph.specs.TreeFold.{act_tree, act_trees, value_tree, value
 ghost use Rattle.sd_tcode.specs.Named.{count_of};
 ghost use Rattle.sd_tcode.specs.Emitted as emitted;
 
-use crate::emit::{behind, dims_of, emit_operand, emit_value, emit_values, is_scalar, join, put};
+use crate::emit::{behind, dims_of, emit_condition, emit_value, emit_values, is_scalar, join, put};
 use sd_graph::{Act, Value};
 use sd_list::NoMemory;
 use sd_op::Op;
@@ -95,14 +95,14 @@ fn emit_act(ops: &mut Vec<Op>, layout: Layout, plain: bool, act: &Act) -> Result
             value,
         } => emit_assignment(ops, layout, plain, *connector, at, value),
         Act::When { when, body, other } => {
-            let register = emit_operand(ops, layout, when, free_register(layout)?)?;
+            let jump = emit_condition(ops, layout, when, free_register(layout)?)?;
             let test = ops.len();
-            put(ops, Op::Skip { count: 0 })?;
+            put(ops, jump)?;
             emit_acts(ops, layout, plain, body)?;
             let middle = ops.len();
             put(ops, Op::Skip { count: 0 })?;
             emit_acts(ops, layout, plain, other)?;
-            join(ops, false, register, test, middle)
+            join(ops, jump, test, middle)
         }
     }
 }

@@ -59,6 +59,10 @@ fn reach(op: Op) -> usize
         } => past_index(first, dims).max(past(value)),
         Op::Skip { .. } => 0,
         Op::SkipIfZero { value, .. } | Op::SkipUnlessZero { value, .. } => past(value),
+        Op::SkipUnlessLess { left, right, .. }
+        | Op::SkipUnlessLessEqual { left, right, .. }
+        | Op::SkipUnlessEqual { left, right, .. }
+        | Op::SkipUnlessDiffer { left, right, .. } => past(left).max(past(right)),
     }
 }
 

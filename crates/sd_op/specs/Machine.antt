@@ -1,5 +1,6 @@
 -- What instructions do.
-use Rattle.std.specs.Prelude.{ℕ, zero, suc, ◌+◌, ℤ, pos, List, [], ◌∷◌, ◌++◌, Result, Ok, Err, if◌then◌else◌, slice_index_or, slice_set, slice_range}
+use Rattle.std.specs.Prelude.{ℕ, zero, suc, ◌+◌, ℤ, pos, List, [], ◌∷◌, ◌++◌, Result, Ok, Err, not, int_lt, int_le, if◌then◌else◌, slice_index_or, slice_set, slice_range}
+use Rattle.std.specs.Ordering.{int_eq}
 use Rattle.sd_work.specs.declared.fault.FaultKind.{FaultKind}
 use Rattle.sd_graph.specs.RowOrder.{row_number}
 use Rattle.sd_graph.specs.TaskletMeaning.{Meaning, and_then, checked, holds, one_value, two_values}
@@ -9,7 +10,7 @@ use Rattle.sd_graph.specs.declared.operator.TwoSign.TheVariants as between
 use Rattle.sd_tasklet.specs.Kept.{filled}
 use Rattle.sd_tasklet.specs.declared.effect.Effect.{Effect}
 use Rattle.sd_op.specs.declared.op.Op.{Op}
-use Rattle.sd_op.specs.declared.op.Op.TheVariants.{Number, Copy, Not, Neg, Inv, Or, And, Less, LessEqual, Greater, GreaterEqual, Equal, Differ, BitOr, BitXor, BitAnd, Add, Sub, Mul, FloorDiv, Mod, Min, Max, Element, Inside, Keep, Skip, SkipIfZero, SkipUnlessZero}
+use Rattle.sd_op.specs.declared.op.Op.TheVariants.{Number, Copy, Not, Neg, Inv, Or, And, Less, LessEqual, Greater, GreaterEqual, Equal, Differ, BitOr, BitXor, BitAnd, Add, Sub, Mul, FloorDiv, Mod, Min, Max, Element, Inside, Keep, Skip, SkipIfZero, SkipUnlessZero, SkipUnlessLess, SkipUnlessLessEqual, SkipUnlessEqual, SkipUnlessDiffer}
 use Rattle.sd_op.specs.declared.array.Array.{Array}
 
 -- what instructions change: registers, and the effects that were kept so far
@@ -89,12 +90,20 @@ after_one arrays (Keep dims connector first value) state =
 after_one arrays (Skip count) state = Ok state
 after_one arrays (SkipIfZero value count) state = Ok state
 after_one arrays (SkipUnlessZero value count) state = Ok state
+after_one arrays (SkipUnlessLess left right count) state = Ok state
+after_one arrays (SkipUnlessLessEqual left right count) state = Ok state
+after_one arrays (SkipUnlessEqual left right count) state = Ok state
+after_one arrays (SkipUnlessDiffer left right count) state = Ok state
 
 -- how many instructions are passed after an instruction
 abbrev pub passed : Op → State → ℕ
 passed (Skip count) state = count
 passed (SkipIfZero value count) state = if holds (register state value) then 0 else count
 passed (SkipUnlessZero value count) state = if holds (register state value) then count else 0
+passed (SkipUnlessLess left right count) state = if int_lt (register state left) (register state right) then 0 else count
+passed (SkipUnlessLessEqual left right count) state = if int_le (register state left) (register state right) then 0 else count
+passed (SkipUnlessEqual left right count) state = if int_eq (register state left) (register state right) then 0 else count
+passed (SkipUnlessDiffer left right count) state = if not (int_eq (register state left) (register state right)) then 0 else count
 passed op state = 0
 
 -- Instructions one after another, where so many are passed first. With the state comes how many are still to be passed.

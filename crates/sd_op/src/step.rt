@@ -1,4 +1,4 @@
-ghost use Rattle.std.specs.Prelude.{◌≡◌, ◌^◌, ◌+◌, ◌≤◌, ◌<◌, length, take, pos, slice_set, slice_range, slice_index_or, Ok, OnErr, IfOk};
+ghost use Rattle.std.specs.Prelude.{◌≡◌, ◌^◌, ◌+◌, ◌≤◌, ◌<◌, length, take, pos, slice_set, slice_range, slice_index_or, Ok, OnErr, IfOk, if◌then◌else◌};
 ghost use Rattle.sd_graph.specs.TaskletMeaning as meaning;
 ghost use Rattle.sd_tasklet.specs.Kept as kept;
 ghost use Rattle.sd_op.specs.Machine.{State, after_one, passed, answered, extents_at, cell_of};
@@ -62,6 +62,14 @@ fn kept_index(registers: &[i64], first: u32, dims: u8) -> [u64; 4]
         1 => [registers[first as usize].unsigned_abs(), 0, 0, 0],
         _ => filled(index_of(registers, first, dims)),
     }
+}
+
+/// How many instructions a jump passes that is taken unless a comparison holds.
+#[inline(always)]
+fn unless(compares: bool, count: u32) -> usize
+    ensures { result ≡ (if compares then 0 else count) }
+{
+    if compares { 0 } else { count as usize }
 }
 
 /// One instruction. Gives how many instructions are passed after it.
@@ -157,6 +165,18 @@ pub(crate) fn step(
             return Ok(count as usize);
         }
         Op::SkipIfZero { .. } | Op::SkipUnlessZero { .. } => {}
+        Op::SkipUnlessLess { left, right, count } => {
+            return Ok(unless(registers[left as usize] < registers[right as usize], count));
+        }
+        Op::SkipUnlessLessEqual { left, right, count } => {
+            return Ok(unless(registers[left as usize] <= registers[right as usize], count));
+        }
+        Op::SkipUnlessEqual { left, right, count } => {
+            return Ok(unless(registers[left as usize] == registers[right as usize], count));
+        }
+        Op::SkipUnlessDiffer { left, right, count } => {
+            return Ok(unless(registers[left as usize] != registers[right as usize], count));
+        }
     }
     Ok(0)
 }

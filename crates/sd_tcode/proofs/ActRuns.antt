@@ -13,14 +13,13 @@ use Rattle.sd_tasklet.proofs.KeptLemmas.{front_filled}
 use Rattle.sd_tcode.specs.Named.{count_of, dimensions_of, SetsOf, AllSetsOf}
 use Rattle.sd_op.specs.Machine.{State, register, index_in, with_kept}
 use Rattle.sd_op.specs.Within.{Room, IsWithin}
-use Rattle.sd_tcode.specs.Emitted.{output_register, local_register, free_register, operand_register, unless_ready, either_code, value_code, values_code, inside_code, act_code, acts_code, layout_of}
+use Rattle.sd_tcode.specs.Emitted.{output_register, local_register, free_register, either_code, condition_op, condition_code, value_code, values_code, inside_code, act_code, acts_code, layout_of}
 use Rattle.sd_op.specs.declared.array.Array.{Array}
 use Rattle.sd_op.specs.declared.op.Op.{Op}
 use Rattle.sd_op.specs.declared.op.Op.TheVariants.{Keep, Skip}
-use Rattle.sd_tcode.proofs.Flow.{all_front, all_back, Comes, comes_on, comes_not, either_first, either_second}
-use Rattle.sd_tcode.proofs.Signs.{test_passes}
+use Rattle.sd_tcode.proofs.Flow.{all_front, all_back, Comes, comes_on, comes_not, Jumps, either_first, either_second}
 use Rattle.sd_tcode.proofs.States.{Kept, Leaves}
-use Rattle.sd_tcode.proofs.Runs.{scalar_inside, Holds, Stands, Yields, Reads, ReadsAll, AllIn, value_runs, values_run, operand, unless_open, still_stands, index_more, index_none}
+use Rattle.sd_tcode.proofs.Runs.{scalar_inside, Holds, Stands, Yields, Decides, ReadsAll, AllIn, value_runs, values_run, condition_runs, still_stands, index_more, index_none}
 
 module _ (code : TaskletTree) (inputs : Inputs) (arrays : List Array) (room : Room) where
   abbrev first_free : ℕ
@@ -184,19 +183,19 @@ module _ (code : TaskletTree) (inputs : Inputs) (arrays : List Array) (room : Ro
           subst (λ ops. Comes arrays ops state (Err kind)) (append_assoc subscripts checks more) (comes_not arrays (subscripts ++ checks) more state kind p)
 
   -- a branch, behind its condition
-  branch_by : (value : ℕ) (first second : List Op) (state : State) (meant other : Meaning Progress) (b : Bool) → holds (register state value) ≡ b → Does first state meant → Does second state other →
-      Does (either_code false value first second) state (if b then meant else other)
-  branch_by value first second state (Ok next) other true h d e = (d.0, d.1, either_first arrays false value first second state (Ok d.0) (test_passes false value (length first + 1) state true h) d.2)
-  branch_by value first second state (Err kind) other true h d e = either_first arrays false value first second state (Err kind) (test_passes false value (length first + 1) state true h) d
-  branch_by value first second state meant (Ok next) false h d e = (e.0, e.1, either_second arrays false value first second state (Ok e.0) (test_passes false value (length first + 1) state false h) e.2)
-  branch_by value first second state meant (Err kind) false h d e = either_second arrays false value first second state (Err kind) (test_passes false value (length first + 1) state false h) e
+  branch_by : (test : ℕ → Op) (first second : List Op) (state : State) (meant other : Meaning Progress) (b : Bool) → ((count : ℕ) → Jumps arrays (test count) state (if b then 0 else count)) → Does first state meant → Does second state other →
+      Does (either_code test first second) state (if b then meant else other)
+  branch_by test first second state (Ok next) other true h d e = (d.0, d.1, either_first arrays test first second state (Ok d.0) (h (length first + 1)) d.2)
+  branch_by test first second state (Err kind) other true h d e = either_first arrays test first second state (Err kind) (h (length first + 1)) d
+  branch_by test first second state meant (Ok next) false h d e = (e.0, e.1, either_second arrays test first second state (Ok e.0) (h (length first + 1)) e.2)
+  branch_by test first second state meant (Err kind) false h d e = either_second arrays test first second state (Err kind) (h (length first + 1)) e
 
-  branch_does : (ops more : List Op) (state : State) (now : Progress) (from : ℕ) (meant : Meaning ℤ) (rest : ℤ → Meaning Progress) → Before now state → Reads code inputs arrays room ops state first_free from meant →
-      ((value : ℤ) (after : State) → Before now after → register after from ≡ value → Does more after (rest value)) → Does (ops ++ more) state (and_then meant rest)
-  branch_does ops more state now from (Ok value) rest b r f =
+  branch_does : (ops more : List Op) (state : State) (now : Progress) (test : ℕ → Op) (meant : Meaning ℤ) (rest : ℤ → Meaning Progress) → Before now state → Decides code inputs arrays room ops state first_free test meant →
+      ((value : ℤ) (after : State) → Before now after → ((count : ℕ) → Jumps arrays (test count) after (if holds value then 0 else count)) → Does more after (rest value)) → Does (ops ++ more) state (and_then meant rest)
+  branch_does ops more state now test (Ok value) rest b r f =
       let before : Before now r.0 = record { many = r.1.many ∙ b.many; stands = still_stands code inputs arrays room now.locals first_free state r.0 (omega arith) r.1 b.stands; locals_many = b.locals_many; effects = ap (map (told inputs)) r.1.effects ∙ b.effects } in
       does_on ops more state r.0 (rest value) r.3 (f value r.0 before r.2)
-  branch_does ops more state now from (Err kind) rest b r f = comes_not arrays ops more state kind r
+  branch_does ops more state now test (Err kind) rest b r f = comes_not arrays ops more state kind r
 
   then_does : (ops more : List Op) (state : State) (meant : Meaning Progress) (rest : Progress → Meaning Progress) → Does ops state meant → ((next : Progress) (after : State) → Before next after → Does more after (rest next)) → Does (ops ++ more) state (and_then meant rest)
   then_does ops more state (Ok next) rest d f = does_on ops more state d.0 (rest next) d.2 (f next d.0 d.1)
@@ -211,17 +210,17 @@ module _ (code : TaskletTree) (inputs : Inputs) (arrays : List Array) (room : Ro
     act_runs given (assign connector at value) now state sets all b = assign_does given connector at value now state sets all b
     act_runs given (branch when body other) now state sets all b =
         let layout = layout_of code in
-        let ops = value_code layout first_free (first_free + 1) when in
-        let front = unless_ready when ops in
-        let from = operand_register layout first_free when in
+        let straight = value_code layout first_free (first_free + 1) when in
+        let front = condition_code layout first_free when straight in
+        let test = condition_op layout first_free when in
         let first = acts_code false layout body in
         let second = acts_code false layout other in
-        let behind = either_code false from first second in
+        let behind = either_code test first second in
         let inside_behind = (all_back (IsWithin room) front behind all).1 in
-        branch_does front behind state now from (value_of inputs now.locals when) (λ condition. if holds condition then acts_of inputs body now else acts_of inputs other now) b
-        (operand code inputs arrays room given when now.locals first_free state sets.0 b.stands ops
-        (λ r. value_runs code inputs arrays room given when now.locals first_free (first_free + 1) state sets.0 (omega arith) (omega arith) (unless_open code inputs arrays room when ops r (all_front (IsWithin room) front behind all)) b.many b.stands))
-        (λ condition after before here. branch_by from first second after (acts_of inputs body now) (acts_of inputs other now) (holds condition) (ap holds here)
+        branch_does front behind state now test (value_of inputs now.locals when) (λ condition. if holds condition then acts_of inputs body now else acts_of inputs other now) b
+        (condition_runs code inputs arrays room given when now.locals first_free state sets.0 (omega arith) straight
+        (λ all. value_runs code inputs arrays room given when now.locals first_free (first_free + 1) state sets.0 (omega arith) (omega arith) all b.many b.stands) (all_front (IsWithin room) front behind all) b.many b.stands)
+        (λ condition after before jumps. branch_by test first second after (acts_of inputs body now) (acts_of inputs other now) (holds condition) jumps
         (acts_run given body now after sets.1 (all_front (IsWithin room) first (Skip (length second) ∷ second) inside_behind) before)
         (acts_run given other now after sets.2 (all_back (IsWithin room) first (Skip (length second) ∷ second) inside_behind).1 before))
 

@@ -1,10 +1,10 @@
 -- Instructions one after another, and past one another.
-use Rattle.std.proofs.Common.{◌≡◌, ℕ, zero, suc, ◌+◌, List, [], ◌∷◌, ◌++◌, length, Ok, Err, Bool, true, false, refl, ap, ◌∙◌, arith}
+use Rattle.std.proofs.Common.{◌≡◌, ℕ, zero, suc, ◌+◌, List, [], ◌∷◌, ◌++◌, length, Ok, Err, refl, ap, ◌∙◌, arith}
 use Rattle.std.specs.List.{AllByRecursion}
 use Rattle.sd_graph.specs.TaskletMeaning.{Meaning, and_then}
 use Rattle.sd_work.specs.declared.fault.FaultKind.{FaultKind}
 use Rattle.sd_op.specs.Machine.{State, after_one, passed, after_all}
-use Rattle.sd_tcode.specs.Emitted.{test_op, either_code}
+use Rattle.sd_tcode.specs.Emitted.{either_code}
 use Rattle.sd_op.specs.declared.array.Array.{Array}
 use Rattle.sd_op.specs.declared.op.Op.{Op}
 use Rattle.sd_op.specs.declared.op.Op.TheVariants.{Skip}
@@ -52,28 +52,28 @@ module _ (arrays : List Array) where
   pub comes_not : (first second : List Op) (state : State) (kind : FaultKind) → Comes first state (Err kind) → Comes (first ++ second) state (Err kind)
   comes_not first second state kind h = after_append 0 first second state ∙ ap (λ m. and_then m (go_on second)) h
 
-  -- a jump by a register changes nothing
-  test_stays : (skips : Bool) (value count : ℕ) (rest : List Op) (state : State) → after_all arrays 0 (test_op skips value count ∷ rest) state ≡ after_all arrays (passed (test_op skips value count) state) rest state
-  test_stays true value count rest state = refl
-  test_stays false value count rest state = refl
+  -- a jump changes nothing, and passes so many instructions
+  abbrev pub Jumps : Op → State → (count : ℕ) → Type 0
+  Jumps op state count = (after_one arrays op state ≡ Ok state) × (passed op state ≡ count)
+
+  jump_on : (op : Op) (count : ℕ) (rest : List Op) (state : State) → Jumps op state count → after_all arrays 0 (op ∷ rest) state ≡ after_all arrays count rest state
+  jump_on op count rest state j = ap (λ m. and_then m (λ next. after_all arrays (passed op state) rest next)) j.0 ∙ ap (λ n. after_all arrays n rest state) j.1
 
   -- the first instructions, where the jump is not taken
-  pub either_first : (skips : Bool) (value : ℕ) (first second : List Op) (state : State) (end : Meaning State) →
-      passed (test_op skips value (length first + 1)) state ≡ 0 → Comes first state end → Comes (either_code skips value first second) state end
-  either_first skips value first second state end h g =
-      test_stays skips value (length first + 1) (first ++ Skip (length second) ∷ second) state
-      ∙ (ap (λ n. after_all arrays n (first ++ Skip (length second) ∷ second) state) h
+  pub either_first : (test : ℕ → Op) (first second : List Op) (state : State) (end : Meaning State) →
+      Jumps (test (length first + 1)) state 0 → Comes first state end → Comes (either_code test first second) state end
+  either_first test first second state end h g =
+      jump_on (test (length first + 1)) 0 (first ++ Skip (length second) ∷ second) state h
       ∙ (after_append 0 first (Skip (length second) ∷ second) state
-      ∙ (ap (λ m. and_then m (go_on (Skip (length second) ∷ second))) g ∙ passes end)))
+      ∙ (ap (λ m. and_then m (go_on (Skip (length second) ∷ second))) g ∙ passes end))
     where
       passes : (end : Meaning State) → and_then (and_then end (λ state. Ok (state, 0))) (go_on (Skip (length second) ∷ second)) ≡ and_then end (λ state. Ok (state, 0))
       passes (Ok middle) = pass_all second middle
       passes (Err kind) = refl
 
   -- the second instructions, where it is taken
-  pub either_second : (skips : Bool) (value : ℕ) (first second : List Op) (state : State) (end : Meaning State) →
-      passed (test_op skips value (length first + 1)) state ≡ length first + 1 → Comes second state end → Comes (either_code skips value first second) state end
-  either_second skips value first second state end h g =
-      test_stays skips value (length first + 1) (first ++ Skip (length second) ∷ second) state
-      ∙ (ap (λ n. after_all arrays n (first ++ Skip (length second) ∷ second) state) h
-      ∙ (pass_behind first second (Skip (length second)) state ∙ g))
+  pub either_second : (test : ℕ → Op) (first second : List Op) (state : State) (end : Meaning State) →
+      Jumps (test (length first + 1)) state (length first + 1) → Comes second state end → Comes (either_code test first second) state end
+  either_second test first second state end h g =
+      jump_on (test (length first + 1)) (length first + 1) (first ++ Skip (length second) ∷ second) state h
+      ∙ (pass_behind first second (Skip (length second)) state ∙ g)

@@ -11,15 +11,15 @@ use Rattle.sd_graph.specs.declared.operator.OneSign.TheVariants as before
 use Rattle.sd_graph.specs.declared.operator.TwoSign.{TwoSign}
 use Rattle.sd_graph.specs.declared.operator.TwoSign.TheVariants as between
 use Rattle.sd_tcode.specs.Named.{count_of, dimensions_of, NamesOf, AllNamesOf}
-use Rattle.sd_op.specs.Machine.{State, register, index_in, with_register, with_result, combined, extents_at, cells_at, cell_of, passed}
+use Rattle.sd_op.specs.Machine.{State, register, index_in, with_register, with_result, combined, extents_at, cells_at, cell_of}
 use Rattle.sd_op.specs.Within.{Room, IsWithin}
-use Rattle.sd_tcode.specs.Emitted.{variable_register, local_register, free_register, one_op, two_op, is_lazy, is_ready, operand_register, unless_ready, test_op, either_code, jumps_where, second_code, input_code, value_code, values_code, layout_of}
+use Rattle.sd_tcode.specs.Emitted.{variable_register, local_register, free_register, one_op, two_op, is_lazy, is_ready, is_comparison, operand_register, unless_ready, unless_op, test_op, either_code, jumps_where, second_code, condition_op, condition_code, input_code, value_code, values_code, layout_of}
 use Rattle.sd_op.specs.declared.array.Array.{Array}
 use Rattle.sd_op.specs.declared.op.Op.{Op}
-use Rattle.sd_op.specs.declared.op.Op.TheVariants.{Number, Copy, Element, Skip}
-use Rattle.sd_tcode.proofs.Flow.{all_front, all_back, Comes, comes_on, comes_not, either_first, either_second}
+use Rattle.sd_op.specs.declared.op.Op.TheVariants.{Number, Copy, Element, Skip, SkipIfZero}
+use Rattle.sd_tcode.proofs.Flow.{all_front, all_back, Comes, comes_on, comes_not, Jumps, either_first, either_second}
 use Rattle.sd_tcode.proofs.States.{Kept, Leaves, written, kept_then, stays, kept_free, kept_twice}
-use Rattle.sd_tcode.proofs.Signs.{two_target, one_target, choose, sides_strict, or_decided, or_open, and_decided, and_open, test_passes}
+use Rattle.sd_tcode.proofs.Signs.{two_target, one_target, choose, sides_strict, or_decided, or_open, and_decided, and_open, test_jumps, comparison_strict, other_op, compares}
 
 module _ (code : TaskletTree) (inputs : Inputs) (arrays : List Array) (room : Room) where
   -- the arrays hold the extents of the connectors, and the elements of the inputs that have dimensions
@@ -161,44 +161,44 @@ module _ (code : TaskletTree) (inputs : Inputs) (arrays : List Array) (room : Ro
 
   -- ---- choices
 
-  first_yields : (skips : Bool) (value : ℕ) (first second : List Op) (state : State) (free to : ℕ) (meant : Meaning ℤ) → passed (test_op skips value (length first + 1)) state ≡ 0 →
-      Yields first state free to meant → Yields (either_code skips value first second) state free to meant
-  first_yields skips value first second state free to (Ok this) h y = (y.0, y.1, either_first arrays skips value first second state (Ok y.0) h y.2)
-  first_yields skips value first second state free to (Err kind) h y = either_first arrays skips value first second state (Err kind) h y
+  first_yields : (test : ℕ → Op) (first second : List Op) (state : State) (free to : ℕ) (meant : Meaning ℤ) → Jumps arrays (test (length first + 1)) state 0 →
+      Yields first state free to meant → Yields (either_code test first second) state free to meant
+  first_yields test first second state free to (Ok this) h y = (y.0, y.1, either_first arrays test first second state (Ok y.0) h y.2)
+  first_yields test first second state free to (Err kind) h y = either_first arrays test first second state (Err kind) h y
 
-  second_yields : (skips : Bool) (value : ℕ) (first second : List Op) (state : State) (free to : ℕ) (meant : Meaning ℤ) → passed (test_op skips value (length first + 1)) state ≡ length first + 1 →
-      Yields second state free to meant → Yields (either_code skips value first second) state free to meant
-  second_yields skips value first second state free to (Ok this) h y = (y.0, y.1, either_second arrays skips value first second state (Ok y.0) h y.2)
-  second_yields skips value first second state free to (Err kind) h y = either_second arrays skips value first second state (Err kind) h y
+  second_yields : (test : ℕ → Op) (first second : List Op) (state : State) (free to : ℕ) (meant : Meaning ℤ) → Jumps arrays (test (length first + 1)) state (length first + 1) →
+      Yields second state free to meant → Yields (either_code test first second) state free to meant
+  second_yields test first second state free to (Ok this) h y = (y.0, y.1, either_second arrays test first second state (Ok y.0) h y.2)
+  second_yields test first second state free to (Err kind) h y = either_second arrays test first second state (Err kind) h y
 
-  choice_yields : (value : ℕ) (first second : List Op) (state : State) (free to : ℕ) (meant other : Meaning ℤ) (b : Bool) → holds (register state value) ≡ b →
-      Yields first state free to meant → Yields second state free to other → Yields (either_code false value first second) state free to (choose b meant other)
-  choice_yields value first second state free to meant other true h y z = first_yields false value first second state free to meant (test_passes false value (length first + 1) state true h) y
-  choice_yields value first second state free to meant other false h y z = second_yields false value first second state free to other (test_passes false value (length first + 1) state false h) z
+  choice_yields : (test : ℕ → Op) (first second : List Op) (state : State) (free to : ℕ) (meant other : Meaning ℤ) (b : Bool) → ((count : ℕ) → Jumps arrays (test count) state (if b then 0 else count)) →
+      Yields first state free to meant → Yields second state free to other → Yields (either_code test first second) state free to (choose b meant other)
+  choice_yields test first second state free to meant other true h y z = first_yields test first second state free to meant (h (length first + 1)) y
+  choice_yields test first second state free to meant other false h y z = second_yields test first second state free to other (h (length first + 1)) z
 
   copies : (to from free : ℕ) (value : ℤ) (state : State) → to < length state.registers → register state from ≡ value → Yields (Copy to from ∷ []) state free to (Ok value)
   copies to from free value state h e = last_yields (Copy to from) state free to (Ok value) h (copy_comes to from value state e)
 
   or_yields : (left to free : ℕ) (first : ℤ) (jumped : List Op) (state : State) (meant : Meaning ℤ) (b : Bool) → holds first ≡ b → to < length state.registers → register state left ≡ first →
-      Yields jumped state free to meant → Yields (either_code true left jumped (Copy to left ∷ [])) state free to (two_sides between.Or first meant)
+      Yields jumped state free to meant → Yields (either_code (test_op true left) jumped (Copy to left ∷ [])) state free to (two_sides between.Or first meant)
   or_yields left to free first jumped state meant true h n e y =
-      subst (λ m. Yields (either_code true left jumped (Copy to left ∷ [])) state free to m) (sym (or_decided first (holds first) meant h))
-      (second_yields true left jumped (Copy to left ∷ []) state free to (Ok first) (test_passes true left (length jumped + 1) state true (ap holds e ∙ h)) (copies to left free first state n e))
+      subst (λ m. Yields (either_code (test_op true left) jumped (Copy to left ∷ [])) state free to m) (sym (or_decided first (holds first) meant h))
+      (second_yields (test_op true left) jumped (Copy to left ∷ []) state free to (Ok first) (test_jumps arrays true left (length jumped + 1) state true (ap holds e ∙ h)) (copies to left free first state n e))
   or_yields left to free first jumped state meant false h n e y =
-      subst (λ m. Yields (either_code true left jumped (Copy to left ∷ [])) state free to m) (sym (or_open first (holds first) meant h))
-      (first_yields true left jumped (Copy to left ∷ []) state free to meant (test_passes true left (length jumped + 1) state false (ap holds e ∙ h)) y)
+      subst (λ m. Yields (either_code (test_op true left) jumped (Copy to left ∷ [])) state free to m) (sym (or_open first (holds first) meant h))
+      (first_yields (test_op true left) jumped (Copy to left ∷ []) state free to meant (test_jumps arrays true left (length jumped + 1) state false (ap holds e ∙ h)) y)
 
   and_yields : (left to free : ℕ) (first : ℤ) (jumped : List Op) (state : State) (meant : Meaning ℤ) (b : Bool) → holds first ≡ b → to < length state.registers → register state left ≡ first →
-      Yields jumped state free to meant → Yields (either_code false left jumped (Copy to left ∷ [])) state free to (two_sides between.And first meant)
+      Yields jumped state free to meant → Yields (either_code (test_op false left) jumped (Copy to left ∷ [])) state free to (two_sides between.And first meant)
   and_yields left to free first jumped state meant false h n e y =
-      subst (λ m. Yields (either_code false left jumped (Copy to left ∷ [])) state free to m) (sym (and_decided first (holds first) meant h))
-      (second_yields false left jumped (Copy to left ∷ []) state free to (Ok first) (test_passes false left (length jumped + 1) state false (ap holds e ∙ h)) (copies to left free first state n e))
+      subst (λ m. Yields (either_code (test_op false left) jumped (Copy to left ∷ [])) state free to m) (sym (and_decided first (holds first) meant h))
+      (second_yields (test_op false left) jumped (Copy to left ∷ []) state free to (Ok first) (test_jumps arrays false left (length jumped + 1) state false (ap holds e ∙ h)) (copies to left free first state n e))
   and_yields left to free first jumped state meant true h n e y =
-      subst (λ m. Yields (either_code false left jumped (Copy to left ∷ [])) state free to m) (sym (and_open first (holds first) meant h))
-      (first_yields false left jumped (Copy to left ∷ []) state free to meant (test_passes false left (length jumped + 1) state true (ap holds e ∙ h)) y)
+      subst (λ m. Yields (either_code (test_op false left) jumped (Copy to left ∷ [])) state free to m) (sym (and_open first (holds first) meant h))
+      (first_yields (test_op false left) jumped (Copy to left ∷ []) state free to meant (test_jumps arrays false left (length jumped + 1) state true (ap holds e ∙ h)) y)
 
   lazy_yields : (sign : TwoSign) (left to free : ℕ) (first : ℤ) (jumped : List Op) (state : State) (meant : Meaning ℤ) → is_lazy sign ≡ true → to < length state.registers → register state left ≡ first →
-      Yields jumped state free to meant → Yields (either_code (jumps_where sign) left jumped (Copy to left ∷ [])) state free to (two_sides sign first meant)
+      Yields jumped state free to meant → Yields (either_code (test_op (jumps_where sign) left) jumped (Copy to left ∷ [])) state free to (two_sides sign first meant)
   lazy_yields between.Or left to free first jumped state meant h n e y = or_yields left to free first jumped state meant (holds first) refl n e y
   lazy_yields between.And left to free first jumped state meant h n e y = and_yields left to free first jumped state meant (holds first) refl n e y
   lazy_yields between.Less left to free first jumped state meant h n e y = cc
@@ -301,8 +301,8 @@ module _ (code : TaskletTree) (inputs : Inputs) (arrays : List Array) (room : Ro
       (AllIn jumped → Yields jumped state free to (value_of inputs locals right)) →
       (AllIn straight → Yields straight state (free + 1 + 1) (free + 1) (value_of inputs locals right)) →
       (b : Bool) → (is_lazy sign && not (is_ready right)) ≡ b →
-      AllIn (if b then either_code (jumps_where sign) left jumped (Copy to left ∷ []) else unless_ready right straight ++ two_op sign to left (operand_register (layout_of code) (free + 1) right) ∷ []) →
-      Yields (if b then either_code (jumps_where sign) left jumped (Copy to left ∷ []) else unless_ready right straight ++ two_op sign to left (operand_register (layout_of code) (free + 1) right) ∷ []) state free to (two_sides sign first (value_of inputs locals right))
+      AllIn (if b then either_code (test_op (jumps_where sign) left) jumped (Copy to left ∷ []) else unless_ready right straight ++ two_op sign to left (operand_register (layout_of code) (free + 1) right) ∷ []) →
+      Yields (if b then either_code (test_op (jumps_where sign) left) jumped (Copy to left ∷ []) else unless_ready right straight ++ two_op sign to left (operand_register (layout_of code) (free + 1) right) ∷ []) state free to (two_sides sign first (value_of inputs locals right))
   second_yields_it given sign right locals to free left first state names stands n low e jumped straight yj ys true b all =
       let parts = is_both (is_lazy sign) (is_ready right) b in
       let fits = (all_back (IsWithin room) jumped (Skip 1 ∷ Copy to left ∷ []) all.1).1.0.0.1 in
@@ -323,6 +323,76 @@ module _ (code : TaskletTree) (inputs : Inputs) (arrays : List Array) (room : Ro
       ((value : ℤ) (after : State) → Kept free state after → register after from ≡ value → Yields more after free to (rest value)) → Yields (ops ++ more) state free to (and_then meant rest)
   behind_operand ops more state free from to (Ok value) rest r f = yields_on ops more state r.0 free to (rest value) r.1 r.3 (f value r.0 r.1 r.2)
   behind_operand ops more state free from to (Err kind) rest r f = comes_not arrays ops more state kind r
+
+  -- ---- conditions
+
+  -- instructions behind which a jump is taken unless the value holds, or that come to its fault
+  abbrev pub Decides : List Op → State → (free : ℕ) → (test : ℕ → Op) → Meaning ℤ → Type 0
+  Decides ops state free test (Ok value) = (after : State) × Kept free state after × ((count : ℕ) → Jumps arrays (test count) after (if holds value then 0 else count)) × Comes arrays ops state (Ok after)
+  Decides ops state free test (Err kind) = Comes arrays ops state (Err kind)
+
+  -- by a register that holds the value
+  by_value : (ops : List Op) (state : State) (free from : ℕ) (meant : Meaning ℤ) → Reads ops state free from meant → Decides ops state free (SkipIfZero from) meant
+  by_value ops state free from (Ok value) r = (r.0, r.1, λ count. (refl, ap (λ v. if holds v then 0 else count) r.2), r.3)
+  by_value ops state free from (Err kind) r = r
+
+  -- by a comparison of two registers
+  by_comparison : (sign : TwoSign) (free left right : ℕ) (first : ℤ) (ops : List Op) (state : State) (meant : Meaning ℤ) → is_comparison sign ≡ true → left < free + 1 → register state left ≡ first →
+      Reads ops state (free + 1) right meant → Decides ops state free (unless_op sign left right free) (and_then meant (two_values sign first))
+  by_comparison sign free left right first ops state (Ok second) h low e r =
+      let is = compares arrays sign left right free r.0 h in
+      let kept : Kept free state r.0 = record { many = r.1.many; effects = r.1.effects; rest = λ i below. r.1.rest i (omega arith) } in
+      let same : two_values sign (register r.0 left) (register r.0 right) ≡ two_values sign first second = (λ i. two_values sign ((r.1.rest left low ∙ e) i) (r.2 i)) in
+      subst (λ m. Decides ops state free (unless_op sign left right free) m) (sym is.1 ∙ same) (r.0, kept, is.2, r.3)
+  by_comparison sign free left right first ops state (Err kind) h low e r = r
+
+  decides_on : (ops more : List Op) (state middle : State) (free : ℕ) (test : ℕ → Op) (meant : Meaning ℤ) → Kept free state middle → Comes arrays ops state (Ok middle) → Decides more middle free test meant → Decides (ops ++ more) state free test meant
+  decides_on ops more state middle free test (Ok value) k c d = (d.0, kept_twice free free state middle d.0 (omega arith) k d.1, d.2, comes_on arrays ops more state middle (Ok d.0) c d.3)
+  decides_on ops more state middle free test (Err kind) k c d = comes_on arrays ops more state middle (Err kind) c d
+
+  decides_behind : (ops more : List Op) (state : State) (free from : ℕ) (test : ℕ → Op) (meant : Meaning ℤ) (rest : ℤ → Meaning ℤ) → Reads ops state free from meant →
+      ((value : ℤ) (after : State) → Kept free state after → register after from ≡ value → Decides more after free test (rest value)) → Decides (ops ++ more) state free test (and_then meant rest)
+  decides_behind ops more state free from test (Ok value) rest r f = decides_on ops more state r.0 free test (rest value) r.1 r.3 (f value r.0 r.1 r.2)
+  decides_behind ops more state free from test (Err kind) rest r f = comes_not arrays ops more state kind r
+
+  value_decides : Holds → (when : ValueTree) (locals : List ℤ) (free : ℕ) (state : State) → NamesOf code when → Stands locals state → (straight : List Op) →
+      (AllIn straight → Yields straight state (free + 1) free (value_of inputs locals when)) → AllIn (unless_ready when straight) →
+      Decides (unless_ready when straight) state free (SkipIfZero (operand_register (layout_of code) free when)) (value_of inputs locals when)
+  value_decides given when locals free state names stands straight y all =
+      by_value (unless_ready when straight) state free (operand_register (layout_of code) free when) (value_of inputs locals when)
+      (operand given when locals free state names stands straight (λ r. y (unless_open when straight r all)))
+
+  -- both sides of a comparison, or the value of another sign
+  two_decides : Holds → (sign : TwoSign) (left right : ValueTree) (locals : List ℤ) (free : ℕ) (state : State) → NamesOf code (two sign left right) → free_register (layout_of code) ≤ free → Stands locals state →
+      (first second straight : List Op) → (AllIn first → Yields first state (free + 1) free (value_of inputs locals left)) →
+      ((after : State) → Kept free state after → AllIn second → Yields second after (free + 1 + 1) (free + 1) (value_of inputs locals right)) →
+      (AllIn straight → Yields straight state (free + 1) free (value_of inputs locals (two sign left right))) →
+      (b : Bool) → is_comparison sign ≡ b → AllIn (if b then unless_ready left first ++ unless_ready right second else straight) →
+      Decides (if b then unless_ready left first ++ unless_ready right second else straight) state free
+      (unless_op sign (operand_register (layout_of code) free left) (operand_register (layout_of code) (free + 1) right) free) (value_of inputs locals (two sign left right))
+  two_decides given sign left right locals free state names h stands first second straight yl yr ys true b all =
+      let front = unless_ready left first in
+      let behind = unless_ready right second in
+      let from = operand_register (layout_of code) free left in
+      let other = operand_register (layout_of code) (free + 1) right in
+      decides_behind front behind state free from (unless_op sign from other free) (value_of inputs locals left) (λ value. two_sides sign value (value_of inputs locals right))
+      (operand given left locals free state names.0 stands first (λ r. yl (unless_open left first r (all_front (IsWithin room) front behind all))))
+      (λ value after kept here.
+      subst (λ m. Decides behind after free (unless_op sign from other free) m) (sym (sides_strict sign value (value_of inputs locals right) (inl (comparison_strict sign b))))
+      (by_comparison sign free from other value behind after (value_of inputs locals right) b (operand_low left free names.0 h) here
+      (operand given right locals (free + 1) after names.1 (still_stands locals free state after h kept stands) second
+      (λ r. yr after kept (unless_open right second r (all_back (IsWithin room) front behind all))))))
+  two_decides given sign left right locals free state names h stands first second straight yl yr ys false b all =
+      let from = operand_register (layout_of code) free left in
+      let other = operand_register (layout_of code) (free + 1) right in
+      subst (λ (test : ℕ → Op). Decides straight state free test (value_of inputs locals (two sign left right))) (sym (other_op sign from other free b))
+      (value_decides given (two sign left right) locals free state names stands straight ys all)
+
+  -- behind a condition
+  behind_condition : (ops more : List Op) (state : State) (free to : ℕ) (test : ℕ → Op) (meant : Meaning ℤ) (rest : ℤ → Meaning ℤ) → Decides ops state free test meant →
+      ((value : ℤ) (after : State) → Kept free state after → ((count : ℕ) → Jumps arrays (test count) after (if holds value then 0 else count)) → Yields more after free to (rest value)) → Yields (ops ++ more) state free to (and_then meant rest)
+  behind_condition ops more state free to test (Ok value) rest d f = yields_on ops more state d.0 free to (rest value) d.1 d.3 (f value d.0 d.1 d.2)
+  behind_condition ops more state free to test (Err kind) rest d f = comes_not arrays ops more state kind d
 
   -- a scalar, or an element
   input_yields : Holds → (connector : ℕ) → (at : ValueTrees) (locals : List ℤ) (to free : ℕ) (state : State) → NamesOf code (input connector at) → length state.registers ≡ room.registers → Stands locals state →
@@ -380,22 +450,39 @@ module _ (code : TaskletTree) (inputs : Inputs) (arrays : List Array) (room : Ro
         (is_lazy sign && not (is_ready right)) refl inside_behind)
     value_runs given (choice value when other) locals to free state names h low all n stands =
         let layout = layout_of code in
-        let ops = value_code layout free (free + 1) when in
-        let front = unless_ready when ops in
-        let from = operand_register layout free when in
+        let straight = value_code layout free (free + 1) when in
+        let front = condition_code layout free when straight in
+        let test = condition_op layout free when in
         let first = value_code layout to free value in
         let second = value_code layout to free other in
-        let behind = either_code false from first second in
+        let behind = either_code test first second in
         let inside_behind = (all_back (IsWithin room) front behind all).1 in
-        behind_operand front behind state free from to (value_of inputs locals when) (λ condition. choose (holds condition) (value_of inputs locals value) (value_of inputs locals other))
-        (operand given when locals free state names.1 stands ops
-        (λ r. value_runs given when locals free (free + 1) state names.1 (omega arith) (omega arith) (unless_open when ops r (all_front (IsWithin room) front behind all)) n stands))
-        (λ condition after kept here.
+        behind_condition front behind state free to test (value_of inputs locals when) (λ condition. choose (holds condition) (value_of inputs locals value) (value_of inputs locals other))
+        (condition_runs given when locals free state names.1 h straight
+        (λ all. value_runs given when locals free (free + 1) state names.1 (omega arith) (omega arith) all n stands) (all_front (IsWithin room) front behind all) n stands)
+        (λ condition after kept jumps.
         let stands = still_stands locals free state after h kept stands in
         let many : length after.registers ≡ room.registers = kept.many ∙ n in
-        choice_yields from first second after free to (value_of inputs locals value) (value_of inputs locals other) (holds condition) (ap holds here)
+        choice_yields test first second after free to (value_of inputs locals value) (value_of inputs locals other) (holds condition) jumps
         (value_runs given value locals to free after names.0 h low (all_front (IsWithin room) first (Skip (length second) ∷ second) inside_behind) many stands)
         (value_runs given other locals to free after names.2 h low (all_back (IsWithin room) first (Skip (length second) ∷ second) inside_behind).1 many stands))
+
+    -- a condition and its jump
+    pub condition_runs : Holds → (when : ValueTree) (locals : List ℤ) (free : ℕ) (state : State) → NamesOf code when → free_register (layout_of code) ≤ free → (straight : List Op) →
+        (AllIn straight → Yields straight state (free + 1) free (value_of inputs locals when)) → AllIn (condition_code (layout_of code) free when straight) → length state.registers ≡ room.registers → Stands locals state →
+        Decides (condition_code (layout_of code) free when straight) state free (condition_op (layout_of code) free when) (value_of inputs locals when)
+    condition_runs given (literal value) locals free state names h straight y all n stands = value_decides given (literal value) locals free state names stands straight y all
+    condition_runs given (variable place) locals free state names h straight y all n stands = value_decides given (variable place) locals free state names stands straight y all
+    condition_runs given (local number) locals free state names h straight y all n stands = value_decides given (local number) locals free state names stands straight y all
+    condition_runs given (input connector at) locals free state names h straight y all n stands = value_decides given (input connector at) locals free state names stands straight y all
+    condition_runs given (one sign of) locals free state names h straight y all n stands = value_decides given (one sign of) locals free state names stands straight y all
+    condition_runs given (two sign left right) locals free state names h straight y all n stands =
+        let layout = layout_of code in
+        two_decides given sign left right locals free state names h stands (value_code layout free (free + 1) left) (value_code layout (free + 1) (free + 1 + 1) right) straight
+        (λ all. value_runs given left locals free (free + 1) state names.0 (omega arith) (omega arith) all n stands)
+        (λ after kept all. value_runs given right locals (free + 1) (free + 1 + 1) after names.1 (omega arith) (omega arith) all (kept.many ∙ n) (still_stands locals free state after h kept stands))
+        y (is_comparison sign) refl all
+    condition_runs given (choice value when other) locals free state names h straight y all n stands = value_decides given (choice value when other) locals free state names stands straight y all
 
     pub values_run : Holds → (trees : ValueTrees) (locals : List ℤ) (free : ℕ) (state : State) → AllNamesOf code trees → free_register (layout_of code) ≤ free → free + count_of trees ≤ room.registers →
         AllIn (values_code (layout_of code) free trees) → length state.registers ≡ room.registers → Stands locals state → ReadsAll (values_code (layout_of code) free trees) state free (count_of trees) (values_of inputs locals trees)

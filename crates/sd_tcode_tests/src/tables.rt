@@ -46,6 +46,53 @@ o3 = i0 1 1 i2 // ? -> 3=7
 o3 = 1 i2 // i2 i1 ? -> 3=-3
 o3 = i0 1 i2 // i1 ? -> division";
 
+/// Conditionals, with each comparison where it holds and where it does not.
+const CONDITIONS: &str = "o3 = 1 i1 i0 < 2 ? -> 3=1
+o3 = 1 i0 i0 < 2 ? -> 3=2
+o3 = 1 i0 i1 < 2 ? -> 3=2
+o3 = 1 i1 i0 <= 2 ? -> 3=1
+o3 = 1 i0 i0 <= 2 ? -> 3=1
+o3 = 1 i0 i1 <= 2 ? -> 3=2
+o3 = 1 i0 i1 > 2 ? -> 3=1
+o3 = 1 i0 i0 > 2 ? -> 3=2
+o3 = 1 i1 i0 > 2 ? -> 3=2
+o3 = 1 i0 i1 >= 2 ? -> 3=1
+o3 = 1 i0 i0 >= 2 ? -> 3=1
+o3 = 1 i1 i0 >= 2 ? -> 3=2
+o3 = 1 i0 7 == 2 ? -> 3=1
+o3 = 1 i0 i1 == 2 ? -> 3=2
+o3 = 1 i0 i1 != 2 ? -> 3=1
+o3 = 1 i0 7 != 2 ? -> 3=2
+o3 = 1 i1 i0 + i0 i1 - < 2 ? -> 3=1
+o3 = 1 i0 i1 - i1 i0 + < 2 ? -> 3=2
+o3 = 1 1 i2 // i0 < 2 ? -> division
+o3 = 1 i0 1 i2 // < 2 ? -> division
+o3 = i0 i1 i2 < i2 ? i2 i1 < i1 ? -> 3=-3
+o3 = 1 i0 i1 < i2 i1 i0 < ? 2 ? -> 3=1
+o3 = 1 i0 i1 - 2 ? -> 3=1
+o3 = 1 i0 i0 - 2 ? -> 3=2
+o3 = 1 i0 i1 or 2 ? -> 3=1
+o3 = 1 i2 1 i2 // and 2 ? -> 3=2";
+
+/// The same of branches.
+const BRANCHES: &str = "when i1 i0 < then o3 = 1 else o3 = 2 -> 3=1
+when i0 i1 < then o3 = 1 else o3 = 2 -> 3=2
+when i0 i0 <= then o3 = 1 else o3 = 2 -> 3=1
+when i0 i1 <= then o3 = 1 else o3 = 2 -> 3=2
+when i0 i1 > then o3 = 1 else o3 = 2 -> 3=1
+when i0 i0 > then o3 = 1 else o3 = 2 -> 3=2
+when i0 i0 >= then o3 = 1 else o3 = 2 -> 3=1
+when i1 i0 >= then o3 = 1 else o3 = 2 -> 3=2
+when i0 7 == then o3 = 1 else o3 = 2 -> 3=1
+when i0 i1 == then o3 = 1 else o3 = 2 -> 3=2
+when i0 i1 != then o3 = 1 else o3 = 2 -> 3=1
+when i0 7 != then o3 = 1 else o3 = 2 -> 3=2
+when 1 i2 // i0 < then o3 = 1 else o3 = 2 -> division
+when i0 1 i2 % < then o3 = 1 else o3 = 2 -> division
+when i0 then o3 = 1 else o3 = 2 -> 3=1
+when i2 then o3 = 1 else o3 = 2 -> 3=2
+when i2 not then o3 = 1 else o3 = 2 -> 3=1";
+
 /// Signs before the ends of the range.
 const SIGNS: &str = "o0 = -9223372036854775808 neg -> 0=-9223372036854775808
 o0 = 9223372036854775807 neg -> 0=-9223372036854775807
@@ -136,11 +183,21 @@ fn three_outputs() -> Case<'static> {
     }
 }
 
+/// The same, where the code is not plain.
+fn branched(case: Case<'static>) -> Case<'static> {
+    Case {
+        plain: false,
+        ..case
+    }
+}
+
 /// The lines that are wrong.
 fn wrong(alloc: Global) -> Result<String, Fail> {
     let mut text = String::new(alloc);
     let three = scalars(&[(&[], &[7]), (&[], &[-3]), (&[], &[0])]);
     add_wrong(alloc, &mut text, &three, EXPRESSIONS)?;
+    add_wrong(alloc, &mut text, &three, CONDITIONS)?;
+    add_wrong(alloc, &mut text, &branched(three), BRANCHES)?;
     add_wrong(alloc, &mut text, &scalars(&[]), SIGNS)?;
     add_wrong(alloc, &mut text, &one_dimension(), ONE_DIMENSION)?;
     add_wrong(alloc, &mut text, &four_dimensions(), FOUR_DIMENSIONS)?;
