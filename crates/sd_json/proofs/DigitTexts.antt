@@ -1,7 +1,10 @@
 -- Digits alone are a whole number.
-use Rattle.std.proofs.Common.{◌≡◌, ℕ, ◌+◌, ◌*◌, ◌<◌, ◌≤◌, ◌^◌, pos, List, [], ◌∷◌, ◌++◌, length, true, false, Option, Some, None, IfSome, option_map, refl, ap, sym, ◌∙◌, arith, append-nil, get_or, lt-ltb, le-leb}
+use Rattle.std.proofs.Common.{◌≡◌, ℕ, ◌+◌, ◌*◌, ◌<◌, ◌≤◌, ◌^◌, pos, List, [], ◌++◌, length, take, true, false, Option, Some, None, IfSome, option_map, refl, ap, sym, ◌∙◌, arith, append-nil, get_or, lt-ltb, le-leb}
 use Rattle.std.specs.Char.{digit_value}
-use Rattle.std.specs.Str.Parse.{IsNumeral, digits_value}
+use Rattle.std.specs.Str.Parse.{AllDigits, IsNumeral, digits_value}
+use Rattle.std.proofs.lemmas.List.{length-take-le}
+use Rattle.std.proofs.lemmas.Int.Digits.{digits_more, digits_value_more, digits_value-lt}
+use Rattle.std.proofs.Math.Nat.{pow-le-pow_right}
 use Rattle.fast_float.specs.Text.{Parts, scan, digits_of, IsWellFormed, with_sign}
 use Rattle.fast_float.proofs.Writing.{scan-text_of}
 use Rattle.serde_json.specs.Read.{number_from, is_integer}
@@ -34,18 +37,19 @@ small_negative p n whole is some small =
     let fits : n ≤ 2 ^ 63 = omega arith in
     rw (whole, is, lt-ltb _ _ some, le-leb _ _ fits) refl
 
--- a list of one item
-pub one_item : (items : List ℕ) → length items ≡ 1 → items ≡ get_or items 0 0 ∷ []
-one_item [] one = absurd (omega arith)
-one_item (item ∷ []) one = refl
-one_item (item ∷ other ∷ items) one = absurd (omega arith)
+-- few digits write a small number
+pub few_digits : (most : ℕ) (ds : List ℕ) (number : ℕ) → length ds ≤ most → AllDigits 10 ds → number ≡ digits_value 10 ds → number < 10 ^ most
+few_digits most ds number few all is = omega (arith, is, digits_value-lt 10 ds all, pow-le-pow_right {n = 10} (omega arith) few)
+
+-- those before the last of 18
+pub digits_before : (bytes : List ℕ) (i number : ℕ) → i < length bytes → length bytes ≤ 18 → AllDigits 10 (take i bytes) × (number ≡ digits_value 10 (take i bytes)) → number < 10 ^ 17
+digits_before bytes i number inside short is = few_digits 17 (take i bytes) number (omega (arith, length-take-le i bytes (omega arith))) is.0 is.1
+
+-- one digit more
+pub one_digit_more : (bytes : List ℕ) (i number digit : ℕ) → i < length bytes → AllDigits 10 (take i bytes) × (number ≡ digits_value 10 (take i bytes)) → (digit_value (get_or bytes i 0) < 10) × (digit ≡ digit_value (get_or bytes i 0)) →
+    AllDigits 10 (take (i + 1) bytes) × (number * 10 + digit ≡ digits_value 10 (take (i + 1) bytes))
+one_digit_more bytes i number digit inside before is = (digits_more 10 bytes i inside before.0 is.0, rw (digits_value_more 10 bytes i inside, ← before.1, is.1) refl)
 
 pub some_weaker : {A : Type 0} (found : Option A) (P Q : A → Type 0) → ((x : A) → P x → Q x) → IfSome found P → IfSome found Q
 some_weaker None P Q weaker is = tt
 some_weaker (Some x) P Q weaker is = weaker x is
-
-pub one_digit : (byte : ℕ) → digits_value 10 (byte ∷ []) ≡ digit_value byte
-one_digit byte = plus (digit_value byte)
-  where
-    plus : (d : ℕ) → 0 * 10 + d ≡ d
-    plus d = omega arith

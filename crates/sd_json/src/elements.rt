@@ -1,4 +1,5 @@
 ghost use Rattle.std.specs.Prelude.{◌≡◌, [], ◌∷◌, ◌++◌, slice_get, IfOk, OnOk};
+ghost use Rattle.std.specs.Bool.{MatchBool};
 ghost use Rattle.sd_json.specs.HeldElements.{elements_held};
 
 use sd_list::{NoMemory, Sequence};
@@ -72,8 +73,25 @@ impl Elements {
         }
     }
 
-    /// One element more.
+    /// Adds an element where it is small and there is room for it.
     #[inline(always)]
+    pub(crate) fn push_small(&mut self, number: i64) -> bool
+        ensures { MatchBool result (self.new ≡ self.old ++ number ∷ []) (self.new ≡ self.old) }
+    {
+        let Held::Narrow(small) = &mut self.held else {
+            return false;
+        };
+        let Ok(number) = i32::try_from(number) else {
+            return false;
+        };
+        if small.len() >= small.capacity() {
+            return false;
+        }
+        small.push_reserved(number);
+        true
+    }
+
+    /// One element more.
     pub(crate) fn push(&mut self, number: i64) -> Result<(), NoMemory>
         ensures { OnOk result (self.new ≡ self.old ++ number ∷ []) }
     {

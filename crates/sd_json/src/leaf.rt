@@ -1,4 +1,4 @@
-ghost use Rattle.std.specs.Prelude.{◌≡◌, ◌==◌, ◌<◌, ◌^◌, length, slice_index, option_map, true, false, IsTrue, IfSome};
+ghost use Rattle.std.specs.Prelude.{◌≡◌, ◌==◌, ◌<◌, ◌^◌, length, slice_index, option_map, Some, true, false, IsTrue, IfSome};
 ghost use Rattle.std.specs.Char.{digit_value};
 ghost use Rattle.fast_float.specs.Text.{scan, digits_of};
 ghost use Rattle.serde_json.specs.Read.{number_of, number_from, float_of, is_integer};
@@ -47,21 +47,30 @@ fn other_with_sign(bytes: &[u8]) -> Option<Option<i64>>
 fn digit(byte: u8) -> Option<u64>
     ensures { IfSome result (λ number. (digit_value byte < 10) × (number ≡ digit_value byte)) }
 {
-    match byte {
-        b'0'..=b'9' => Some(u64::from(byte - b'0')),
-        _ => None,
-    }
+    let number = u64::from(byte).wrapping_sub(u64::from(b'0'));
+    if number < 10 { Some(number) } else { None }
 }
 
-/// The number that digits alone write, where it fits 64 bits. One digit, as an array may have
-/// many of them, takes a shorter way.
+/// The number that a text of at most 18 digits writes.
 #[inline(always)]
+fn short_digits(bytes: &[u8]) -> Option<u64>
+    ensures digits { IfSome result (λ number. (is_integer (scan bytes.now) ≡ true) × (digits_of (scan bytes.now) ≡ number)) }
+    ensures small { IfSome result (λ number. number < 2 ^ 63) }
+{
+    if bytes.is_empty() || bytes.len() > 18 {
+        return None;
+    }
+    let mut number = 0;
+    for byte in bytes {
+        number = number * 10 + digit(*byte)?;
+    }
+    Some(number)
+}
+
+/// The number that digits alone write, where it fits 64 bits.
 fn digits(bytes: &[u8]) -> Option<u64>
     ensures { IfSome result (λ number. (is_integer (scan bytes.now) ≡ true) × (digits_of (scan bytes.now) ≡ number)) }
 {
-    if bytes.len() == 1 {
-        return digit(bytes[0]);
-    }
     if bytes.is_empty() || bytes[0] == b'+' {
         return None;
     }
@@ -71,7 +80,6 @@ fn digits(bytes: &[u8]) -> Option<u64>
     }
 }
 
-#[inline(always)]
 fn without_sign(bytes: &[u8]) -> Option<Option<i64>>
     ensures { result ≡ option_map as_i64 (number_from false (scan bytes.now)) }
 {
@@ -81,7 +89,6 @@ fn without_sign(bytes: &[u8]) -> Option<Option<i64>>
     }
 }
 
-#[inline(always)]
 fn with_sign(bytes: &[u8]) -> Option<Option<i64>>
     ensures { result ≡ option_map as_i64 (number_from true (scan bytes.now)) }
 {
@@ -100,9 +107,42 @@ fn has_minus(bytes: &[u8]) -> bool
     !bytes.is_empty() && bytes[0] == b'-'
 }
 
+#[inline(always)]
+fn short_without_sign(bytes: &[u8]) -> Option<i64>
+    ensures { IfSome result (λ number. Some (Some number) ≡ option_map as_i64 (number_from false (scan bytes.now))) }
+{
+    match short_digits(bytes) {
+        Some(number) => Some(number as i64),
+        None => None,
+    }
+}
+
+#[inline(always)]
+fn short_with_sign(bytes: &[u8]) -> Option<i64>
+    ensures { IfSome result (λ number. Some (Some number) ≡ option_map as_i64 (number_from true (scan bytes.now))) }
+{
+    match short_digits(bytes) {
+        Some(number) if 0 < number => Some(-(number as i64)),
+        _ => None,
+    }
+}
+
+/// The whole number that a number of JSON is, where at most 18 digits write it, as each of an
+/// array mostly is.
+#[inline(always)]
+pub(crate) fn short_number(text: &str) -> Option<i64>
+    ensures { IfSome result (λ number. Some (Some number) ≡ option_map as_i64 (number_of text.now)) }
+{
+    let bytes = text.as_bytes();
+    if has_minus(bytes) {
+        short_with_sign(&bytes[1..])
+    } else {
+        short_without_sign(bytes)
+    }
+}
+
 /// The whole number from -2^63 to 2^63-1 that a number of JSON is, where it is one; and nothing
 /// where it is too large for a float.
-#[inline(always)]
 pub(crate) fn read_number(text: &str) -> Option<Option<i64>>
     ensures { result ≡ option_map as_i64 (number_of text.now) }
 {

@@ -32,8 +32,19 @@ impl Numbers {
         }
     }
 
-    /// One leaf more, which is a whole number or none.
+    /// One leaf more, which is a whole number.
     #[inline(always)]
+    pub(crate) fn push(&mut self, number: i64) -> Result<(), NoMemory>
+        ensures { OnOk result (self.new ≡ joined self.old (Some (number ∷ []))) }
+    {
+        if self.whole && self.list.push_small(number) {
+            return Ok(());
+        }
+        self.add(Some(number))
+    }
+
+    /// One leaf more, which is a whole number or none.
+    #[inline(never)]
     pub(crate) fn add(&mut self, leaf: Option<i64>) -> Result<(), NoMemory>
         ensures { OnOk result (self.new ≡ joined self.old (option_map (λ number. number ∷ []) leaf)) }
     {

@@ -8,7 +8,7 @@ ghost use Rattle.serde_json.specs.Data.{Members, no_members};
 ghost use Rattle.serde_json.specs.Read.{of_json, of_items, of_members, converted};
 ghost use Rattle.sd_json.specs.Walk.{rows_with, value_kept, items_kept};
 
-use crate::leaf::read_number;
+use crate::leaf::{read_number, short_number};
 use crate::numbers::Numbers;
 use crate::rows::Rows;
 use crate::stop::Stop;
@@ -34,15 +34,28 @@ pub(crate) fn read_value(
     }
 }
 
-/// Reads a number, and adds it to those before where it is a whole one.
-#[inline(always)]
-fn read_leaf(text: &str, numbers: &mut Numbers) -> Result<(), Stop>
+/// Reads a number of another form than few digits, as `read_leaf` does.
+#[cold]
+#[inline(never)]
+fn read_other_leaf(text: &str, numbers: &mut Numbers) -> Result<(), Stop>
     ensures ok { OnOk result ((rest : List AToken) → parse_map (value_kept numbers.old) (converted of_json (Some (number text.now, rest))) ≡ Some ((Some [], numbers.new), rest)) }
     ensures err { result ≡ Err Stop.NotJson → (rest : List AToken) → converted of_json (Some (number text.now, rest)) ≡ None }
 {
     match read_number(text) {
         Some(leaf) => Ok(numbers.add(leaf)?),
         None => Err(Stop::NotJson),
+    }
+}
+
+/// Reads a number, and adds it to those before where it is a whole one.
+#[inline(always)]
+fn read_leaf(text: &str, numbers: &mut Numbers) -> Result<(), Stop>
+    ensures ok { OnOk result ((rest : List AToken) → parse_map (value_kept numbers.old) (converted of_json (Some (number text.now, rest))) ≡ Some ((Some [], numbers.new), rest)) }
+    ensures err { result ≡ Err Stop.NotJson → (rest : List AToken) → converted of_json (Some (number text.now, rest)) ≡ None }
+{
+    match short_number(text) {
+        Some(number) => Ok(numbers.push(number)?),
+        None => read_other_leaf(text, numbers),
     }
 }
 

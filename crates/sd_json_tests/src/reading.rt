@@ -96,6 +96,26 @@ fn numbers_come_before_shapes(rt: HostRuntime) -> Result<(), Fail> {
 }
 
 #[test]
+fn numbers_of_few_and_of_many_digits_are_read(rt: HostRuntime) -> Result<(), Fail> {
+    let rows =
+        r#"{"A":[],"B":[],"C":999999999999999999,"N":-999999999999999999} -> N=-999999999999999999 C=999999999999999999 .
+{"A":[],"B":[],"C":1000000000000000000,"N":-1000000000000000000} -> N=-1000000000000000000 C=1000000000000000000 .
+{"A":[],"B":[],"C":9223372036854775807,"N":-9223372036854775808} -> N=-9223372036854775808 C=9223372036854775807 .
+{"A":[],"B":[],"C":9223372036854775808} -> arrays error 15 C.
+{"A":[],"B":[],"C":18446744073709551617} -> arrays error 15 C.
+{"A":[],"B":[],"C":0,"N":10} -> N=10 C=0 .
+{"A":[],"B":[],"C":-0} -> arrays error 15 C.
+{"A":[],"B":[],"C":1e2} -> arrays error 15 C.
+{"A":[],"B":[],"C":12.0} -> arrays error 15 C.
+{"A":[],"B":[],"C":007} -> arrays error 14.
+{"A":[],"B":[],"C":-07} -> arrays error 14.
+{"A":[],"B":[],"C":+1} -> arrays error 14.
+{"A":[],"B":[],"C":-} -> arrays error 14."#;
+    assert!(rt; all_are(rt.alloc(), rows)?);
+    Ok(())
+}
+
+#[test]
 fn the_last_of_equal_names_counts(rt: HostRuntime) -> Result<(), Fail> {
     let rows = r#"{"A":[0.5],"B":[],"C":1,"A":[1],"C":2} -> C=2 .
 {"A":[1],"B":[],"C":1,"A":[0.5]} -> arrays error 15 A.

@@ -57,3 +57,18 @@ fn arrays_are_printed_line_by_line(rt: HostRuntime) -> Result<(), Fail> {
     );
     Ok(())
 }
+
+#[test]
+fn numbers_of_few_and_of_many_digits_are_printed(rt: HostRuntime) -> Result<(), Fail> {
+    let alloc = rt.alloc();
+    let file =
+        r#"{"A":[0,10,-7,2147483647,-2147483648],"B":[2147483648,-2147483649,999999999999999999,-1000000000000000000]}"#;
+    let first = vec![in alloc; Affine::constant(alloc, 5)]?;
+    let second = vec![in alloc; Affine::constant(alloc, 4)]?;
+    let text = text_of(alloc, file, first, second)?;
+    assert_eq!(rt;
+        text.as_str(),
+        "A[5] = 0 10 -7 2147483647 -2147483648\nB[4] = 2147483648 -2147483649 999999999999999999 -1000000000000000000\n"
+    );
+    Ok(())
+}

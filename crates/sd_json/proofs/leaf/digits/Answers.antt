@@ -1,6 +1,6 @@
-use Rattle.std.proofs.Common.{◌≡◌, ap, sym, ◌∙◌, cond, drop, ne_eqb, subst, get_or, ◌∷◌, [], arith}
+use Rattle.std.proofs.Common.{◌≡◌, ap, sym, ◌∙◌, cond, drop, ne_eqb, subst}
 use Rattle.std.specs.Str.Parse.{IsNumeral, digits_value, without_leading_plus}
-use Rattle.sd_json.proofs.DigitTexts.{digits-is_integer, digits-digits_of, one_item, some_weaker, one_digit}
+use Rattle.sd_json.proofs.DigitTexts.{digits-is_integer, digits-digits_of}
 use Rattle.sd_json.proofs.leaf.digits.Goals as goal
 
 pub returns-in-Ok : goal.returns-in-Ok
@@ -8,10 +8,3 @@ returns-in-Ok c =
     let all : without_leading_plus c.args.bytes.now ≡ c.args.bytes.now = ap (λ plus. drop (cond plus 1 0) c.args.bytes.now) (ne_eqb _ 43 c.if-bytes-eq43.false) in
     let digits : IsNumeral 10 c.args.bytes.now = subst (IsNumeral 10) all c.in-Ok.ensures.0.0 in
     (digits-is_integer c.args.bytes.now digits, digits-digits_of c.args.bytes.now digits ∙ sym (c.in-Ok.ensures.1 ∙ ap (digits_value 10) all))
-
-pub returns-then-bytes-eq1 : goal.returns-then-bytes-eq1
-returns-then-bytes-eq1 c =
-    let one : c.args.bytes.now ≡ get_or c.args.bytes.now 0 0 ∷ [] = one_item c.args.bytes.now c.if-bytes-eq1.true in
-    some_weaker c.digit.result _ _ (λ number is.
-    let digits : IsNumeral 10 c.args.bytes.now = subst (IsNumeral 10) (sym one) (omega arith, (is.0, tt)) in
-    (digits-is_integer c.args.bytes.now digits, digits-digits_of c.args.bytes.now digits ∙ ap (digits_value 10) one ∙ one_digit (get_or c.args.bytes.now 0 0) ∙ sym is.1)) c.digit.ensures
