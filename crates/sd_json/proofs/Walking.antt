@@ -13,8 +13,7 @@ use Rattle.serde_json.specs.Read.{number_of, of_json, of_items, converted}
 use Rattle.serde_json.specs.Find.{as_i64}
 use Rattle.sd_json.proofs.Converting.{item_read}
 use Rattle.sd_json.specs.NestedLists.{joined, numbers_of, numbers_of_items, is_shape, shape_of, shape_of_items, all_have, count_of}
-use Rattle.sd_json.specs.Walk.{no_rows, have_one_shape, rows_with, shape_from, value_kept, items_kept, items_kept_from}
-use Rattle.sd_json.specs.declared.rows.Rows.{Rows}
+use Rattle.sd_json.specs.Walk.{RowsRead, no_rows, have_one_shape, rows_with, shape_from, value_kept, items_kept, items_kept_from}
 
 abbrev pick : {A : Type 0} → A → Option A → A
 pick d None = d
@@ -99,14 +98,14 @@ pub kept_from_begin : (before : Option (List ℤ)) (o : Option (Items × List To
 kept_from_begin before None = refl
 kept_from_begin before (Some p) = ap (λ shape. Some ((shape, joined before (numbers_of_items p.0)), p.1)) (sym (shape_from_begin p.0))
 
-kept_after : (rows : Rows) (before : Option (List ℤ)) (d : Data) (o : Option (Items × List Token)) →
+kept_after : (rows : RowsRead) (before : Option (List ℤ)) (d : Data) (o : Option (Items × List Token)) →
     parse_map (items_kept_from rows before) (parse_map (item d) o) ≡ parse_map (items_kept_from (rows_with rows (shape_of d)) (joined before (numbers_of d))) o
 kept_after rows before d None = refl
 kept_after rows before d (Some p) = ap (λ numbers. Some ((shape_from (rows_with rows (shape_of d)) p.0, numbers), p.1)) (sym (joined-joined before (numbers_of d) (numbers_of_items p.0)))
 
 module _ (p : Parse json.Json) where
   -- one item more
-  pub turn : (n : ℕ) (ts r : List Token) (rows : Rows) (before now : Option (List ℤ)) (shape : Option (List ℕ)) → 0 < n → after_end_array ts ≡ None →
+  pub turn : (n : ℕ) (ts r : List Token) (rows : RowsRead) (before now : Option (List ℤ)) (shape : Option (List ℕ)) → 0 < n → after_end_array ts ≡ None →
       parse_map (value_kept before) (converted of_json (p ts)) ≡ Some ((shape, now), r) →
       parse_map (items_kept_from rows before) (converted of_items (items p n ts)) ≡ parse_map (items_kept_from (rows_with rows shape) now) (converted of_items (items p (n - 1) r))
   turn n ts r rows before now shape some going e =

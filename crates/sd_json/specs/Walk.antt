@@ -4,10 +4,14 @@ use Rattle.std.specs.Option.{option_map_or}
 use Rattle.json.specs.Token.{Token, begin_object, end_object, begin_array, end_array, key, string, number, boolean, null, bad}
 use Rattle.serde_json.specs.Data.{Data, Items, no_items, item}
 use Rattle.sd_json.specs.NestedLists.{joined, numbers_of, numbers_of_items, is_shape, shape_of, shape_of_items}
-use Rattle.sd_json.specs.declared.rows.Rows.{Rows}
+
+-- the items of a list that were read: how many, and the shape of all of them, where they have one
+pub record RowsRead : Type 0 where
+  pub count : ℕ
+  pub shape : Option (List ℕ)
 
 -- no item of a list
-abbrev pub no_rows : Rows
+abbrev pub no_rows : RowsRead
 no_rows = record { count = 0; shape = None }
 
 -- both have a shape, and it is one
@@ -15,18 +19,25 @@ abbrev pub have_one_shape : (first second : Option (List ℕ)) → Bool
 have_one_shape first second = option_map_or (λ shape. is_shape second shape) first false
 
 -- one item more, with this shape
-abbrev pub rows_with : Rows → (shape : Option (List ℕ)) → Rows
+abbrev pub rows_with : RowsRead → (shape : Option (List ℕ)) → RowsRead
 rows_with rows shape = record {
   count = rows.count + 1;
   shape = if rows.count == 0 then shape else (if have_one_shape rows.shape shape then rows.shape else None);
 }
 
+-- leaves and other items, which were counted apart; the others have this shape, where they have one
+abbrev pub rows_counted : (leaves others : ℕ) → (shape : Option (List ℕ)) → RowsRead
+rows_counted leaves others shape = record {
+  count = leaves + others;
+  shape = if leaves == 0 then shape else (if others == 0 then Some [] else (if have_one_shape shape (Some []) then shape else None));
+}
+
 -- the shape of a list of these items
-abbrev pub shape_of_rows : Rows → Option (List ℕ)
+abbrev pub shape_of_rows : RowsRead → Option (List ℕ)
 shape_of_rows rows = if rows.count == 0 then Some (0 ∷ []) else option_map (λ shape. rows.count ∷ shape) rows.shape
 
 -- the shape of a list of these items and of those that are left
-abbrev pub shape_from : Rows → Items → Option (List ℕ)
+abbrev pub shape_from : RowsRead → Items → Option (List ℕ)
 shape_from rows no_items = shape_of_rows rows
 shape_from rows (item first others) = shape_from (rows_with rows (shape_of first)) others
 
@@ -39,7 +50,7 @@ abbrev pub items_kept : (before : Option (List ℤ)) → Items → Option (List 
 items_kept before items = (shape_of_items items, joined before (numbers_of_items items))
 
 -- the same of a list, some items of which were read
-abbrev pub items_kept_from : Rows → (before : Option (List ℤ)) → Items → Option (List ℕ) × Option (List ℤ)
+abbrev pub items_kept_from : RowsRead → (before : Option (List ℤ)) → Items → Option (List ℕ) × Option (List ℤ)
 items_kept_from rows before items = (shape_from rows items, joined before (numbers_of_items items))
 
 -- an object comes first

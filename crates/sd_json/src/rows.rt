@@ -1,15 +1,25 @@
 ghost use Rattle.std.specs.Prelude.{◌≡◌, Some, [], IfOk, OnOk};
-ghost use Rattle.sd_json.specs.Walk.{no_rows, have_one_shape, rows_with, shape_of_rows};
+ghost use Rattle.sd_json.specs.Walk.{no_rows, have_one_shape, rows_with, rows_counted, shape_of_rows};
 
 use sd_list::{NoMemory, Sequence};
 use std::alloc::Global;
+use std::marker::Model;
 
-/// The items of a list that were read: how many, and the shape of all of them, where they have
-/// one.
+/// The items of a list that were read. Leaves, of which there may be many, are counted apart from
+/// the others, which have this shape, where they have one.
 #[derive(Drop)]
 pub(crate) struct Rows {
-    count: u64,
+    leaves: u64,
+    others: u64,
     shape: Option<Sequence<u64>>,
+}
+
+impl Model for Rows {
+    ghost use Rattle.sd_json.specs.Walk.{RowsRead, rows_counted};
+
+    ghost Value = { RowsRead };
+
+    ghost view = { λ rows. rows_counted rows.leaves rows.others rows.shape };
 }
 
 /// Whether both are there and the same.
@@ -34,29 +44,42 @@ fn is_leaf(shape: &Option<Sequence<u64>>) -> bool
     }
 }
 
+/// The shape of leaves and of others, which have this one, where they have one.
+fn common_shape(
+    alloc: Global,
+    leaves: u64,
+    others: u64,
+    shape: Option<Sequence<u64>>,
+) -> Option<Sequence<u64>>
+    ensures { result ≡ (rows_counted leaves others shape).shape }
+{
+    if leaves == 0 {
+        return shape;
+    }
+    if others == 0 {
+        return Some(Sequence::new(alloc));
+    }
+    if is_leaf(&shape) { shape } else { None }
+}
+
 impl Rows {
     /// No item yet.
     pub(crate) fn new() -> Rows
         ensures { result ≡ no_rows }
     {
         Rows {
-            count: 0,
+            leaves: 0,
+            others: 0,
             shape: None,
         }
     }
 
     /// One item more, which is a leaf.
     #[inline(always)]
-    pub(crate) fn add_leaf(&mut self, alloc: Global) -> Result<(), NoMemory>
+    pub(crate) fn add_leaf(&mut self) -> Result<(), NoMemory>
         ensures { OnOk result (self.new ≡ rows_with self.old (Some [])) }
     {
-        let count = self.count.checked_add(1).ok_or(NoMemory)?;
-        if self.count == 0 {
-            self.shape = Some(Sequence::new(alloc));
-        } else if !is_leaf(&self.shape) {
-            self.shape = None;
-        }
-        self.count = count;
+        self.leaves = self.leaves.checked_add(1).ok_or(NoMemory)?;
         Ok(())
     }
 
@@ -65,13 +88,13 @@ impl Rows {
     pub(crate) fn add(&mut self, shape: Option<Sequence<u64>>) -> Result<(), NoMemory>
         ensures { OnOk result (self.new ≡ rows_with self.old shape) }
     {
-        let count = self.count.checked_add(1).ok_or(NoMemory)?;
-        if self.count == 0 {
+        let others = self.others.checked_add(1).ok_or(NoMemory)?;
+        if self.others == 0 {
             self.shape = shape;
         } else if !are_one(&self.shape, &shape) {
             self.shape = None;
         }
-        self.count = count;
+        self.others = others;
         Ok(())
     }
 
@@ -79,11 +102,16 @@ impl Rows {
     pub(crate) fn into_shape(self, alloc: Global) -> Result<Option<Sequence<u64>>, NoMemory>
         ensures { IfOk result (λ shape. shape ≡ shape_of_rows self) }
     {
-        let Rows { count, shape } = self;
+        let Rows {
+            leaves,
+            others,
+            shape,
+        } = self;
+        let count = leaves.checked_add(others).ok_or(NoMemory)?;
         if count == 0 {
             return Ok(Some(Sequence::from(vec![in alloc; 0]?)));
         }
-        let Some(shape) = shape else {
+        let Some(shape) = common_shape(alloc, leaves, others, shape) else {
             return Ok(None);
         };
         let mut shape = shape.into_vec();

@@ -119,7 +119,7 @@ fn read_item(
     let token = reader.next().ok_or(Stop::NotJson)?;
     if let Token::Number(text) = token {
         read_leaf(text, numbers)?;
-        rows.add_leaf(alloc)?;
+        rows.add_leaf()?;
     } else {
         let shape = read_from(alloc, token, reader, depth, numbers)?;
         rows.add(shape)?;

@@ -116,6 +116,18 @@ fn numbers_of_few_and_of_many_digits_are_read(rt: HostRuntime) -> Result<(), Fai
 }
 
 #[test]
+fn numbers_and_lists_have_no_common_shape(rt: HostRuntime) -> Result<(), Fail> {
+    let rows = r#"{"A":[1,2,[3]],"B":[],"C":1} -> arrays error 16 A.
+{"A":[[1],[2],3],"B":[],"C":1} -> arrays error 16 A.
+{"A":[0,[]],"B":[],"C":1} -> arrays error 16 A.
+{"A":[[],0],"B":[],"C":1} -> arrays error 16 A.
+{"A":[[1,2],[3,[4]]],"B":[],"C":1} -> arrays error 16 A.
+{"A":[[1,2],[3,4]],"B":[[],[]],"C":1} -> C=1 ."#;
+    assert!(rt; all_are(rt.alloc(), rows)?);
+    Ok(())
+}
+
+#[test]
 fn the_last_of_equal_names_counts(rt: HostRuntime) -> Result<(), Fail> {
     let rows = r#"{"A":[0.5],"B":[],"C":1,"A":[1],"C":2} -> C=2 .
 {"A":[1],"B":[],"C":1,"A":[0.5]} -> arrays error 15 A.
