@@ -47,7 +47,7 @@ fn widened(alloc: Global, small: &[i32]) -> Result<Vec<i64>, NoMemory>
 {
     let mut wide = Vec::with_capacity(alloc, small.len())?;
     for number in small {
-        wide.push(i64::from(*number))?;
+        wide.push_reserved(i64::from(*number));
     }
     Ok(wide)
 }
