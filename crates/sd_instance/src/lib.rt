@@ -3,7 +3,8 @@
 //! `Accesses` says so (`specs/Known.antt`): an element for each input, the values of the variables, and a target
 //! for each output, which may be a stream, an element, or an array whose element is looked up by the effect's
 //! place. `run_instance` reads, evaluates and performs the effects in their order, as the tasklet means. Whether
-//! and how often an output is set, and where, may depend on what is read.
+//! and how often an output is set, and where, may depend on what is read. Code that does no more than write one value
+//! at one place is a `Scatter` (`specs/Scatter.antt`), which `run_directly` does by one write.
 #![tactic(auto)]
 
 mod accesses;
@@ -12,6 +13,7 @@ mod fit;
 mod instance;
 mod performing;
 mod runner;
+mod scatter;
 mod target;
 
 pub use accesses::Accesses;
@@ -22,4 +24,5 @@ pub use fit::{
 pub use instance::run_instance;
 pub use performing::perform_all;
 pub use runner::{Runner, ones};
+pub use scatter::{Operand, Scatter, run_directly};
 pub use target::Target;

@@ -109,7 +109,8 @@ module _ (steps : Steps) (gaps : ℕ) (begin end : Context) (others : List ℤ) 
   abbrev free : Link → Type 0
   free link = list_all (is_free_dim steps.variable) link.memlet.subset.dims ≡ true
 
-  free_extents : (link : Link) → free link → link_extents begin link ≡ link_extents (context k) link
+  -- a link that is free has the extents that it has at the first point
+  pub free_extents : (link : Link) → free link → link_extents begin link ≡ link_extents (context k) link
   free_extents link is =
       ap (span_counts link.memlet.subset.dims) begins
       ∙ spans_stay steps.variable (step_to steps 0) (step_to steps k) others link.memlet.subset.dims is

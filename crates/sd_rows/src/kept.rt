@@ -20,7 +20,7 @@ use crate::pointwise::{end_at, run_points};
 use crate::steps::Steps;
 use crate::still::are_still;
 use crate::targets::accesses_between;
-use sd_instance::{Accesses, Runner, run_instance};
+use sd_instance::{Accesses, Runner, Scatter, run_directly};
 use sd_list::NoMemory;
 use sd_machine::{End, Machine};
 use sd_mem::Memory;
@@ -200,12 +200,14 @@ fn run_instances(
     ensures end { IfOk result (λ end. IsEnd (row_coming (row_at task.now row.now steps.now) 0 steps.now.count (below machine.old)) (below machine.old) (end_of_row (row_at task.now row.now steps.now) end) (below machine.new)) }
     ensures runner { OnOk result (IsRunner (tree_of task.now) task.now.ins.now task.now.outs.now runner.new.code runner.new.frame) }
 {
+    let scatter = Scatter::of(&runner.code, accesses);
     for k in 0..steps.count {
         if !machine.pay(true) {
             return Ok(RowEnd::OutOfTurns);
         }
-        let fault = run_instance(
+        let fault = run_directly(
             alloc,
+            &scatter,
             accesses,
             &runner.code,
             &mut runner.frame,

@@ -129,7 +129,8 @@ fn track_of_places(
     link: &Link,
     here: &Scope,
 ) -> Result<Option<Places>, NoMemory>
-    ensures { IfOk result (λ places. MatchOption places ⊤ (λ places. (place : ℕ) → place < places.count → link_element (standing task.now here.now) link.now (pos place ∷ []) ≡ Some (reference_on places.to place))) }
+    ensures elements { IfOk result (λ places. MatchOption places ⊤ (λ places. (place : ℕ) → place < places.count → link_element (standing task.now here.now) link.now (pos place ∷ []) ≡ Some (reference_on places.to place))) }
+    ensures extents { IfOk result (λ places. MatchOption places ⊤ (λ places. link_extents (standing task.now here.now) link.now ≡ places.count ∷ [])) }
 {
     let Some(gaps) = gaps_of_places(alloc, link, here)? else {
         return Ok(None);

@@ -12,6 +12,8 @@ mod races;
 #[cfg(test)]
 mod rows;
 #[cfg(test)]
+mod scatters;
+#[cfg(test)]
 mod sources;
 #[cfg(test)]
 mod steps;

@@ -69,6 +69,68 @@ def hist(A: dace.int64[N], H: dace.int64[4]):
             a << A[i]
             h >> H(1, lambda x, y: x + y)[0:4]
             h[a] = 1
+=== TOLD products at the places that an array tells, two apart
+import dace
+N = dace.symbol('N')
+@dace.program
+def told(P: dace.int64[N], A: dace.int64[N], H: dace.int64[8]):
+    for i in dace.map[0:N]:
+        with dace.tasklet:
+            p << P[i]
+            a << A[i]
+            h >> H(1, lambda x, y: x * y)[1:7:2]
+            h[p] = a
+=== PLACED one element of each row, at the place that an array tells
+import dace
+N = dace.symbol('N')
+@dace.program
+def placed(P: dace.int64[N], A: dace.int64[N], H: dace.int64[N,4]):
+    for i, j in dace.map[0:N, 0:1]:
+        with dace.tasklet:
+            p << P[i]
+            a << A[i]
+            h >> H[i,0:4]
+            h[p] = a
+=== NUMBERED the last place at which each number stands in an array
+import dace
+N = dace.symbol('N')
+@dace.program
+def numbered(P: dace.int64[N], H: dace.int64[4]):
+    for i in dace.map[1:N]:
+        with dace.tasklet:
+            p << P[i]
+            h >> H(1, lambda x, y: max(x, y))[0:4]
+            h[p] = i
+=== IN_ORDER each element of an array added at the place of its number
+import dace
+N = dace.symbol('N')
+@dace.program
+def in_order(A: dace.int64[N], H: dace.int64[4]):
+    for i in dace.map[0:N]:
+        with dace.tasklet:
+            a << A[i]
+            h >> H(1, lambda x, y: x + y)[0:4]
+            h[i] = a
+=== THIRD the elements of an array added at one place
+import dace
+N = dace.symbol('N')
+@dace.program
+def third(A: dace.int64[N], H: dace.int64[4]):
+    for i in dace.map[0:N]:
+        with dace.tasklet:
+            a << A[i]
+            h >> H(1, lambda x, y: x + y)[0:4]
+            h[2] = a
+=== BEHIND the elements of an array added behind another one
+import dace
+N = dace.symbol('N')
+@dace.program
+def behind(A: dace.int64[N], H: dace.int64[4]):
+    for i in dace.map[0:N]:
+        with dace.tasklet:
+            a << A[i]
+            h >> H(1, lambda x, y: x + y)[0:3]
+            h[3] = a
 === QUOTIENTS two maps that divide
 import dace
 @dace.program

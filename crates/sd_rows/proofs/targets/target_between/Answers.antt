@@ -6,7 +6,7 @@ use Rattle.sd_even.specs.Even.{is_scalar}
 use Rattle.sd_instance.proofs.Matched.{found_so}
 use Rattle.sd_instance.proofs.Resting.{stream_target, element_target, computed_target}
 use Rattle.sd_rows.specs.Map.{standing}
-use Rattle.sd_rows.proofs.Free.{free_where, reaches, containers_are, through_stays}
+use Rattle.sd_rows.proofs.Free.{free_where, free_extents, reaches, containers_are, through_stays}
 use Rattle.sd_rows.proofs.PlacesOfRange.{effect_placed}
 use Rattle.sd_rows.proofs.targets.target_between.Goals as goal
 
@@ -37,16 +37,22 @@ returns-in-Some c steps values context still way k within =
     element_target k (context k) first link c.in-Some.to arrays scalar (found_so _ c.in_ok-to.field-0 c.in-Some.to c.in-Some.is c.in_ok-to.ensures steps values context way k within)
 
 pub returns-in-Some-2 : goal.returns-in-Some-2
-returns-in-Some-2 c steps values context still way k within effect =
+returns-in-Some-2 c steps values context still way k within =
     let task = c.args.task.now in
     let link = c.args.link.now in
     let number = link.memlet.container in
     let first = standing task c.args.first.now in
+    let places = c.in-Some-2.places in
     let arrays : is_stream (container_at first.containers number).kind ≡ false = sym c.is_stream.ensures ∙ c.if-is_stream.false in
     let one : c.has_one_element.result ≡ false = search rules in
     let many : is_scalar link.memlet.subset.dims ≡ false = ap is_scalar (sym c.as_slice.ensures) ∙ sym c.has_one_element.ensures ∙ one in
-    through_stays steps c.args.gaps _ _ values context way k link effect (free_where steps.variable link.memlet.subset.dims still many)
-    ∙ effect_placed first link c.in-Some-2.places.to c.in-Some-2.places.count arrays (found_so _ c.in_ok-places.field-0 c.in-Some-2.places c.in-Some-2.is c.in_ok-places.ensures) effect
+    let free = free_where steps.variable link.memlet.subset.dims still many in
+    record {
+      effects = λ effect.
+          through_stays steps c.args.gaps _ _ values context way k link effect free
+          ∙ effect_placed first link places.to places.count arrays (found_so _ c.in_ok-places.field-0 places c.in-Some-2.is c.in_ok-places.ensures.elements) effect;
+      places = sym (free_extents steps c.args.gaps _ _ values context way k link free) ∙ found_so _ c.in_ok-places.field-0 places c.in-Some-2.is c.in_ok-places.ensures.extents;
+    }
 
 pub returns-in-None-2 : goal.returns-in-None-2
 returns-in-None-2 c steps values context still way k within =

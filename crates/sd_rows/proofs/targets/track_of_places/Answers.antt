@@ -1,20 +1,24 @@
-use Rattle.std.proofs.Common.{◌≡◌, ◌<◌, ℕ, pos, [], ◌∷◌, Some, option_map, sym, ap, ◌∙◌, arith, to_z, of_z}
+use Rattle.std.proofs.Common.{◌≡◌, ◌+◌, ◌<◌, ℕ, pos, [], ◌∷◌, Some, option_map, sym, ap, ◌∙◌, arith, to_z, of_z}
 use Rattle.std.specs.Int.{w128}
 use Rattle.std.proofs.lemmas.Int.{to_z-of_z}
+use Rattle.sd_graph.specs.PlainTree.{GraphTree}
 use Rattle.sd_graph.specs.TreeFold.{graph_tree}
-use Rattle.sd_graph.specs.Context.{link_element}
+use Rattle.sd_graph.specs.Context.{link_element, link_extents}
 use Rattle.sd_machine.specs.Stack.{reference_of}
+use Rattle.sd_scope.specs.Standing.{context_of}
+use Rattle.sd_scope.specs.declared.base.Base.{Base}
 use Rattle.sd_even.proofs.Reached.{even_standing}
 use Rattle.sd_row.specs.declared.track.Track.{Track}
 use Rattle.sd_row.specs.Row.{reference_on}
+use Rattle.sd_instance.proofs.Matched.{found_so}
 use Rattle.sd_rows.specs.declared.targets.Places.{Places}
 use Rattle.sd_rows.specs.Map.{standing}
 use Rattle.sd_rows.proofs.Matched.{matched}
 use Rattle.sd_rows.proofs.PlacesOfRange.{on_places}
 use Rattle.sd_rows.proofs.targets.track_of_places.Goals as goal
 
-pub returns-in-Some-spaced_between : goal.returns-in-Some-spaced_between
-returns-in-Some-spaced_between c =
+pub returns-in-Some-spaced_between-clause-elements : goal.returns-in-Some-spaced_between-clause-elements
+returns-in-Some-spaced_between-clause-elements c =
     let task = c.args.task.now in
     let link = c.args.link.now in
     let here = standing task c.args.here.now in
@@ -28,3 +32,14 @@ returns-in-Some-spaced_between c =
     on_places here link gaps (even_standing (graph_tree task.graph.now) task.base.now c.args.here.now link.memlet.container) c.in-Some-2.begin c.in-Some-3.end begins ends
     c.in-Some-spaced_between.elements c.in-Some-spaced_between.ensures place (omega (arith, within, told.1))
     ∙ ap (λ (to : Track). Some (reference_on to place)) (sym told.0)) c.places_on.ensures
+
+pub returns-in-Some-spaced_between-clause-extents : goal.returns-in-Some-spaced_between-clause-extents
+returns-in-Some-spaced_between-clause-extents c =
+    let task = c.args.task.now in
+    let link = c.args.link.now in
+    let here = standing task c.args.here.now in
+    let gaps = c.in-Some.gaps in
+    let all : link_extents here link ≡ (gaps + 1) ∷ [] =
+    found_so (λ gaps. (tree : GraphTree) (base : Base) → link_extents (context_of tree base c.args.here.now) link ≡ (gaps + 1) ∷ []) c.in_ok-gaps.field-0 gaps c.in-Some.is c.in_ok-gaps.ensures (graph_tree task.graph.now) task.base.now in
+    matched _ (λ (places : Places). link_extents here link ≡ places.count ∷ []) c.places_on.result
+    (λ places told. all ∙ ap (λ count. count ∷ []) (sym told.1)) c.places_on.ensures
