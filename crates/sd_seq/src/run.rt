@@ -1,4 +1,6 @@
-ghost use Rattle.std.specs.Prelude.{◌≡◌, ◌∷◌, ℕ, IfOk};
+ghost use Rattle.std.specs.Prelude.{◌≡◌, ◌∷◌, ℕ, IfOk, OnOk};
+ghost use Rattle.std.specs.Option.{MatchOption};
+ghost use Rattle.std.specs.Bool.{⊤};
 ghost use Rattle.sd_graph.specs.PlainTree.{nested_graph};
 ghost use Rattle.sd_graph.specs.declared.graph.ItemKind.TheViews.{out-Sdfg};
 ghost use Rattle.sd_graph.specs.TreeFold.{graph_tree, kind_tree, item_tree, item_trees, state_tree};
@@ -8,9 +10,11 @@ ghost use Rattle.sd_machine.specs.ComesTo.{IsEnd};
 ghost use Rattle.sd_machine.specs.Coming.{kind_coming, items_coming, map_coming, from_state, graph_coming};
 ghost use Rattle.sd_scope.specs.Standing.{context_of, opening_reach};
 ghost use Rattle.sd_consume.specs.Taking.{consume_coming};
+ghost use Rattle.sd_tasks.specs.Runners.{AreRunnersOf};
 
 use sd_consume::run_elements;
 use sd_graph::{Item, ItemKind, Link, Sdfg, State};
+use sd_instance::Runner;
 use sd_leaves::{Next, next_exit, run_copy, run_reduction, run_task};
 use sd_list::NoMemory;
 use sd_machine::{End, Machine};
@@ -18,6 +22,7 @@ use sd_mem::Memory;
 use sd_range::Range;
 use sd_rows::run_rows;
 use sd_scope::{Base, Scope, checked_points, station, values_behind};
+use sd_tasks::{run_tasks, runners_of};
 use std::alloc::Global;
 
 /// Items one after another.
@@ -120,6 +125,28 @@ fn run_kind(
     }
 }
 
+/// The items of a body one after another, by their flat code where each has some.
+#[cycle(run)]
+fn run_body(
+    alloc: Global,
+    body: &[Item],
+    runners: &mut Option<Vec<Runner>>,
+    graph: &Sdfg,
+    base: &Base,
+    scope: &Scope,
+    machine: &mut Machine,
+) -> Result<End, NoMemory>
+    requires leads { ItemsLeadUpwards (item_trees body.now) }
+    requires runners { MatchOption runners.old ⊤ (λ runners. AreRunnersOf body.now runners.items) }
+    ensures end { IfOk result (λ end. IsEnd (items_coming (item_trees body.now) (context_of (graph_tree graph.now) base.now scope.now) machine.old) machine.old end machine.new) }
+    ensures runners { OnOk result (MatchOption runners.new ⊤ (λ runners. AreRunnersOf body.now runners.items)) }
+{
+    match runners {
+        Some(runners) => run_tasks(alloc, body, runners, graph, base, scope, machine),
+        None => run_items(alloc, body, graph, base, scope, machine),
+    }
+}
+
 /// The body of a map for each point, row by row where it is one tasklet.
 #[cycle(run)]
 fn run_map(
@@ -141,11 +168,20 @@ fn run_map(
     }
     let mut points = checked_points(alloc, params, &scope.values)?;
     let mut point_scope = scope.inside(alloc, private)?;
+    let mut runners = runners_of(alloc, body)?;
     while points.next() {
         point_scope.at_point(alloc, scope, params, points.at())?;
         let own = Memory::of_scope(alloc, &graph.containers, private)?;
         machine.enter(own)?;
-        let end = run_items(alloc, body, graph, base, &point_scope, machine)?;
+        let end = run_body(
+            alloc,
+            body,
+            &mut runners,
+            graph,
+            base,
+            &point_scope,
+            machine,
+        )?;
         machine.leave();
         match end {
             End::Finished => {}
@@ -181,6 +217,7 @@ fn run_consume(
     let from = station(base, scope, stream)?;
     let own_numbers = with_first(alloc, element, private)?;
     let mut element_scope = scope.inside(alloc, own_numbers.as_slice())?;
+    let mut runners = runners_of(alloc, body)?;
     for _ in 0..u64::MAX {
         let Some(value) = machine.take(from) else {
             return Ok(End::Finished);
@@ -188,7 +225,15 @@ fn run_consume(
         element_scope.at_element(alloc, scope, element, value)?;
         let own = Memory::of_element(alloc, &graph.containers, element, private, value)?;
         machine.enter(own)?;
-        let end = run_items(alloc, body, graph, base, &element_scope, machine)?;
+        let end = run_body(
+            alloc,
+            body,
+            &mut runners,
+            graph,
+            base,
+            &element_scope,
+            machine,
+        )?;
         machine.leave();
         match end {
             End::Finished => {}

@@ -14,7 +14,8 @@ use Rattle.sd_work.specs.BigStep.{Reached}
 use Rattle.sd_machine.specs.Coming.{kind_coming, map_coming, points_coming, state_context, from_state}
 use Rattle.sd_scope.specs.Standing.{context_of, opening_reach, IsInside}
 use Rattle.sd_row.proofs.Comes.{IsLeft, as_finished}
-use Rattle.sd_seq.proofs.Items.{item_more, item_stop, item_leads}
+use Rattle.sd_tasks.proofs.Items.{item_more, item_stop}
+use Rattle.sd_seq.proofs.Items.{item_leads}
 use Rattle.sd_seq.proofs.ItemKinds.{map_kind, consume_kind}
 use Rattle.sd_rows.proofs.Points.{points_begin, point_first, point_ends, point_more, point_stop}
 use Rattle.sd_consume.specs.Taking.{consume_coming, takes_coming}
@@ -65,6 +66,7 @@ run_map-loop-alloc-init t c = record {
       (sym (none_so _ _ c.in_ok-rows.rows c.in_default.is c.in_ok-rows.ensures))
       (points_begin (item_trees c.args.body.now) c.args.params.now c.args.private.now (context_of (graph_tree c.args.graph.now) c.args.base.now c.args.scope.now) c.args.machine.now c.in_ok-points.points c.in_ok-points.ensures);
   inside = c.in_ok-point_scope.ensures;
+  runners = c.in_ok-runners.ensures;
 }
 
 pub run_map-loop-alloc-preserved : goal.run_map-loop-alloc-preserved
@@ -73,11 +75,12 @@ run_map-loop-alloc-preserved t c = record {
       _ _ _ _ _ _ (point_first c.loop-alloc.points c.next.new.self c.at.result.now c.loop-alloc-test.ensures.step c.at.ensures) c.loop-alloc.invariant.left
       (as_finished _ _ _ c.in_ok-end.end c.in-Finished.is
       (point_ends (item_trees c.args.body.now) c.args.params.now c.args.private.now (context_of (graph_tree c.args.graph.now) c.args.base.now c.args.scope.now) c.at.result.now
-      (map named_container (out-Sdfg c.args.graph.now).containers.entries) _ c.in_ok-own.own.contents c.loop-alloc.machine c.enter.new.self c.run_items.new.machine c.leave.new.self c.in_ok-end.end
+      (map named_container (out-Sdfg c.args.graph.now).containers.entries) _ c.in_ok-own.own.contents c.loop-alloc.machine c.enter.new.self c.run_body.new.machine c.leave.new.self c.in_ok-end.end
       (containers_in c.args.graph.now) c.in_ok-own.ensures.contents
       (c.in_ok-at_point.ensures.context (graph_tree c.args.graph.now) c.args.base.now c.args.private.now c.loop-alloc.invariant.inside)
-      c.in_ok-enter.ensures.memories c.in_ok-enter.ensures.turns c.in_ok-end.ensures c.leave.ensures.memories c.leave.ensures.turns));
+      c.in_ok-enter.ensures.memories c.in_ok-enter.ensures.turns c.in_ok-end.ensures.end c.leave.ensures.memories c.leave.ensures.turns));
   inside = c.in_ok-at_point.ensures.inside c.args.private.now c.loop-alloc.invariant.inside;
+  runners = c.in_ok-end.ensures.runners;
 }
 
 pub run_map-returns-in_default-end : goal.run_map-returns-in_default-end
@@ -85,10 +88,10 @@ run_map-returns-in_default-end t c =
     point_stop (item_trees c.args.body.now) c.args.params.now c.args.private.now (context_of (graph_tree c.args.graph.now) c.args.base.now c.args.scope.now) c.at.result.now
     _ _ _ _ _ _ (point_first c.loop-alloc.points c.next.new.self c.at.result.now c.loop-alloc-test.ensures.step c.at.ensures) c.loop-alloc.invariant.left c.in_ok-end.end
     (point_ends (item_trees c.args.body.now) c.args.params.now c.args.private.now (context_of (graph_tree c.args.graph.now) c.args.base.now c.args.scope.now) c.at.result.now
-    (map named_container (out-Sdfg c.args.graph.now).containers.entries) _ c.in_ok-own.own.contents c.loop-alloc.machine c.enter.new.self c.run_items.new.machine c.leave.new.self c.in_ok-end.end
+    (map named_container (out-Sdfg c.args.graph.now).containers.entries) _ c.in_ok-own.own.contents c.loop-alloc.machine c.enter.new.self c.run_body.new.machine c.leave.new.self c.in_ok-end.end
     (containers_in c.args.graph.now) c.in_ok-own.ensures.contents
     (c.in_ok-at_point.ensures.context (graph_tree c.args.graph.now) c.args.base.now c.args.private.now c.loop-alloc.invariant.inside)
-    c.in_ok-enter.ensures.memories c.in_ok-enter.ensures.turns c.in_ok-end.ensures c.leave.ensures.memories c.leave.ensures.turns)
+    c.in_ok-enter.ensures.memories c.in_ok-enter.ensures.turns c.in_ok-end.ensures.end c.leave.ensures.memories c.leave.ensures.turns)
     c.in_default-end.not-Finished
 
 pub run_nested-returns : goal.run_nested-returns
@@ -105,6 +108,7 @@ run_consume-loop-init t c = record {
       (sym (none_so _ _ c.in_ok-elements.elements c.in_default.is c.in_ok-elements.ensures))
       (record { comes = λ most outcome after. after most; depth = refl; turns = omega arith });
   inside = subst (λ (own : List ℕ). IsInside own c.args.scope.now c.in_ok-element_scope.element_scope) (c.as_slice.ensures.value ∙ c.in_ok-own_numbers.ensures) c.in_ok-element_scope.ensures;
+  runners = c.in_ok-runners.ensures;
 }
 
 pub run_consume-returns-in_default-take : goal.run_consume-returns-in_default-take
@@ -132,10 +136,10 @@ run_consume-returns-in_default-end t c =
     (c.in_ok-from.ensures.level (graph_tree c.args.graph.now)) (c.in_ok-from.ensures.container (graph_tree c.args.graph.now)) c.take.ensures.memories) c.take.ensures.turns
     c.in-Some-take.value (oldest_there c.in_ok-from.from.level ((context_of (graph_tree c.args.graph.now) c.args.base.now c.args.scope.now).reach c.args.stream).level c.in_ok-from.from.container ((context_of (graph_tree c.args.graph.now) c.args.base.now c.args.scope.now).reach c.args.stream).container c.loop.machine.memories c.take.result
     (c.in_ok-from.ensures.level (graph_tree c.args.graph.now)) (c.in_ok-from.ensures.container (graph_tree c.args.graph.now)) c.take.ensures.oldest ∙ c.in-Some-take.is) c.leave.new.self
-    (to_z w64 (of_z w64 c.in-Some-take.value)) (map named_container (out-Sdfg c.args.graph.now).containers.entries) _ c.in_ok-own.own.contents c.enter.new.self c.run_items.new.machine c.in_ok-end.end
+    (to_z w64 (of_z w64 c.in-Some-take.value)) (map named_container (out-Sdfg c.args.graph.now).containers.entries) _ c.in_ok-own.own.contents c.enter.new.self c.run_body.new.machine c.in_ok-end.end
     same_value (containers_in c.args.graph.now) c.in_ok-own.ensures.contents
     (c.in_ok-at_element.ensures.context (graph_tree c.args.graph.now) c.args.base.now c.args.private.now c.loop.invariant.inside)
-    c.in_ok-enter.ensures.memories c.in_ok-enter.ensures.turns c.in_ok-end.ensures c.leave.ensures.memories c.leave.ensures.turns)
+    c.in_ok-enter.ensures.memories c.in_ok-enter.ensures.turns c.in_ok-end.ensures.end c.leave.ensures.memories c.leave.ensures.turns)
     c.in_default-end.not-Finished
 
 pub run_consume-loop-preserved : goal.run_consume-loop-preserved
@@ -156,11 +160,12 @@ run_consume-loop-preserved t c =
           (c.in_ok-from.ensures.level (graph_tree c.args.graph.now)) (c.in_ok-from.ensures.container (graph_tree c.args.graph.now)) c.take.ensures.memories) c.take.ensures.turns
           c.in-Some-take.value (oldest_there c.in_ok-from.from.level ((context_of (graph_tree c.args.graph.now) c.args.base.now c.args.scope.now).reach c.args.stream).level c.in_ok-from.from.container ((context_of (graph_tree c.args.graph.now) c.args.base.now c.args.scope.now).reach c.args.stream).container c.loop.machine.memories c.take.result
           (c.in_ok-from.ensures.level (graph_tree c.args.graph.now)) (c.in_ok-from.ensures.container (graph_tree c.args.graph.now)) c.take.ensures.oldest ∙ c.in-Some-take.is) c.leave.new.self
-          (to_z w64 (of_z w64 c.in-Some-take.value)) (map named_container (out-Sdfg c.args.graph.now).containers.entries) _ c.in_ok-own.own.contents c.enter.new.self c.run_items.new.machine c.in_ok-end.end
+          (to_z w64 (of_z w64 c.in-Some-take.value)) (map named_container (out-Sdfg c.args.graph.now).containers.entries) _ c.in_ok-own.own.contents c.enter.new.self c.run_body.new.machine c.in_ok-end.end
           same_value (containers_in c.args.graph.now) c.in_ok-own.ensures.contents
           (c.in_ok-at_element.ensures.context (graph_tree c.args.graph.now) c.args.base.now c.args.private.now c.loop.invariant.inside)
-          c.in_ok-enter.ensures.memories c.in_ok-enter.ensures.turns c.in_ok-end.ensures c.leave.ensures.memories c.leave.ensures.turns));
+          c.in_ok-enter.ensures.memories c.in_ok-enter.ensures.turns c.in_ok-end.ensures.end c.leave.ensures.memories c.leave.ensures.turns));
       inside = c.in_ok-at_element.ensures.inside (c.args.element ∷ c.args.private.now) c.loop.invariant.inside;
+      runners = c.in_ok-end.ensures.runners;
     }
 
 pub run_states-run_state-requires : goal.run_states-run_state-requires

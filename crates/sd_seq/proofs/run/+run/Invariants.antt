@@ -1,8 +1,11 @@
 use Rattle.std.proofs.Common.{length, drop, ◌∷◌}
+use Rattle.std.specs.Option.{MatchOption}
+use Rattle.std.specs.Bool.{⊤}
 use Rattle.sd_graph.specs.TreeFold.{graph_tree, item_trees}
 use Rattle.sd_graph.specs.TreeParts.{containers_of}
 use Rattle.sd_machine.specs.Coming.{items_coming, map_coming, points_coming, from_state}
 use Rattle.sd_scope.specs.Standing.{context_of, opening_reach, IsInside}
+use Rattle.sd_tasks.specs.Runners.{AreRunnersOf}
 use Rattle.sd_consume.specs.Taking.{consume_coming, takes_coming}
 use Rattle.sd_row.proofs.Comes.{IsLeft}
 use Rattle.sd_seq.proofs.States.{measure}
@@ -18,6 +21,7 @@ invariant-run_map-loop-alloc l = record {
   left : IsLeft (map_coming (item_trees l.body) l.params l.private (context_of (graph_tree l.graph) l.base l.scope) l.fn.machine) l.fn.machine
       (λ most beside. points_coming (item_trees l.body) l.params l.private (context_of (graph_tree l.graph) l.base l.scope) l.points.left l.machine most) l.machine;
   inside : IsInside l.private l.scope l.point_scope;
+  runners : MatchOption l.runners ⊤ (λ runners. AreRunnersOf l.body runners.items);
 }
 
 abbrev pub decreases-run_map-loop-alloc : goal.decreases-run_map-loop-alloc
@@ -28,6 +32,7 @@ invariant-run_consume-loop l = record {
   left : IsLeft (consume_coming (item_trees l.body) l.stream l.element l.private (context_of (graph_tree l.graph) l.base l.scope) l.fn.machine) l.fn.machine
       (takes_coming (item_trees l.body) l.stream l.element l.private (context_of (graph_tree l.graph) l.base l.scope) l.machine) l.machine;
   inside : IsInside (l.element ∷ l.private) l.scope l.element_scope;
+  runners : MatchOption l.runners ⊤ (λ runners. AreRunnersOf l.body runners.items);
 }
 
 abbrev pub invariant-run_states-loop-state : goal.invariant-run_states-loop-state
