@@ -3,8 +3,8 @@ ghost use Rattle.std.specs.Prelude.{◌≡◌, true, IsTrue};
 ghost use Rattle.std.specs.List.{AllByRecursion, list_all};
 ghost use Rattle.sd_rows.specs.Still.{is_free, is_free_dim, is_still};
 
+use sd_even::has_one_element;
 use sd_graph::Link;
-use sd_instance::has_one_element;
 use sd_range::{Affine, Dim};
 
 /// Whether no term of an expression has a variable.
