@@ -15,7 +15,7 @@ use sd_mem::Memory;
 use std::alloc::Global;
 
 /// How many elements are made into text at a time.
-const PART: usize = 256;
+const PART: usize = 64;
 
 /// Adds elements to a line, each after a space, and writes the pieces of it that are whole.
 fn write_part<K: Sink>(

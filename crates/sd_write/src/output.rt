@@ -67,6 +67,9 @@ pub(crate) fn write_pieces<K: Sink>(out: &mut K, line: Vec<u8>) -> Result<Vec<u8
     ensures failed { IsErrOf result SinkError.Failed → HasRisen (K.faults out.old) (K.faults out.new) }
     ensures faults_never_fall { K.faults out.old ≤ K.faults out.new }
 {
+    if line.len() < PIECE {
+        return Ok(line);
+    }
     let whole = line.len() - line.len() % PIECE;
     let mut line = line;
     let Ok(rest) = line.split_off(whole) else {
