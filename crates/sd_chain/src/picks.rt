@@ -82,6 +82,3 @@ pub fn read_picks(alloc: Global, text: &[u8]) -> Result<Vec<u64>, PicksError>
     }
     Ok(picks)
 }
-
-#[cfg(test)]
-mod tests;

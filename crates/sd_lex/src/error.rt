@@ -70,6 +70,3 @@ impl<T: Drop> From<AllocFailed<T>> for LexError {
         LexError::Memory
     }
 }
-
-#[cfg(test)]
-mod tests;

@@ -57,6 +57,3 @@ pub fn tokens(alloc: Global, text: &[u8]) -> Result<Vec<Token>, LexError>
     let Lexer { tokens, .. } = lexer;
     Ok(tokens)
 }
-
-#[cfg(test)]
-mod tests;

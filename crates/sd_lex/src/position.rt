@@ -24,6 +24,3 @@ pub fn line_count(text: &[u8]) -> u32
         None => 0,
     }
 }
-
-#[cfg(test)]
-mod tests;

@@ -11,6 +11,3 @@ pub use memlet::{Lambda, Moved, Slot};
 pub use operator::{OneSign, TwoSign};
 pub use program::{Function, Program};
 pub use statement::{Statement, has_connector};
-
-#[cfg(test)]
-mod tests;

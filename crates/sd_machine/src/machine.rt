@@ -220,6 +220,3 @@ fn index_of(count: usize, level: usize) -> Option<usize>
         None
     }
 }
-
-#[cfg(test)]
-mod tests;

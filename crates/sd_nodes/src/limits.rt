@@ -109,6 +109,3 @@ fn any_state_over(alloc: Global, limit: u32, states: &[Sequence<Node>]) -> Optio
     }
     least
 }
-
-#[cfg(test)]
-mod tests;

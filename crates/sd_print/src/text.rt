@@ -82,6 +82,3 @@ pub fn fault_text(alloc: Global, place: &Place, kind: FaultKind) -> Result<Strin
     push_frames(&mut text, place.frames.as_slice())?;
     Ok(text)
 }
-
-#[cfg(test)]
-mod tests;

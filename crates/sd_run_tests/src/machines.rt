@@ -1,8 +1,12 @@
-use super::*;
+//! The memories of all that is running, and the turns that are left.
 use indexmap::IndexMap;
 use sd_graph::{Container, ContainerKind};
-use sd_list::Sequence;
+use sd_list::{NoMemory, Sequence};
+use sd_machine::{Cell, Machine, Station};
+use sd_mem::Memory;
+use sd_num::Resolution;
 use sd_range::Affine;
+use std::alloc::Global;
 use std::test::Fail;
 
 /// A memory with an array of this length and a stream.

@@ -1,5 +1,6 @@
-use super::*;
-use crate::token::TokenKind;
+//! Tokens of texts, errors, and how many lines a text has.
+use sd_lex::{LexError, TokenKind, line_count, tokens};
+use std::alloc::Global;
 use std::test::Fail;
 
 /// The longest text that may be cut.
@@ -172,4 +173,24 @@ fn long_texts_of_one_byte_are_cut(rt: HostRuntime) -> Result<(), Fail> {
         assert_eq!(rt; count_and_line(rt.alloc(), &text)?.0, count);
     }
     Ok(())
+}
+
+#[test]
+fn an_error_says_its_number_and_line(rt: HostRuntime) -> Result<(), Fail> {
+    for (error, text) in [
+        (LexError::BadByte(1), "source error 1 at line 1"),
+        (LexError::Memory, "out of memory"),
+    ] {
+        let mut shown = String::new(rt.alloc());
+        write!(shown, "{error}")?;
+        assert_eq!(rt; shown.as_str(), text);
+    }
+    Ok(())
+}
+
+#[test]
+fn a_newline_ends_its_line(rt: HostRuntime) {
+    for (text, count) in [("", 0), ("a", 1), ("a\n", 1), ("a\nb", 2), ("\n\n", 2)] {
+        assert_eq!(rt; line_count(text.as_bytes()), count);
+    }
 }

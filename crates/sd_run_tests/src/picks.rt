@@ -1,4 +1,5 @@
-use super::*;
+//! Files of picks.
+use sd_chain::{PicksError, read_picks};
 use std::test::Fail;
 
 /// Texts with their picks.

@@ -1,4 +1,5 @@
-use super::*;
+//! What syntax trees tell of themselves.
+use sd_lex::{Expr, Moved, OneSign, Slot, Statement, TwoSign, has_connector};
 use std::alloc::Global;
 use std::test::Fail;
 

@@ -1,5 +1,7 @@
-use super::*;
-use sd_lex::{Expr, Slot, Statement};
+//! Limits on the nodes of a source's graphs.
+use sd_lex::{Expr, Function, Program, Slot, Statement};
+use sd_nodes::first_over;
+use std::alloc::Global;
 use std::test::Fail;
 
 fn text(alloc: Global, name: &str) -> Result<String, Fail> {

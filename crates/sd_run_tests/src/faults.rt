@@ -1,6 +1,7 @@
-use super::{fault_text, place_text};
+//! The texts of places and of faults.
 use sd_graph::{FaultKind, Frame, Place};
 use sd_list::{Sequence, Text};
+use sd_print::{fault_text, place_text};
 use std::alloc::Global;
 use std::test::Fail;
 
