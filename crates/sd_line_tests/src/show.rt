@@ -3,7 +3,34 @@
 use sd_lex::{Expr, Lambda, OneSign, Slot, Statement, TwoSign};
 use sd_line::Head;
 use sd_phrase::{WrittenLambda, WrittenMemlet};
-use std::test::Fail;
+
+/// A text that is written piece by piece. Behind the first piece for which memory is wanting it is not whole.
+#[derive(Drop)]
+pub(crate) struct Shown {
+    pub(crate) text: String,
+    pub(crate) is_whole: bool,
+}
+
+impl Shown {
+    pub(crate) fn put(&mut self, piece: &str) {
+        if self.text.push_str(piece).is_err() {
+            self.is_whole = false;
+        }
+    }
+
+    fn put_number(&mut self, value: i64) {
+        if write!(self.text, "{value}").is_err() {
+            self.is_whole = false;
+        }
+    }
+
+    /// A word, a name, and what stands behind it.
+    fn put_named(&mut self, word: &str, name: &str, behind: &str) {
+        self.put(word);
+        self.put(name);
+        self.put(behind);
+    }
+}
 
 fn sign_of_two(sign: TwoSign) -> &'static str {
     match sign {
@@ -51,144 +78,130 @@ fn kind(lambda: Option<Lambda>) -> &'static str {
 }
 
 #[cycle(expressions)]
-fn expression(shown: &mut String, tree: &Expr) -> Result<(), Fail> {
+fn expression(shown: &mut Shown, tree: &Expr) {
     match tree {
-        Expr::Number(value) => write!(shown, "{value}")?,
-        Expr::Name(name) => shown.push_str(name)?,
+        Expr::Number(value) => shown.put_number(*value),
+        Expr::Name(name) => shown.put(name),
         Expr::Element { name, at } => {
-            shown.push_str(name)?;
-            expressions(shown, at)?;
+            shown.put(name);
+            expressions(shown, at);
         }
         Expr::One { sign, of } => {
-            shown.push_str("(")?;
-            shown.push_str(sign_of_one(*sign))?;
-            shown.push_str(" ")?;
-            expression(shown, of)?;
-            shown.push_str(")")?;
+            shown.put("(");
+            shown.put(sign_of_one(*sign));
+            shown.put(" ");
+            expression(shown, of);
+            shown.put(")");
         }
         Expr::Two { sign, left, right } => {
-            shown.push_str("(")?;
-            expression(shown, left)?;
-            shown.push_str(" ")?;
-            shown.push_str(sign_of_two(*sign))?;
-            shown.push_str(" ")?;
-            expression(shown, right)?;
-            shown.push_str(")")?;
+            shown.put("(");
+            expression(shown, left);
+            shown.put(" ");
+            shown.put(sign_of_two(*sign));
+            shown.put(" ");
+            expression(shown, right);
+            shown.put(")");
         }
         Expr::Choice { value, when, other } => {
-            shown.push_str("(")?;
-            expression(shown, value)?;
-            shown.push_str(" if ")?;
-            expression(shown, when)?;
-            shown.push_str(" else ")?;
-            expression(shown, other)?;
-            shown.push_str(")")?;
+            shown.put("(");
+            expression(shown, value);
+            shown.put(" if ");
+            expression(shown, when);
+            shown.put(" else ");
+            expression(shown, other);
+            shown.put(")");
         }
     }
-    Ok(())
 }
 
 #[cycle(expressions)]
-fn expressions(shown: &mut String, list: &[Expr]) -> Result<(), Fail> {
-    shown.push_str("[")?;
+fn expressions(shown: &mut Shown, list: &[Expr]) {
+    shown.put("[");
     for tree in list {
-        expression(shown, tree)?;
-        shown.push_str(";")?;
+        expression(shown, tree);
+        shown.put(";");
     }
-    shown.push_str("]")?;
-    Ok(())
+    shown.put("]");
 }
 
-fn wanted(shown: &mut String, tree: &Option<Expr>) -> Result<(), Fail> {
+fn wanted(shown: &mut Shown, tree: &Option<Expr>) {
     match tree {
-        None => shown.push_str("_")?,
-        Some(tree) => expression(shown, tree)?,
+        None => shown.put("_"),
+        Some(tree) => expression(shown, tree),
     }
-    Ok(())
 }
 
-fn number(shown: &mut String, value: Option<i64>) -> Result<(), Fail> {
+fn number(shown: &mut Shown, value: Option<i64>) {
     match value {
-        None => shown.push_str("_")?,
-        Some(value) => write!(shown, "{value}")?,
+        None => shown.put("_"),
+        Some(value) => shown.put_number(value),
     }
-    Ok(())
 }
 
-fn slots(shown: &mut String, list: &[Slot]) -> Result<(), Fail> {
-    shown.push_str("[")?;
+fn slots(shown: &mut Shown, list: &[Slot]) {
+    shown.put("[");
     for slot in list {
         match slot {
-            Slot::Index(at) => expression(shown, at)?,
+            Slot::Index(at) => expression(shown, at),
             Slot::Span { begin, end, step } => {
-                wanted(shown, begin)?;
-                shown.push_str(":")?;
-                wanted(shown, end)?;
-                shown.push_str(":")?;
-                number(shown, *step)?;
+                wanted(shown, begin);
+                shown.put(":");
+                wanted(shown, end);
+                shown.put(":");
+                number(shown, *step);
             }
         }
-        shown.push_str(";")?;
+        shown.put(";");
     }
-    shown.push_str("]")?;
-    Ok(())
+    shown.put("]");
 }
 
-fn lambda(shown: &mut String, written: &WrittenLambda) -> Result<(), Fail> {
-    shown.push_str(&written.first)?;
-    shown.push_str(",")?;
-    shown.push_str(&written.second)?;
-    shown.push_str(" ")?;
-    shown.push_str(kind(written.kind))?;
-    Ok(())
+fn lambda(shown: &mut Shown, written: &WrittenLambda) {
+    shown.put_named("", &written.first, ",");
+    shown.put_named("", &written.second, " ");
+    shown.put(kind(written.kind));
 }
 
-fn memlet(shown: &mut String, written: &WrittenMemlet) -> Result<(), Fail> {
-    shown.push_str(&written.name)?;
-    shown.push_str("(")?;
-    number(shown, written.volume)?;
+fn memlet(shown: &mut Shown, written: &WrittenMemlet) {
+    shown.put_named("", &written.name, "(");
+    number(shown, written.volume);
     match &written.lambda {
-        None => shown.push_str(")")?,
+        None => {}
         Some(resolution) => {
-            shown.push_str(" ")?;
-            lambda(shown, resolution)?;
-            shown.push_str(")")?;
+            shown.put(" ");
+            lambda(shown, resolution);
         }
     }
+    shown.put(")");
     slots(shown, &written.dims)
 }
 
-fn names(shown: &mut String, list: &[String]) -> Result<(), Fail> {
+fn names(shown: &mut Shown, list: &[String]) {
     for name in list {
-        shown.push_str(name)?;
-        shown.push_str(";")?;
+        shown.put_named("", name, ";");
     }
-    Ok(())
 }
 
-fn arguments(shown: &mut String, list: &[(String, Vec<Slot>)]) -> Result<(), Fail> {
+fn arguments(shown: &mut Shown, list: &[(String, Vec<Slot>)]) {
     for (name, dims) in list {
-        shown.push_str(" ")?;
-        shown.push_str(name)?;
-        slots(shown, dims)?;
+        shown.put_named(" ", name, "");
+        slots(shown, dims);
     }
-    Ok(())
 }
 
 /// A word, a name and expressions in brackets.
-fn named(shown: &mut String, word: &str, name: &str, at: &[Expr]) -> Result<(), Fail> {
-    shown.push_str(word)?;
-    shown.push_str(name)?;
+fn named(shown: &mut Shown, word: &str, name: &str, at: &[Expr]) {
+    shown.put_named(word, name, "");
     expressions(shown, at)
 }
 
 /// A word and a condition.
-fn when(shown: &mut String, word: &str, tree: &Expr) -> Result<(), Fail> {
-    shown.push_str(word)?;
+fn when(shown: &mut Shown, word: &str, tree: &Expr) {
+    shown.put(word);
     expression(shown, tree)
 }
 
-fn declaration(shown: &mut String, tree: &Statement) -> Result<(), Fail> {
+fn declaration(shown: &mut Shown, tree: &Statement) {
     match tree {
         Statement::Argument {
             name,
@@ -196,8 +209,8 @@ fn declaration(shown: &mut String, tree: &Statement) -> Result<(), Fail> {
             extents,
             ..
         } => {
-            named(shown, " ", name, extents)?;
-            write!(shown, "{bits}")?;
+            named(shown, " ", name, extents);
+            shown.put_number(i64::from(*bits));
         }
         Statement::Local {
             name,
@@ -205,8 +218,8 @@ fn declaration(shown: &mut String, tree: &Statement) -> Result<(), Fail> {
             bits,
             ..
         } => {
-            named(shown, "local ", name, extents)?;
-            write!(shown, "{bits}")?;
+            named(shown, "local ", name, extents);
+            shown.put_number(i64::from(*bits));
         }
         Statement::Stream {
             name,
@@ -214,16 +227,17 @@ fn declaration(shown: &mut String, tree: &Statement) -> Result<(), Fail> {
             size,
             ..
         } => {
-            write!(shown, "stream {name} {bits} ")?;
-            number(shown, *size)?;
+            shown.put_named("stream ", name, " ");
+            shown.put_number(i64::from(*bits));
+            shown.put(" ");
+            number(shown, *size);
         }
-        _ => shown.push_str("?")?,
+        _ => shown.put("?"),
     }
-    Ok(())
 }
 
 /// A statement on elements, or a call.
-fn action(shown: &mut String, tree: &Statement) -> Result<(), Fail> {
+fn action(shown: &mut Shown, tree: &Statement) {
     match tree {
         Statement::Assign {
             name,
@@ -232,8 +246,8 @@ fn action(shown: &mut String, tree: &Statement) -> Result<(), Fail> {
             value,
             ..
         } => {
-            named(shown, "assign ", name, at)?;
-            when(shown, if *add { " += " } else { " = " }, value)?;
+            named(shown, "assign ", name, at);
+            when(shown, if *add { " += " } else { " = " }, value);
         }
         Statement::Copy {
             to,
@@ -242,31 +256,30 @@ fn action(shown: &mut String, tree: &Statement) -> Result<(), Fail> {
             from_dims,
             ..
         } => {
-            write!(shown, "copy {to}")?;
-            slots(shown, to_dims)?;
-            write!(shown, " {from}")?;
-            slots(shown, from_dims)?;
+            shown.put_named("copy ", to, "");
+            slots(shown, to_dims);
+            shown.put_named(" ", from, "");
+            slots(shown, from_dims);
         }
         Statement::Call {
             name,
             arguments: passed,
             ..
         } => {
-            write!(shown, "call {name}")?;
-            arguments(shown, passed)?;
+            shown.put_named("call ", name, "");
+            arguments(shown, passed);
         }
-        _ => shown.push_str("?")?,
+        _ => shown.put("?"),
     }
-    Ok(())
 }
 
 /// A line of a body with a block below it.
-fn block(shown: &mut String, tree: &Statement) -> Result<(), Fail> {
+fn block(shown: &mut Shown, tree: &Statement) {
     match tree {
         Statement::Map { params, ranges, .. } => {
-            shown.push_str("map ")?;
-            names(shown, params)?;
-            slots(shown, ranges)?;
+            shown.put("map ");
+            names(shown, params);
+            slots(shown, ranges);
         }
         Statement::For {
             name,
@@ -275,26 +288,25 @@ fn block(shown: &mut String, tree: &Statement) -> Result<(), Fail> {
             step,
             ..
         } => {
-            write!(shown, "for {name} ")?;
-            wanted(shown, begin)?;
-            when(shown, ":", end)?;
-            shown.push_str(":")?;
-            number(shown, *step)?;
+            shown.put_named("for ", name, " ");
+            wanted(shown, begin);
+            when(shown, ":", end);
+            shown.put(":");
+            number(shown, *step);
         }
-        Statement::While { when: tree, .. } => when(shown, "while ", tree)?,
-        Statement::If { when: tree, .. } => when(shown, "if ", tree)?,
-        Statement::Tasklet { .. } => shown.push_str("tasklet")?,
-        _ => shown.push_str("?")?,
+        Statement::While { when: tree, .. } => when(shown, "while ", tree),
+        Statement::If { when: tree, .. } => when(shown, "if ", tree),
+        Statement::Tasklet { .. } => shown.put("tasklet"),
+        _ => shown.put("?"),
     }
-    Ok(())
 }
 
 /// A statement of a tasklet.
-fn inner(shown: &mut String, tree: &Statement) -> Result<(), Fail> {
+fn inner(shown: &mut Shown, tree: &Statement) {
     match tree {
         Statement::Set { name, value, .. } => {
-            write!(shown, "set {name}")?;
-            when(shown, " = ", value)?;
+            shown.put_named("set ", name, "");
+            when(shown, " = ", value);
         }
         Statement::SetAt {
             name,
@@ -302,70 +314,69 @@ fn inner(shown: &mut String, tree: &Statement) -> Result<(), Fail> {
             value,
             ..
         } => {
-            named(shown, "set ", name, at)?;
-            when(shown, " = ", value)?;
+            named(shown, "set ", name, at);
+            when(shown, " = ", value);
         }
-        Statement::When { when: tree, .. } => when(shown, "when ", tree)?,
-        _ => shown.push_str("?")?,
+        Statement::When { when: tree, .. } => when(shown, "when ", tree),
+        _ => shown.put("?"),
     }
-    Ok(())
 }
 
-fn statement(shown: &mut String, tree: &Statement) -> Result<(), Fail> {
+fn statement(shown: &mut Shown, tree: &Statement) {
     match tree {
         Statement::Argument { .. } | Statement::Local { .. } | Statement::Stream { .. } => {
-            declaration(shown, tree)?
+            declaration(shown, tree)
         }
         Statement::Assign { .. } | Statement::Copy { .. } | Statement::Call { .. } => {
-            action(shown, tree)?
+            action(shown, tree)
         }
         Statement::Set { .. } | Statement::SetAt { .. } | Statement::When { .. } => {
-            inner(shown, tree)?
+            inner(shown, tree)
         }
-        _ => block(shown, tree)?,
+        _ => block(shown, tree),
     }
-    let line = tree.line();
-    write!(shown, " at {line}")?;
-    Ok(())
+    shown.put(" at ");
+    shown.put_number(i64::from(tree.line()));
 }
 
-fn program(shown: &mut String, name: &str, arguments: &[Statement]) -> Result<(), Fail> {
-    write!(shown, "program {name}")?;
+fn program(shown: &mut Shown, name: &str, arguments: &[Statement]) {
+    shown.put_named("program ", name, "");
     for argument in arguments {
-        statement(shown, argument)?;
+        statement(shown, argument);
     }
-    Ok(())
 }
 
 /// The axis and the identity of a reduction.
-fn options(shown: &mut String, axis: Option<i64>, identity: Option<i64>) -> Result<(), Fail> {
-    number(shown, axis)?;
-    shown.push_str(" ")?;
+fn options(shown: &mut Shown, axis: Option<i64>, identity: Option<i64>) {
+    number(shown, axis);
+    shown.put(" ");
     number(shown, identity)
 }
 
 /// A word, the name of a connector and its memlet.
-fn moved(shown: &mut String, word: &str, name: &str, written: &WrittenMemlet) -> Result<(), Fail> {
-    write!(shown, "{word} {name} ")?;
+fn moved(shown: &mut Shown, word: &str, name: &str, written: &WrittenMemlet) {
+    shown.put_named(word, name, " ");
     memlet(shown, written)
 }
 
-fn worker_name(shown: &mut String, worker: &Option<String>) -> Result<(), Fail> {
+fn worker_name(shown: &mut Shown, worker: &Option<String>) {
     match worker {
-        None => shown.push_str("_")?,
-        Some(name) => shown.push_str(name)?,
+        None => shown.put("_"),
+        Some(name) => shown.put(name),
     }
-    Ok(())
 }
 
 /// What a line says.
-pub(crate) fn head(shown: &mut String, said: &Head) -> Result<(), Fail> {
+pub(crate) fn head(shown: &mut Shown, said: &Head) {
     match said {
-        Head::Import => shown.push_str("import")?,
-        Head::Symbol { name, quoted } => write!(shown, "symbol {name} {quoted}")?,
-        Head::ProgramDecorator => shown.push_str("program below")?,
-        Head::Program { name, arguments } => program(shown, name, arguments)?,
-        Head::Statement(tree) => statement(shown, tree)?,
+        Head::Import => shown.put("import"),
+        Head::Symbol { name, quoted } => {
+            shown.put_named("symbol ", name, " ");
+            shown.put(quoted);
+        }
+        Head::ProgramDecorator => shown.put("program below"),
+        Head::Program { name, arguments } => program(shown, name, arguments),
+        Head::Statement(tree) => statement(shown, tree),
         Head::Reduce {
             lambda: resolution,
             from,
@@ -373,24 +384,28 @@ pub(crate) fn head(shown: &mut String, said: &Head) -> Result<(), Fail> {
             axis,
             identity,
         } => {
-            shown.push_str("reduce ")?;
-            lambda(shown, resolution)?;
-            write!(shown, " {from} {to} ")?;
-            options(shown, *axis, *identity)?;
+            shown.put("reduce ");
+            lambda(shown, resolution);
+            shown.put_named(" ", from, " ");
+            shown.put_named("", to, " ");
+            options(shown, *axis, *identity);
         }
-        Head::Input { connector, memlet } => moved(shown, "input", connector, memlet)?,
-        Head::Output { connector, memlet } => moved(shown, "output", connector, memlet)?,
-        Head::ConsumeDecorator { stream, size } => write!(shown, "consume below {stream} {size}")?,
+        Head::Input { connector, memlet } => moved(shown, "input ", connector, memlet),
+        Head::Output { connector, memlet } => moved(shown, "output ", connector, memlet),
+        Head::ConsumeDecorator { stream, size } => {
+            shown.put_named("consume below ", stream, " ");
+            shown.put_number(*size);
+        }
         Head::Consume {
             name,
             element,
             worker,
         } => {
-            write!(shown, "consume {name} {element} ")?;
-            worker_name(shown, worker)?;
+            shown.put_named("consume ", name, " ");
+            shown.put_named("", element, " ");
+            worker_name(shown, worker);
         }
-        Head::Elif(tree) => when(shown, "elif ", tree)?,
-        Head::Else => shown.push_str("else")?,
+        Head::Elif(tree) => when(shown, "elif ", tree),
+        Head::Else => shown.put("else"),
     }
-    Ok(())
 }
