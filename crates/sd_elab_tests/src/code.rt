@@ -1,8 +1,8 @@
 //! The printed form of code: `u0` is the first variable that it uses, `l0` its first local, and `i0` its
 //! first connector as an input, `o0` as an output.
 use crate::numbers::naturals;
+use crate::shown::Shown;
 use sd_graph::{Act, OneSign, Port, Tasklet, TwoSign, Value};
-use std::test::Fail;
 
 fn sign_of_two(sign: TwoSign) -> &'static str {
     match sign {
@@ -36,116 +36,109 @@ fn sign_of_one(sign: OneSign) -> &'static str {
 }
 
 #[cycle(values)]
-fn value(shown: &mut String, tree: &Value) -> Result<(), Fail> {
+fn value(shown: &mut Shown, tree: &Value) {
     match tree {
-        Value::Number(number) => write!(shown, "{number}")?,
-        Value::Variable(place) => write!(shown, "u{place}")?,
-        Value::Local(number) => write!(shown, "l{number}")?,
+        Value::Number(number) => shown.put_number(i128::from(*number)),
+        Value::Variable(place) => shown.put_numbered("u", *place, ""),
+        Value::Local(number) => shown.put_numbered("l", *number, ""),
         Value::Input { connector, at } => {
-            write!(shown, "i{connector}")?;
-            values(shown, at)?;
+            shown.put_numbered("i", *connector, "");
+            values(shown, at);
         }
         Value::One { sign, of } => {
-            shown.push_str("(")?;
-            shown.push_str(sign_of_one(*sign))?;
-            shown.push_str(" ")?;
-            value(shown, of)?;
-            shown.push_str(")")?;
+            shown.put("(");
+            shown.put(sign_of_one(*sign));
+            shown.put(" ");
+            value(shown, of);
+            shown.put(")");
         }
         Value::Two { sign, left, right } => {
-            shown.push_str("(")?;
-            value(shown, left)?;
-            shown.push_str(" ")?;
-            shown.push_str(sign_of_two(*sign))?;
-            shown.push_str(" ")?;
-            value(shown, right)?;
-            shown.push_str(")")?;
+            shown.put("(");
+            value(shown, left);
+            shown.put(" ");
+            shown.put(sign_of_two(*sign));
+            shown.put(" ");
+            value(shown, right);
+            shown.put(")");
         }
         Value::Choice {
             value: chosen,
             when,
             other,
         } => {
-            shown.push_str("(")?;
-            value(shown, chosen)?;
-            shown.push_str(" if ")?;
-            value(shown, when)?;
-            shown.push_str(" else ")?;
-            value(shown, other)?;
-            shown.push_str(")")?;
+            shown.put("(");
+            value(shown, chosen);
+            shown.put(" if ");
+            value(shown, when);
+            shown.put(" else ");
+            value(shown, other);
+            shown.put(")");
         }
     }
-    Ok(())
 }
 
 #[cycle(values)]
-fn values(shown: &mut String, list: &[Value]) -> Result<(), Fail> {
-    shown.push_str("[")?;
+fn values(shown: &mut Shown, list: &[Value]) {
+    shown.put("[");
     for tree in list {
-        value(shown, tree)?;
-        shown.push_str(";")?;
+        value(shown, tree);
+        shown.put(";");
     }
-    shown.push_str("]")?;
-    Ok(())
+    shown.put("]");
 }
 
 #[cycle(acts)]
-fn act(shown: &mut String, tree: &Act) -> Result<(), Fail> {
+fn act(shown: &mut Shown, tree: &Act) {
     match tree {
         Act::Local {
             local,
             value: given,
         } => {
-            write!(shown, "l{local}=")?;
-            value(shown, given)?;
+            shown.put_numbered("l", *local, "=");
+            value(shown, given);
         }
         Act::Out {
             connector,
             at,
             value: given,
         } => {
-            write!(shown, "o{connector}")?;
-            values(shown, at)?;
-            shown.push_str("=")?;
-            value(shown, given)?;
+            shown.put_numbered("o", *connector, "");
+            values(shown, at);
+            shown.put("=");
+            value(shown, given);
         }
         Act::When { when, body, other } => {
-            shown.push_str("if ")?;
-            value(shown, when)?;
-            acts(shown, body)?;
-            acts(shown, other)?;
+            shown.put("if ");
+            value(shown, when);
+            acts(shown, body);
+            acts(shown, other);
         }
     }
-    Ok(())
 }
 
 #[cycle(acts)]
-fn acts(shown: &mut String, list: &[Act]) -> Result<(), Fail> {
-    shown.push_str("{")?;
+fn acts(shown: &mut Shown, list: &[Act]) {
+    shown.put("{");
     for tree in list {
-        act(shown, tree)?;
-        shown.push_str(";")?;
+        act(shown, tree);
+        shown.put(";");
     }
-    shown.push_str("}")?;
-    Ok(())
+    shown.put("}");
 }
 
-fn ports(shown: &mut String, list: &[Port]) -> Result<(), Fail> {
-    shown.push_str("(")?;
+fn ports(shown: &mut Shown, list: &[Port]) {
+    shown.put("(");
     for port in list {
-        shown.push_str(port.connector.as_str())?;
-        let dims = port.dims;
-        write!(shown, ":{dims};")?;
+        shown.put(port.connector.as_str());
+        shown.put_numbered(":", port.dims, ";");
     }
-    shown.push_str(")")?;
-    Ok(())
+    shown.put(")");
 }
 
-pub(crate) fn tasklet(shown: &mut String, tree: &Tasklet) -> Result<(), Fail> {
-    ports(shown, &tree.ins)?;
-    ports(shown, &tree.outs)?;
-    naturals(shown, &tree.variables)?;
-    let locals = tree.locals;
-    write!(shown, "{locals}")?;
+pub(crate) fn tasklet(shown: &mut Shown, tree: &Tasklet) {
+    ports(shown, &tree.ins);
+    ports(shown, &tree.outs);
+    naturals(shown, &tree.variables);
+    shown.put_numbered("", tree.locals, "");
     acts(shown, &tree.body)
 }

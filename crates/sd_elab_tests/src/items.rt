@@ -1,8 +1,8 @@
 //! The printed form of graphs.
 use crate::code::tasklet;
 use crate::numbers::{affine, affines, link, links, naturals, range, resolution};
+use crate::shown::Shown;
 use sd_graph::{ContainerKind, Exit, Item, ItemKind, Sdfg, State};
-use std::test::Fail;
 
 fn kind_of_container(kind: ContainerKind) -> &'static str {
     match kind {
@@ -15,27 +15,27 @@ fn kind_of_container(kind: ContainerKind) -> &'static str {
 }
 
 #[cycle(items)]
-fn kind(shown: &mut String, tree: &ItemKind) -> Result<(), Fail> {
+fn kind(shown: &mut Shown, tree: &ItemKind) {
     match tree {
         ItemKind::Task { code, ins, outs } => {
-            shown.push_str("task ")?;
-            tasklet(shown, code)?;
-            links(shown, ins)?;
-            links(shown, outs)?;
+            shown.put("task ");
+            tasklet(shown, code);
+            links(shown, ins);
+            links(shown, outs);
         }
         ItemKind::Map {
             params,
             private,
             body,
         } => {
-            shown.push_str("map ")?;
+            shown.put("map ");
             for (variable, values) in params {
-                write!(shown, "v{variable}=")?;
-                range(shown, values)?;
-                shown.push_str(";")?;
+                shown.put_numbered("v", *variable, "=");
+                range(shown, values);
+                shown.put(";");
             }
-            naturals(shown, private)?;
-            items(shown, body)?;
+            naturals(shown, private);
+            items(shown, body);
         }
         ItemKind::Consume {
             stream,
@@ -43,17 +43,18 @@ fn kind(shown: &mut String, tree: &ItemKind) -> Result<(), Fail> {
             private,
             body,
         } => {
-            write!(shown, "consume c{stream} c{element} ")?;
-            naturals(shown, private)?;
-            items(shown, body)?;
+            shown.put_numbered("consume c", *stream, "");
+            shown.put_numbered(" c", *element, " ");
+            naturals(shown, private);
+            items(shown, body);
         }
         ItemKind::Nested {
             graph: inner,
             links: passed,
         } => {
-            shown.push_str("call ")?;
-            links(shown, passed)?;
-            graph(shown, inner)?;
+            shown.put("call ");
+            links(shown, passed);
+            graph(shown, inner);
         }
         ItemKind::Reduce {
             resolution: met,
@@ -62,93 +63,85 @@ fn kind(shown: &mut String, tree: &ItemKind) -> Result<(), Fail> {
             from,
             to,
         } => {
-            shown.push_str("reduce ")?;
-            shown.push_str(resolution(*met))?;
+            shown.put("reduce ");
+            shown.put(resolution(*met));
             if let Some(axis) = axis {
-                write!(shown, " axis {axis}")?;
+                shown.put_numbered(" axis ", *axis, "");
             }
             if let Some(identity) = identity {
-                write!(shown, " identity {identity}")?;
+                shown.put(" identity ");
+                shown.put_number(i128::from(*identity));
             }
-            shown.push_str(" ")?;
-            link(shown, from)?;
-            shown.push_str(" ")?;
-            link(shown, to)?;
+            shown.put(" ");
+            link(shown, from);
+            shown.put(" ");
+            link(shown, to);
         }
         ItemKind::Copy { from, to } => {
-            shown.push_str("copy ")?;
-            link(shown, from)?;
-            shown.push_str(" ")?;
-            link(shown, to)?;
+            shown.put("copy ");
+            link(shown, from);
+            shown.put(" ");
+            link(shown, to);
         }
     }
-    Ok(())
 }
 
 #[cycle(items)]
-fn items(shown: &mut String, list: &[Item]) -> Result<(), Fail> {
-    shown.push_str("{")?;
+fn items(shown: &mut Shown, list: &[Item]) {
+    shown.put("{");
     for item in list {
-        let line = item.line;
-        write!(shown, "{line} ")?;
-        kind(shown, &item.kind)?;
-        shown.push_str(";")?;
+        shown.put_numbered("", item.line, " ");
+        kind(shown, &item.kind);
+        shown.put(";");
     }
-    shown.push_str("}")?;
-    Ok(())
+    shown.put("}");
 }
 
-fn exits(shown: &mut String, list: &[Exit]) -> Result<(), Fail> {
+fn exits(shown: &mut Shown, list: &[Exit]) {
     for exit in list {
-        shown.push_str(if exit.back { " back to s" } else { " to s" })?;
-        let to = exit.to;
-        write!(shown, "{to}")?;
+        shown.put(if exit.back { " back to s" } else { " to s" });
+        shown.put_numbered("", exit.to, "");
         if let Some(guard) = &exit.when {
-            let line = guard.line;
-            write!(shown, " if {line} ")?;
-            links(shown, guard.reads.as_slice())?;
-            tasklet(shown, &guard.code)?;
+            shown.put_numbered(" if ", guard.line, " ");
+            links(shown, guard.reads.as_slice());
+            tasklet(shown, &guard.code);
         }
         for (variable, value) in exit.set.as_slice() {
-            write!(shown, " v{variable}=")?;
-            affine(shown, value)?;
+            shown.put_numbered(" v", *variable, "=");
+            affine(shown, value);
         }
-        shown.push_str(";")?;
+        shown.put(";");
     }
-    Ok(())
 }
 
 #[cycle(items)]
-fn states(shown: &mut String, list: &[State]) -> Result<(), Fail> {
+fn states(shown: &mut Shown, list: &[State]) {
     for state in list {
-        shown.push_str("state ")?;
-        items(shown, &state.items)?;
-        exits(shown, &state.exits)?;
-        shown.push_str("\n")?;
+        shown.put("state ");
+        items(shown, &state.items);
+        exits(shown, &state.exits);
+        shown.put("\n");
     }
-    Ok(())
 }
 
 #[cycle(items)]
-pub(crate) fn graph(shown: &mut String, tree: &Sdfg) -> Result<(), Fail> {
-    shown.push_str("graph ")?;
-    shown.push_str(&tree.name)?;
+pub(crate) fn graph(shown: &mut Shown, tree: &Sdfg) {
+    shown.put("graph ");
+    shown.put(&tree.name);
     for (name, container) in tree.containers.iter() {
-        shown.push_str(" ")?;
-        shown.push_str(name)?;
-        shown.push_str(":")?;
-        shown.push_str(kind_of_container(container.kind))?;
-        affines(shown, container.extents.as_slice())?;
+        shown.put(" ");
+        shown.put(name);
+        shown.put(":");
+        shown.put(kind_of_container(container.kind));
+        affines(shown, container.extents.as_slice());
     }
-    let arguments = tree.arguments;
-    let symbols = tree.symbols;
-    write!(shown, " {arguments};{symbols} of")?;
+    shown.put_numbered(" ", tree.arguments, ";");
+    shown.put_numbered("", tree.symbols, " of");
     for name in &tree.variables {
-        shown.push_str(" ")?;
-        shown.push_str(name)?;
+        shown.put(" ");
+        shown.put(name);
     }
-    shown.push_str("\n")?;
-    states(shown, &tree.states)?;
-    shown.push_str("end\n")?;
-    Ok(())
+    shown.put("\n");
+    states(shown, &tree.states);
+    shown.put("end\n");
 }

@@ -13,6 +13,8 @@ mod loops;
 #[cfg(test)]
 mod numbers;
 #[cfg(test)]
+mod shown;
+#[cfg(test)]
 mod sources;
 #[cfg(test)]
 mod worked;

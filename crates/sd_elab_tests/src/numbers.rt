@@ -1,35 +1,33 @@
 //! The printed form of affine expressions, ranges and links.
+use crate::shown::Shown;
 use sd_graph::Link;
 use sd_num::Resolution;
 use sd_range::{Affine, Dim, Range};
-use std::test::Fail;
 
-pub(crate) fn affine(shown: &mut String, tree: &Affine) -> Result<(), Fail> {
-    let constant = tree.constant;
-    write!(shown, "{constant}")?;
+pub(crate) fn affine(shown: &mut Shown, tree: &Affine) {
+    shown.put_number(tree.constant);
     for (variable, coefficient) in tree.terms.as_slice() {
-        write!(shown, "+{coefficient}*v{variable}")?;
+        shown.put("+");
+        shown.put_number(*coefficient);
+        shown.put_numbered("*v", *variable, "");
     }
-    Ok(())
 }
 
-pub(crate) fn affines(shown: &mut String, list: &[Affine]) -> Result<(), Fail> {
-    shown.push_str("[")?;
+pub(crate) fn affines(shown: &mut Shown, list: &[Affine]) {
+    shown.put("[");
     for tree in list {
-        affine(shown, tree)?;
-        shown.push_str(";")?;
+        affine(shown, tree);
+        shown.put(";");
     }
-    shown.push_str("]")?;
-    Ok(())
+    shown.put("]");
 }
 
-pub(crate) fn range(shown: &mut String, tree: &Range) -> Result<(), Fail> {
-    affine(shown, &tree.begin)?;
-    shown.push_str(" to ")?;
-    affines(shown, tree.ends.as_slice())?;
-    let step = tree.step;
-    write!(shown, " by {step}")?;
-    Ok(())
+pub(crate) fn range(shown: &mut Shown, tree: &Range) {
+    affine(shown, &tree.begin);
+    shown.put(" to ");
+    affines(shown, tree.ends.as_slice());
+    shown.put(" by ");
+    shown.put_number(tree.step);
 }
 
 pub(crate) fn resolution(tree: Resolution) -> &'static str {
@@ -45,42 +43,38 @@ pub(crate) fn resolution(tree: Resolution) -> &'static str {
     }
 }
 
-pub(crate) fn link(shown: &mut String, tree: &Link) -> Result<(), Fail> {
+pub(crate) fn link(shown: &mut Shown, tree: &Link) {
     let memlet = &tree.memlet;
-    shown.push_str(tree.connector.as_str())?;
-    let container = memlet.container;
-    write!(shown, "=c{container}[")?;
+    shown.put(tree.connector.as_str());
+    shown.put_numbered("=c", memlet.container, "[");
     for dim in memlet.subset.dims.as_slice() {
         match dim {
-            Dim::Index(at) => affine(shown, at)?,
-            Dim::Span(span) => range(shown, span)?,
+            Dim::Index(at) => affine(shown, at),
+            Dim::Span(span) => range(shown, span),
         }
-        shown.push_str(";")?;
+        shown.put(";");
     }
-    let volume = memlet.volume;
-    write!(shown, "]x{volume}")?;
+    shown.put("]x");
+    shown.put_number(i128::from(memlet.volume));
     if let Some(met) = memlet.resolution {
-        shown.push_str(" ")?;
-        shown.push_str(resolution(met))?;
+        shown.put(" ");
+        shown.put(resolution(met));
     }
-    Ok(())
 }
 
-pub(crate) fn links(shown: &mut String, list: &[Link]) -> Result<(), Fail> {
-    shown.push_str("(")?;
+pub(crate) fn links(shown: &mut Shown, list: &[Link]) {
+    shown.put("(");
     for tree in list {
-        link(shown, tree)?;
-        shown.push_str(";")?;
+        link(shown, tree);
+        shown.put(";");
     }
-    shown.push_str(")")?;
-    Ok(())
+    shown.put(")");
 }
 
-pub(crate) fn naturals(shown: &mut String, list: &[u32]) -> Result<(), Fail> {
-    shown.push_str("(")?;
+pub(crate) fn naturals(shown: &mut Shown, list: &[u32]) {
+    shown.put("(");
     for number in list {
-        write!(shown, "{number};")?;
+        shown.put_numbered("", *number, ";");
     }
-    shown.push_str(")")?;
-    Ok(())
+    shown.put(")");
 }
