@@ -1,43 +1,26 @@
-use indexmap::IndexMap;
-use sd_graph::{
-    Act, Container, ContainerKind, Exit, FaultKind, Guard, Link, Memlet, Sdfg, Tasklet, TwoSign,
-    Value,
-};
+//! What leaves of a graph do, one after another over one memory.
+use sd_graph::{FaultKind, Item, ItemKind, Sdfg};
 use sd_leaves::{Next, next_exit, run_copy, run_reduction, run_task};
-use sd_list::{NoMemory, Sequence, Text};
+use sd_list::NoMemory;
 use sd_machine::{Cell, End, Machine, Station};
 use sd_mem::Memory;
-use sd_num::Resolution;
-use sd_range::{Affine, Dim, Range, Subset};
 use sd_scope::{Base, Scope};
+use sd_written_graphs::read_graph;
 use std::alloc::Global;
 use std::test::Fail;
 
-/// Arrays of three, of three and of two by three, and a stream.
-fn graph(alloc: Global) -> Result<Sdfg, NoMemory> {
-    let mut containers = IndexMap::new(alloc);
-    for (name, kind, extents) in [
-        ("A", ContainerKind::Transient, [3].as_slice()),
-        ("B", ContainerKind::Transient, [3].as_slice()),
-        ("M", ContainerKind::Transient, [2, 3].as_slice()),
-        ("S", ContainerKind::Stream, [].as_slice()),
-    ] {
-        let mut all = Vec::new(alloc);
-        for extent in extents {
-            all.push(Affine::constant(alloc, *extent))?;
-        }
-        let extents = Sequence::from(all);
-        containers.insert(name.to_string(alloc)?, Container { extents, kind })?;
-    }
-    Ok(Sdfg {
-        name: "g".to_string(alloc)?,
-        containers,
-        arguments: 0,
-        variables: Vec::new(alloc),
-        symbols: 0,
-        states: Vec::new(alloc),
-    })
-}
+/// Containers 0 and 1 are arrays of three elements, 2 one of two by three, and 3 a stream.
+///
+/// Items 0 and 1 are instances of `a + 1` and `a * 10` of an element of container 0, which are added to the
+/// same element and pushed: of one that is there, and of none. Item 2 is a copy, items 3 and 4 are sums of container 2 along
+/// each of its axes. From each state lead two exits, the first where an element of container 0 is below a number.
+const GRAPH: &str = "transient 3; transient 3; transient 2 3; stream; state;
+task 0[1] > +0[1] 3 | i0 1 + =o1 i0 10 * =o2;
+task 0[3] > +0[3] 3 | i0 1 + =o1 i0 10 * =o2;
+copy 0[0:1] 0[1:2]; reduce 0 2[0:1,0:2] 1[0:2]; reduce 1 2[0:1,0:2] 1[0:2];
+next 0 if 0[1] > /0 | i0 3 < =o1; next 0 if 0[0] > /0 | i0 2 < =o1; state;
+next 0 if 0[1] > /0 | i0 2 < =o1; next 0 if 0[0] > /0 | i0 2 < =o1; state;
+next 0 if 0[9] > /0 | i0 2 < =o1; next 0 if 0[0] > /0 | i0 2 < =o1";
 
 /// What the work of a test stands in.
 #[derive(Drop)]
@@ -46,23 +29,6 @@ struct Work {
     base: Base,
     scope: Scope,
     machine: Machine,
-}
-
-/// At the begin of a run with so many turns, in which each array has the numbers from 1 on.
-fn begun(alloc: Global, turns: u64) -> Result<Work, NoMemory> {
-    let graph = graph(alloc)?;
-    let mut machine = Machine::new(alloc, Memory::of_run(alloc, &graph.containers)?, turns)?;
-    for (container, length) in [(0, 3), (1, 3), (2, 6)] {
-        for element in 0..length {
-            machine.write(cell(container, element), None, element as i64 + 1);
-        }
-    }
-    Ok(Work {
-        graph,
-        base: Base::outermost(alloc),
-        scope: Scope::at_state(alloc, 0, &[])?,
-        machine,
-    })
 }
 
 /// An element of the innermost memory.
@@ -76,90 +42,68 @@ fn cell(container: u32, element: u64) -> Cell {
     }
 }
 
-/// A link on these dimensions of a container.
-fn link(
-    alloc: Global,
-    container: u32,
-    dims: Vec<Dim>,
-    resolution: Option<Resolution>,
-) -> Result<Link, NoMemory> {
-    Ok(Link {
-        connector: Text::from("c".to_string(alloc)?),
-        memlet: Memlet {
-            container,
-            subset: Subset {
-                dims: Sequence::from(dims),
-            },
-            volume: 1,
-            resolution,
-        },
-    })
-}
-
-/// A link on one element of an array of one dimension.
-fn element(
-    alloc: Global,
-    container: u32,
-    number: i128,
-    resolution: Option<Resolution>,
-) -> Result<Link, NoMemory> {
-    let dims = vec![in alloc; Dim::Index(Affine::constant(alloc, number))]?;
-    link(alloc, container, dims, resolution)
-}
-
-/// From a number up to another.
-fn span(alloc: Global, first: i128, last: i128) -> Result<Dim, NoMemory> {
-    Ok(Dim::Span(Range {
-        begin: Affine::constant(alloc, first),
-        ends: Sequence::from(vec![in alloc; Affine::constant(alloc, last)]?),
-        step: 1,
-    }))
-}
-
-/// A link on some elements of an array of one dimension.
-fn elements(alloc: Global, container: u32, first: i128, last: i128) -> Result<Link, NoMemory> {
-    let dims = vec![in alloc; span(alloc, first, last)?]?;
-    link(alloc, container, dims, None)
-}
-
-/// An operation on the scalar input of this number and a number.
-fn with_input(
-    alloc: Global,
-    connector: u32,
-    sign: TwoSign,
-    number: i64,
-) -> Result<Value, NoMemory> {
-    let input = Value::Input {
-        connector,
-        at: Vec::new(alloc),
-    };
-    Ok(Value::Two {
-        sign,
-        left: Box::new(alloc, input)?,
-        right: Box::new(alloc, Value::Number(number))?,
-    })
-}
-
-/// Code that assigns these values to its scalar outputs, which are numbered from `first` on.
-fn code(alloc: Global, first: u32, values: Vec<Value>) -> Result<Tasklet, NoMemory> {
-    let mut body = Vec::new(alloc);
-    let mut connector = first;
-    for value in values {
-        let at = Vec::new(alloc);
-        body.push(Act::Out {
-            connector,
-            at,
-            value,
-        })?;
-        connector = connector.saturating_add(1);
+/// Gives each array the numbers from 1 on.
+fn fill(machine: &mut Machine) {
+    for (container, length) in [(0, 3), (1, 3), (2, 6)] {
+        for element in 0..length {
+            machine.write(cell(container, element), None, element as i64 + 1);
+        }
     }
-    Ok(Tasklet {
-        ins: Vec::new(alloc),
-        outs: Vec::new(alloc),
-        variables: Vec::new(alloc),
-        locals: 0,
-        body,
+}
+
+/// Gives the exits of each state the lines from 4 on.
+fn number_exits(graph: &mut Sdfg) {
+    for state in graph.states.iter_mut() {
+        let mut line = 4_u32;
+        for exit in state.exits.iter_mut() {
+            if let Some(guard) = &mut exit.when {
+                guard.line = line;
+            }
+            line = line.saturating_add(1);
+        }
+    }
+}
+
+/// At the begin of a run with so many turns, in which each array has the numbers from 1 on.
+fn begun(alloc: Global, turns: u64) -> Result<Work, Fail> {
+    let mut graph = read_graph(alloc, GRAPH)?;
+    number_exits(&mut graph);
+    let scope = Scope::at_state(alloc, 0, &[])?;
+    let memory = Memory::of_run(alloc, &graph.containers)?;
+    let mut machine = Machine::new(alloc, memory, turns)?;
+    fill(&mut machine);
+    Ok(Work {
+        graph,
+        base: Base::outermost(alloc),
+        scope,
+        machine,
     })
+}
+
+/// The item of this number of the first state.
+fn item_of(graph: &Sdfg, number: usize) -> Option<&Item> {
+    match graph.states.first() {
+        Some(state) => state.items.get(number),
+        None => None,
+    }
+}
+
+/// What a task or a copy comes to, as line 7.
+fn performed(alloc: Global, here: &mut Work, item: usize) -> Result<End, NoMemory> {
+    let Some(found) = item_of(&here.graph, item) else {
+        return Ok(End::OutOfTurns);
+    };
+    let graph = &here.graph;
+    let base = &here.base;
+    let scope = &here.scope;
+    let machine = &mut here.machine;
+    match &found.kind {
+        ItemKind::Task { code, ins, outs } => {
+            run_task(alloc, code, ins, outs, 7, graph, base, scope, machine)
+        }
+        ItemKind::Copy { from, to } => run_copy(alloc, from, to, 7, graph, base, scope, machine),
+        _ => Ok(End::OutOfTurns),
+    }
 }
 
 /// Whether it is a fault of this kind in this line of the graph.
@@ -173,36 +117,11 @@ fn is_fault(end: &End, kind: FaultKind, line: u32) -> bool {
     }
 }
 
-/// An instance of `a + 1` and `a * 10` of an element of A, which are added to the same element and pushed.
-fn added_and_pushed(alloc: Global, here: &mut Work, number: i128) -> Result<End, NoMemory> {
-    let ins = vec![in alloc; element(alloc, 0, number, None)?]?;
-    let outs = vec![in alloc;
-        element(alloc, 0, number, Some(Resolution::Sum))?,
-        link(alloc, 3, Vec::new(alloc), None)?,
-    ]?;
-    let values = vec![in alloc;
-        with_input(alloc, 0, TwoSign::Add, 1)?,
-        with_input(alloc, 0, TwoSign::Mul, 10)?,
-    ]?;
-    let code = code(alloc, 1, values)?;
-    run_task(
-        alloc,
-        &code,
-        ins.as_slice(),
-        outs.as_slice(),
-        7,
-        &here.graph,
-        &here.base,
-        &here.scope,
-        &mut here.machine,
-    )
-}
-
 #[test]
 fn an_instance_reads_evaluates_and_performs_its_effects(rt: HostRuntime) -> Result<(), Fail> {
     let alloc = rt.alloc();
     let mut here = begun(alloc, 2)?;
-    let end = added_and_pushed(alloc, &mut here, 1)?;
+    let end = performed(alloc, &mut here, 0)?;
     assert!(rt; matches!(end, End::Finished));
     assert_eq!(rt; here.machine.look(cell(0, 1)), 5);
     assert_eq!(rt; here.machine.take(cell(3, 0).station), Some(20));
@@ -214,10 +133,10 @@ fn an_instance_reads_evaluates_and_performs_its_effects(rt: HostRuntime) -> Resu
 fn an_instance_outside_faults_behind_its_turn(rt: HostRuntime) -> Result<(), Fail> {
     let alloc = rt.alloc();
     let mut here = begun(alloc, 1)?;
-    let end = added_and_pushed(alloc, &mut here, 3)?;
+    let end = performed(alloc, &mut here, 1)?;
     assert!(rt; is_fault(&end, FaultKind::Subscript, 7));
     assert_eq!(rt; here.machine.turns(), 0);
-    let end = added_and_pushed(alloc, &mut here, 3)?;
+    let end = performed(alloc, &mut here, 1)?;
     assert!(rt; matches!(end, End::OutOfTurns));
     Ok(())
 }
@@ -226,43 +145,45 @@ fn an_instance_outside_faults_behind_its_turn(rt: HostRuntime) -> Result<(), Fai
 fn a_copy_goes_element_by_element(rt: HostRuntime) -> Result<(), Fail> {
     let alloc = rt.alloc();
     let mut here = begun(alloc, 0)?;
-    let from = elements(alloc, 0, 0, 1)?;
-    let to = elements(alloc, 0, 1, 2)?;
-    let end = run_copy(
-        alloc,
-        &from,
-        &to,
-        7,
-        &here.graph,
-        &here.base,
-        &here.scope,
-        &mut here.machine,
-    )?;
+    let end = performed(alloc, &mut here, 2)?;
     assert!(rt; matches!(end, End::Finished));
     assert_eq!(rt; here.machine.look(cell(0, 1)), 1);
     assert_eq!(rt; here.machine.look(cell(0, 2)), 1);
     Ok(())
 }
 
-/// The sums of M along an axis, or of all of it, in B.
-fn summed(
+/// What a reduction comes to, as line 7, where it begins with this number.
+fn reduced(
     alloc: Global,
     here: &mut Work,
-    axis: Option<u32>,
+    item: usize,
     identity: Option<i64>,
 ) -> Result<End, NoMemory> {
-    let dims = vec![in alloc; span(alloc, 0, 1)?, span(alloc, 0, 2)?]?;
-    let from = link(alloc, 2, dims, None)?;
-    let to = elements(alloc, 1, 0, 2)?;
+    let graph = &here.graph;
+    let (resolution, axis, from, to) = match item_of(graph, item) {
+        Some(
+            Item {
+                kind: ItemKind::Reduce {
+                    resolution,
+                    axis,
+                    from,
+                    to,
+                    ..
+                },
+                ..
+            },
+        ) => (*resolution, *axis, from, to),
+        _ => return Ok(End::OutOfTurns),
+    };
     run_reduction(
         alloc,
-        Resolution::Sum,
+        resolution,
         axis,
         identity,
-        &from,
-        &to,
+        from,
+        to,
         7,
-        &here.graph,
+        graph,
         &here.base,
         &here.scope,
         &mut here.machine,
@@ -273,9 +194,9 @@ fn summed(
 fn a_reduction_leaves_out_its_axis(rt: HostRuntime) -> Result<(), Fail> {
     let alloc = rt.alloc();
     let mut first = begun(alloc, 0)?;
-    summed(alloc, &mut first, Some(0), Some(0))?;
+    reduced(alloc, &mut first, 3, Some(0))?;
     let mut second = begun(alloc, 0)?;
-    summed(alloc, &mut second, Some(1), None)?;
+    reduced(alloc, &mut second, 4, None)?;
     for (element, columns, rows) in [(0, 5, 7), (1, 7, 17), (2, 9, 3)] {
         assert_eq!(rt; first.machine.look(cell(1, element)), columns);
         assert_eq!(rt; second.machine.look(cell(1, element)), rows);
@@ -283,30 +204,14 @@ fn a_reduction_leaves_out_its_axis(rt: HostRuntime) -> Result<(), Fail> {
     Ok(())
 }
 
-/// An exit that is taken where an element of A is below a number.
-fn exit_below(alloc: Global, line: u32, number: i128, below: i64) -> Result<Exit, NoMemory> {
-    let values = vec![in alloc; with_input(alloc, 0, TwoSign::Less, below)?]?;
-    Ok(Exit {
-        to: 0,
-        back: false,
-        when: Some(Guard {
-            line,
-            reads: Sequence::from(vec![in alloc; element(alloc, 0, number, None)?]?),
-            code: code(alloc, 1, values)?,
-        }),
-        set: Sequence::new(alloc),
-    })
-}
-
-/// The way out through two exits, of which the first is taken where an element of A is below a number.
-fn way_out(alloc: Global, here: &Work, number: i128, below: i64) -> Result<Next, NoMemory> {
-    let exits = vec![in alloc;
-        exit_below(alloc, 4, number, below)?,
-        exit_below(alloc, 5, 0, 2)?,
-    ]?;
+/// The way out of the state of this number.
+fn way_out(alloc: Global, here: &Work, state: usize) -> Result<Next, NoMemory> {
+    let Some(from) = here.graph.states.get(state) else {
+        return Ok(Next::Nowhere);
+    };
     next_exit(
         alloc,
-        exits.as_slice(),
+        &from.exits,
         &here.graph,
         &here.base,
         &here.scope,
@@ -318,15 +223,15 @@ fn way_out(alloc: Global, here: &Work, number: i128, below: i64) -> Result<Next,
 fn the_first_exit_whose_condition_holds_is_taken(rt: HostRuntime) -> Result<(), Fail> {
     let alloc = rt.alloc();
     let mut here = begun(alloc, 0)?;
-    assert!(rt; matches!(way_out(alloc, &here, 1, 3)?, Next::By(0)));
-    assert!(rt; matches!(way_out(alloc, &here, 1, 2)?, Next::By(1)));
-    match way_out(alloc, &here, 9, 2)? {
+    assert!(rt; matches!(way_out(alloc, &here, 0)?, Next::By(0)));
+    assert!(rt; matches!(way_out(alloc, &here, 1)?, Next::By(1)));
+    match way_out(alloc, &here, 2)? {
         Next::Fault(place, kind) => {
             assert!(rt; is_fault(&End::Fault(place, kind), FaultKind::Subscript, 4));
         }
         _ => assert!(rt; false),
     }
     here.machine.write(cell(0, 0), None, 8);
-    assert!(rt; matches!(way_out(alloc, &here, 1, 2)?, Next::Nowhere));
+    assert!(rt; matches!(way_out(alloc, &here, 1)?, Next::Nowhere));
     Ok(())
 }

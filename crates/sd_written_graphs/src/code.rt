@@ -166,6 +166,7 @@ impl Reader {
         match word {
             "<" => self.sign_of_two(alloc, TwoSign::Less),
             "<=" => self.sign_of_two(alloc, TwoSign::LessEqual),
+            "+" => self.sign_of_two(alloc, TwoSign::Add),
             "*" => self.sign_of_two(alloc, TwoSign::Mul),
             "~" => self.sign_of_one(alloc, OneSign::Inv),
             "when" => self.begin(alloc),

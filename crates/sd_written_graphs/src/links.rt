@@ -1,9 +1,10 @@
 //! Ranges and links. `0:2` is the range from 0 to 2, `0:2:3` has the step 3, and `0:2&v0` two ends.
-//! `1[0,0:2]` is a link to a row of container 1, and `3` one to a stream.
+//! `1[0,0:2]` is a link to a row of container 1, `+0[1]` one that adds to an element, and `3` one to a stream.
 use crate::misread::Misread;
 use crate::numbers::{affine, affines, number, whole};
 use sd_graph::{Link, Memlet};
 use sd_list::{Sequence, Text};
+use sd_num::Resolution;
 use sd_range::{Dim, Range, Subset};
 use std::alloc::Global;
 
@@ -37,12 +38,16 @@ fn subset(alloc: Global, text: &str) -> Result<Subset, Misread> {
 }
 
 pub(crate) fn link(alloc: Global, word: &str) -> Result<Link, Misread> {
+    let (word, resolution) = match word.strip_prefix('+') {
+        Some(rest) => (rest, Some(Resolution::Sum)),
+        None => (word, None),
+    };
     let (container, at) = word.split_once('[').unwrap_or((word, ""));
     let memlet = Memlet {
         container: number(container)?,
         subset: subset(alloc, at.trim_end_matches(']'))?,
         volume: 1,
-        resolution: None,
+        resolution,
     };
     Ok(Link {
         connector: Text::from(String::new(alloc)),
