@@ -58,7 +58,10 @@ fn branches_of(
                 statements,
             },
         ),
-        _ => Ok(Vec::new(alloc)),
+        other => {
+            drop(other);
+            Ok(Vec::new(alloc))
+        }
     }
 }
 
@@ -67,7 +70,10 @@ fn next_opener(earlier: Vec<Branch>, head: Head) -> Opener
 {
     match head {
         Head::Elif(when) => Opener::If { earlier, when },
-        _ => Opener::Else { earlier },
+        other => {
+            drop(other);
+            Opener::Else { earlier }
+        }
     }
 }
 
@@ -116,6 +122,7 @@ pub fn go_on(
     ensures { IfOk result (λ step. stepped step (context_of context.new) ≡ definition.continued line (context_of context.old) (head_tree head)) }
 {
     if let Err(refusal) = count_branch(context) {
+        drop(head);
         return Ok(Err(refusal));
     }
     match context.outer.pop() {
@@ -123,6 +130,9 @@ pub fn go_on(
             let last = leave(context, about);
             judge_next(alloc, context, last, line, head)
         }
-        None => Err(NoMemory),
+        None => {
+            drop(head);
+            Err(NoMemory)
+        }
     }
 }

@@ -63,9 +63,16 @@ fn judge_one(
 ) -> Result<Option<u8>, NoMemory>
     ensures { IfOk result (λ number. (number, context_of context.new) ≡ definition.judged_one line is_tasklet (before, context_of context.old) (head_tree head)) }
 {
-    let number = least(before, against(alloc, context, &head)?);
-    context.pass(alloc, line, is_tasklet, head)?;
-    Ok(number)
+    match against(alloc, context, &head) {
+        Ok(number) => {
+            context.pass(alloc, line, is_tasklet, head)?;
+            Ok(least(before, number))
+        }
+        Err(error) => {
+            drop(head);
+            Err(error)
+        }
+    }
 }
 
 /// Judges the arguments of a program one after another.

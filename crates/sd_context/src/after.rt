@@ -163,7 +163,12 @@ impl Context {
         ensures { OnOk result (context_of self.new ≡ definition.context_after (context_of self.old) line is_tasklet (head_tree head)) }
     {
         let before = InForce::of(&self.names);
-        let awaited = self.know(alloc, line, is_tasklet, &head)?;
-        self.place(alloc, before, awaited, line, is_tasklet, head)
+        match self.know(alloc, line, is_tasklet, &head) {
+            Ok(awaited) => self.place(alloc, before, awaited, line, is_tasklet, head),
+            Err(error) => {
+                drop(head);
+                Err(error)
+            }
+        }
     }
 }

@@ -119,6 +119,7 @@ impl Context {
         ensures { OnOk result (context_of self.new ≡ definition.opened before (opener_of opener) kind line deeper (context_of self.old)) }
     {
         let Some(depth) = self.block.depth.checked_add(deeper) else {
+            drop(opener);
             return Err(NoMemory);
         };
         let block = OpenBlock {

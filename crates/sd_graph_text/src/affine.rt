@@ -165,6 +165,7 @@ fn push_ordered(
 }
 
 /// Adds an affine expression.
+#[inline(never)]
 pub fn push_affine(
     alloc: Global,
     text: &mut String,
@@ -203,6 +204,7 @@ fn is_next_negative(number: i128) -> bool
 }
 
 /// Adds the end of a range, plus one.
+#[inline(never)]
 pub fn push_end(
     alloc: Global,
     text: &mut String,

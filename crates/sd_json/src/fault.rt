@@ -37,6 +37,7 @@ impl Fault {
     }
 
     /// The first of these names with this fault.
+    #[inline(never)]
     pub(crate) fn first<'n>(self, entries: &Entries, names: &'n [Text]) -> Option<&'n Text>
         ensures { option_map (λ name. name.now) result ≡ find (λ name. has_fault self (get_by_text entries.now name)) names.now }
     {

@@ -43,6 +43,7 @@ impl NameSet {
     }
 
     /// Whether the name is there.
+    #[inline(never)]
     #[tactic(auto, using(crate::proofs::TableLemmas::among_named))]
     pub fn contains(&self, name: &str) -> bool
         ensures { result ≡ is_among self.now name.now }

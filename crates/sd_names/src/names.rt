@@ -42,6 +42,7 @@ impl Names {
     }
 
     /// What the name means that is no container.
+    #[inline(never)]
     pub fn meaning(&self, name: &str) -> Option<&Meaning>
         ensures { option_copied result ≡ names.meaning_of self.now name.now }
     {
@@ -56,6 +57,7 @@ impl Names {
     }
 
     /// The container of this name.
+    #[inline(never)]
     pub fn container(&self, name: &str) -> Option<&Container>
         ensures { option_copied result ≡ names.container_of self.now name.now }
     {

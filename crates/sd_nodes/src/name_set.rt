@@ -35,6 +35,7 @@ impl NameSet {
         self.names.len()
     }
 
+    #[inline(never)]
     #[tactic(auto, using(crate::proofs::NameLemmas::among_keys))]
     pub fn contains(&self, name: &str) -> bool
         ensures { result ≡ is_among self.now name.now }
@@ -54,6 +55,7 @@ impl NameSet {
     }
 
     /// Adds a name at the end, unless it is there or is none of a list's own.
+    #[inline(never)]
     pub fn note_own(&mut self, alloc: Global, own: &NameSet, name: &str) -> Result<(), NoMemory>
         ensures { OnOk result (self.new ≡ with_own own.now self.old name.now) }
     {

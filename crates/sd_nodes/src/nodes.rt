@@ -16,6 +16,7 @@ use sd_list::{NoMemory, Text};
 use std::alloc::Global;
 
 /// Adds so many nodes that hold no graph.
+#[inline(never)]
 #[tactic(auto, using(crate::proofs::NodeLemmas::grown))]
 fn add_plain(line: u32, count: usize, nodes: &mut Vec<Node>) -> Result<(), NoMemory>
     ensures { OnOk result (nodes.new.items ≡ nodes.old.items ++ replicate count (plain_node line)) }

@@ -19,6 +19,7 @@ use sd_list::NoMemory;
 use std::alloc::Global;
 
 /// The bytes of a name.
+#[inline(never)]
 pub fn name_of(alloc: Global, text: &[u8], token: Piece) -> Result<String, NoMemory>
     requires { IsInside text.now token }
     ensures { IfOk result (λ name. string_bytes name ≡ spelling text.now token) }

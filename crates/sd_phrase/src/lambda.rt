@@ -40,6 +40,7 @@ fn kind_of_sign(sign: TwoSign) -> Option<Lambda>
 }
 
 /// Whether an expression is a name alone.
+#[inline(never)]
 fn is_name_alone(name: &[u8], body: &Expr) -> bool
     ensures { result ≡ definition.is_name_alone name.now (expression_of body.now) }
 {

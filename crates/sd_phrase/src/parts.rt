@@ -31,6 +31,7 @@ fn is_mark_outside(mark: Mark, depth: usize, word: Word) -> bool
 }
 
 /// The place of the first mark outside brackets, which ends the first part.
+#[inline(never)]
 pub fn mark_of(mark: Mark, tokens: &[Piece]) -> Option<usize>
     ensures place { result ≡ parts.mark_of mark tokens.now }
     ensures parts { MatchOption result (parts_of mark tokens.now ≡ tokens.now ∷ []) (λ at. parts_of mark tokens.now ≡ take at tokens.now ∷ parts_of mark (drop (at + 1) tokens.now)) }
@@ -139,6 +140,7 @@ pub fn closed(bracket: Bracket, tokens: &[Piece]) -> Option<(&[Piece], &[Piece])
 }
 
 /// What is in the brackets that the tokens begin with, and what is behind them.
+#[inline(never)]
 pub fn bracketed(bracket: Bracket, tokens: &[Piece]) -> Option<(&[Piece], &[Piece])>
     ensures parts { MatchOption result (parts.bracketed bracket tokens.now ≡ None) (λ cut. parts.bracketed bracket tokens.now ≡ Some (cut.0.now, cut.1.now)) }
     ensures inside { (text : List ℕ) → AreInside text tokens.now → IfSome result (λ cut. AreInside text cut.0.now × AreInside text cut.1.now) }
@@ -167,6 +169,7 @@ pub fn closed_whole(bracket: Bracket, tokens: &[Piece]) -> Option<&[Piece]>
 }
 
 /// What stands in the brackets that all the tokens stand in.
+#[inline(never)]
 pub fn bracketed_whole(bracket: Bracket, tokens: &[Piece]) -> Option<&[Piece]>
     ensures parts { MatchOption result (parts.whole (parts.bracketed bracket tokens.now) ≡ None) (λ inside. parts.whole (parts.bracketed bracket tokens.now) ≡ Some inside.now) }
     ensures inside { (text : List ℕ) → AreInside text tokens.now → IfSome result (λ inside. AreInside text inside.now) }

@@ -9,6 +9,7 @@ use crate::parts::closed;
 use crate::word::{Bracket, Piece, Word, is_name, is_spelled};
 
 /// The tokens behind one with these bytes.
+#[inline(never)]
 pub fn next<'a>(text: &[u8], tokens: &'a [Piece], word: &[u8]) -> Option<&'a [Piece]>
     requires { AreInside text.now tokens.now }
     ensures rest { MatchOption result (phrases.next text.now word.now tokens.now ≡ None) (λ rest. phrases.next text.now word.now tokens.now ≡ Some rest.now) }
@@ -45,6 +46,7 @@ pub fn is_phrase(text: &[u8], tokens: &[Piece], phrase: &[&str]) -> bool
 }
 
 /// The first token where it is a name, and those behind it.
+#[inline(never)]
 pub fn name_first<'a>(text: &[u8], tokens: &'a [Piece]) -> Option<(Piece, &'a [Piece])>
     requires { AreInside text.now tokens.now }
     ensures rest { MatchOption result (phrases.name_first text.now tokens.now ≡ None) (λ found. phrases.name_first text.now tokens.now ≡ Some (spelling text.now found.0, found.1.now)) }

@@ -195,6 +195,7 @@ pub fn read_slots(
 }
 
 /// A subset in square brackets with nothing behind it, or none.
+#[inline(never)]
 pub fn read_subset(
     alloc: Global,
     text: &[u8],

@@ -75,6 +75,7 @@ pub(crate) struct Place {
 }
 
 /// Whether the two have the same bytes.
+#[inline(never)]
 pub(crate) fn same(spelling: &[u8], word: &[u8]) -> bool
     ensures { result ≡ bytes_eq spelling.now word.now }
 {

@@ -128,6 +128,7 @@ fn dimension_passes<T: BoundTest>(
 }
 
 /// Whether an affine place of one of the dimensions passes.
+#[inline(never)]
 #[tactic(auto, using(sd_names::proofs::ExpressionLemmas::any_append))]
 fn any_dimension_passes<T: BoundTest>(
     test: &T,

@@ -87,6 +87,7 @@ fn judge_here(
         let is_tasklet = opens_tasklet(&head, rest);
         judge(alloc, context, number, is_tasklet, head)
     } else {
+        drop(head);
         Ok(refused(4, number))
     }
 }
@@ -126,10 +127,17 @@ fn read_behind_last_block(
             _ => Ok(Ok(())),
         };
     }
-    if let Err(refusal) = close_block(alloc, context)? {
-        return Ok(Err(refusal));
+    match close_block(alloc, context) {
+        Ok(Ok(())) => read_by_words(alloc, context, wanted, number, rest, read),
+        Ok(Err(refusal)) => {
+            drop(read);
+            Ok(Err(refusal))
+        }
+        Err(error) => {
+            drop(read);
+            Err(error)
+        }
     }
-    read_by_words(alloc, context, wanted, number, rest, read)
 }
 
 /// A line that closes so many blocks.
@@ -148,10 +156,17 @@ fn read_behind_blocks(
     if closes == 0 {
         return read_by_words(alloc, context, wanted, number, rest, read);
     }
-    if let Err(refusal) = close_blocks(alloc, context, closes - 1)? {
-        return Ok(Err(refusal));
+    match close_blocks(alloc, context, closes - 1) {
+        Ok(Ok(())) => read_behind_last_block(alloc, context, wanted, number, rest, read),
+        Ok(Err(refusal)) => {
+            drop(read);
+            Ok(Err(refusal))
+        }
+        Err(error) => {
+            drop(read);
+            Err(error)
+        }
     }
-    read_behind_last_block(alloc, context, wanted, number, rest, read)
 }
 
 /// A line, with the lines behind it.
@@ -169,7 +184,9 @@ pub fn read_line(
     let kind = kind_at(context, line.opens, line.closes);
     let read = head_in(alloc, text, words, line, kind)?;
     if !comes_right(&context.awaited, line.opens, line.closes) {
-        return Ok(refused(wrong_number(&read), line.number));
+        let why = wrong_number(&read);
+        drop(read);
+        return Ok(refused(why, line.number));
     }
     let wanted = wanted_of(&context.awaited);
     read_behind_blocks(alloc, context, wanted, line.number, rest, read, line.closes)

@@ -1,5 +1,6 @@
 //! What the lines of a source say: a program, or the first line that is refused.
 ghost use Rattle.std.specs.Prelude.{◌≡◌, ◌<◌, ◌^◌, IfOk, Ok};
+ghost use Rattle.sd_lex.specs.TreeFold.{program_of};
 ghost use Rattle.sd_phrase.specs.Spans.{AreInside};
 ghost use Rattle.sd_context.specs.ContextFold.{context_of, awaited_of};
 ghost use Rattle.sd_blocks.specs.StepFold.{stepped};
@@ -61,23 +62,31 @@ fn read_end(
     }
 }
 
-/// The program that was read; a source without one is refused.
-fn program(context: Context, last: u32) -> Result<Program, Refusal>
-    requires { last < 2 ^ 31 }
-    ensures { parsed result ≡ definition.program_by last (Ok (context_of context)) }
+/// The symbols and the programs of a context. What else it has is let go.
+pub fn program_in(context: Context) -> Program
+    ensures { program_of result ≡ definition.program_in (context_of context) }
 {
     let Context {
         symbols,
         functions,
         ..
     } = context;
-    if functions.is_empty() {
+    Program { symbols, functions }
+}
+
+/// The program that was read; a source without one is refused.
+fn program(context: Context, last: u32) -> Result<Program, Refusal>
+    requires { last < 2 ^ 31 }
+    ensures { parsed result ≡ definition.program_by last (Ok (context_of context)) }
+{
+    let program = program_in(context);
+    if program.functions.is_empty() {
         return Err(Refusal {
             number: 4,
             line: last + 1,
         });
     }
-    Ok(Program { symbols, functions })
+    Ok(program)
 }
 
 /// The program of lines, where the last physical line has this number, or the first refusal; and how many

@@ -4,10 +4,10 @@ ghost use Rattle.sd_lex.specs.TreeFold.{program_of};
 ghost use Rattle.sd_phrase.specs.Spans.{AreInside};
 ghost use Rattle.sd_context.specs.ContextFold.{context_of};
 ghost use Rattle.sd_lines.specs.SourceLines.{lines_of};
-ghost use Rattle.sd_source.specs.LinesReading.{program_in};
 ghost use Rattle.sd_source.specs.Prefix as definition;
 
 use crate::line_reading::read_line;
+use crate::lines_reading::program_in;
 use sd_blocks::close_block_into;
 use sd_context::Context;
 use sd_lex::Program;
@@ -56,6 +56,23 @@ fn end(alloc: Global, context: &mut Context) -> Result<(), NoMemory>
     Ok(())
 }
 
+/// Reads the lines before the first that is refused, of which there are so many, and ends the blocks that are open there.
+fn read_and_end(
+    alloc: Global,
+    context: &mut Context,
+    text: &[u8],
+    words: &[Piece],
+    lines: &[LineSpan],
+    count: usize,
+) -> Result<(), NoMemory>
+    requires inside { AreInside text.now words.now }
+    requires count { count ≡ definition.count_before_refusal (context_of context.old) (lines_of text.now words.now lines.now) }
+    ensures { OnOk result (context_of context.new ≡ definition.ended (definition.context_before_refusal (context_of context.old) (lines_of text.now words.now lines.now))) }
+{
+    read_before_refusal(alloc, context, text, words, lines, count)?;
+    end(alloc, context)
+}
+
 /// The program of the lines before the first that is refused, of which there are so many.
 pub fn program_before_refusal(
     alloc: Global,
@@ -69,12 +86,11 @@ pub fn program_before_refusal(
     ensures { IfOk result (λ program. program_of program ≡ definition.program_before_refusal (lines_of text.now words.now lines.now)) }
 {
     let mut context = Context::opening(alloc);
-    read_before_refusal(alloc, &mut context, text, words, lines, count)?;
-    end(alloc, &mut context)?;
-    let Context {
-        symbols,
-        functions,
-        ..
-    } = context;
-    Ok(Program { symbols, functions })
+    match read_and_end(alloc, &mut context, text, words, lines, count) {
+        Ok(()) => Ok(program_in(context)),
+        Err(error) => {
+            drop(context);
+            Err(error)
+        }
+    }
 }

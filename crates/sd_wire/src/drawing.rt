@@ -81,6 +81,7 @@ impl Drawing {
     }
 
     /// One more node.
+    #[inline(never)]
     pub(crate) fn push_node(
         &mut self,
         scope: Option<u32>,

@@ -67,6 +67,7 @@ fn budget(word: &str) -> Option<u64>
 }
 
 /// The turns that options give.
+#[inline(never)]
 fn turns(options: &[String]) -> Option<u64>
     ensures { Finds (λ (turns : ℕ). turns) (GiveTurns (map string_bytes options.now)) result }
 {

@@ -29,6 +29,7 @@ fn piece_length(text: &[u8]) -> usize
 }
 
 /// Writes a text, each line by a write of its own; a line longer than 4,096 bytes goes in pieces of 4,096.
+#[inline(never)]
 pub fn write_text<K: Sink>(out: &mut K, text: &[u8]) -> Result<(), SinkError>
     ensures ok { OnOk result (Appends (K.taken out.old) (K.taken out.new) text.now) }
     ensures err { OnErr result (AppendsPrefix (K.taken out.old) (K.taken out.new) text.now) }

@@ -15,6 +15,7 @@ use sd_phrase::{LEVELS, Mark, Piece, Reading, at_mark, read_expression};
 use std::alloc::Global;
 
 /// An expression and a colon.
+#[inline(never)]
 pub(crate) fn read_condition(
     alloc: Global,
     text: &[u8],
