@@ -101,11 +101,14 @@ def run(words, out):
 def measured(sides):
     """Returns of each side its least processor seconds of some runs, its greatest peak in bytes, and what it printed.
 
-    The sides take turns, so that a machine whose speed changes is as fast for one as for the other.
+    The sides take turns, each turn on one processor and the next one on another, so that a machine whose speed changes, or whose
+    processors differ, is as fast for one side as for the other.
     """
     seconds, peaks, texts = [[] for _ in sides], [[] for _ in sides], [None for _ in sides]
+    processors = sorted(os.sched_getaffinity(0))
     with tempfile.TemporaryFile() as out:
-        for _ in range(RUNS):
+        for turn in range(RUNS):
+            os.sched_setaffinity(0, {processors[turn % len(processors)]})
             for side, words in enumerate(sides):
                 out.seek(0)
                 out.truncate()
@@ -116,6 +119,7 @@ def measured(sides):
                 peaks[side].append(usage.ru_maxrss * 1024)
                 out.seek(0)
                 texts[side] = out.read()
+    os.sched_setaffinity(0, processors)
     return list(zip(map(min, seconds), map(max, peaks), texts))
 
 
