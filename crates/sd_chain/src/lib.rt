@@ -1,4 +1,4 @@
-//! The files that steer a run and a graph.
+//! Picks files, which steer a run.
 //!
 //! `read_picks` reads the file of picks, which chooses one move after another of a run (`specs/Picks.antt`): it answers
 //! the picks, or the first word that is none.

@@ -3,11 +3,11 @@ use Rattle.std.proofs.Common.{◌≡◌, ◌<◌, ◌≤◌, ℕ, suc, pos, ◌+
 use Rattle.std.specs.Prelude.{slice_set}
 use Rattle.std.proofs.lemmas.List.{append-nil}
 use Rattle.std.proofs.Math.Seq.{set-append_seam}
-use Rattle.sd_tcode.specs.Emitted.{operand_register, unless_op, test_op, either_code, locals_code, second_code, condition_op, is_lazy, is_ready, jumps_where}
-use Rattle.sd_tcode.specs.declared.layout.Layout.{Layout}
+use Rattle.sd_tcode.specs.tcode.Emitted.{operand_register, unless_op, test_op, either_code, locals_code, second_code, condition_op, is_lazy, is_ready, jumps_where}
+use Rattle.sd_tcode.specs.declared.tcode.layout.Layout.{Layout}
 use Rattle.sd_compile.specs.Jumps.{with_count}
-use Rattle.sd_op.specs.declared.op.Op.{Op}
-use Rattle.sd_op.specs.declared.op.Op.TheVariants.{Skip, Copy, Number}
+use Rattle.sd_tcode.specs.declared.op.op.Op.{Op}
+use Rattle.sd_tcode.specs.declared.op.op.Op.TheVariants.{Skip, Copy, Number}
 use Rattle.sd_graph.specs.PlainTree.{ValueTree, literal, variable, local, input, one, two, choice}
 use Rattle.sd_graph.specs.declared.operator.TwoSign.{TwoSign}
 use Rattle.sd_graph.specs.declared.operator.TwoSign.TheVariants as between

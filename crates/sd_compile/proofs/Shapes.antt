@@ -7,13 +7,13 @@ use Rattle.sd_graph.specs.declared.operator.OneSign.{OneSign}
 use Rattle.sd_graph.specs.declared.operator.OneSign.TheVariants as before
 use Rattle.sd_graph.specs.declared.operator.TwoSign.{TwoSign}
 use Rattle.sd_graph.specs.declared.operator.TwoSign.TheVariants as between
-use Rattle.sd_tcode.specs.Named.{count_of, dimensions_of, NamesOf, AllNamesOf, SetsOf, AllSetsOf, IsNamed}
-use Rattle.sd_op.specs.Within.{Room, IsWithin}
+use Rattle.sd_tcode.specs.tcode.Named.{count_of, dimensions_of, NamesOf, AllNamesOf, SetsOf, AllSetsOf, IsNamed}
+use Rattle.sd_tcode.specs.op.Within.{Room, IsWithin}
 use Rattle.sd_compile.specs.Reach.{reach, reach_all}
-use Rattle.sd_tcode.specs.Emitted.{output_register, local_register, free_register, one_op, two_op, is_lazy, is_ready, is_comparison, operand_register, unless_ready, unless_op, test_op, either_code, jumps_where, second_code, condition_op, condition_code, input_code, inside_code, keep_code, value_code, values_code, act_code, acts_code, locals_code, tasklet_code, layout_of}
-use Rattle.sd_tcode.specs.declared.layout.Layout.{Layout}
-use Rattle.sd_op.specs.declared.op.Op.{Op}
-use Rattle.sd_op.specs.declared.op.Op.TheVariants.{Number, Copy, Not, Neg, Inv, Or, And, Less, LessEqual, Greater, GreaterEqual, Equal, Differ, BitOr, BitXor, BitAnd, Add, Sub, Mul, FloorDiv, Mod, Min, Max, Element, Inside, Keep, Skip, SkipIfZero, SkipUnlessZero, SkipUnlessLess, SkipUnlessLessEqual, SkipUnlessEqual, SkipUnlessDiffer}
+use Rattle.sd_tcode.specs.tcode.Emitted.{output_register, local_register, free_register, one_op, two_op, is_lazy, is_ready, is_comparison, operand_register, unless_ready, unless_op, test_op, either_code, jumps_where, second_code, condition_op, condition_code, input_code, inside_code, keep_code, value_code, values_code, act_code, acts_code, locals_code, tasklet_code, layout_of}
+use Rattle.sd_tcode.specs.declared.tcode.layout.Layout.{Layout}
+use Rattle.sd_tcode.specs.declared.op.op.Op.{Op}
+use Rattle.sd_tcode.specs.declared.op.op.Op.TheVariants.{Number, Copy, Not, Neg, Inv, Or, And, Less, LessEqual, Greater, GreaterEqual, Equal, Differ, BitOr, BitXor, BitAnd, Add, Sub, Mul, FloorDiv, Mod, Min, Max, Element, Inside, Keep, Skip, SkipIfZero, SkipUnlessZero, SkipUnlessLess, SkipUnlessLessEqual, SkipUnlessEqual, SkipUnlessDiffer}
 
 -- what instructions name beside registers that are read
 abbrev pub IsShaped : Room → Op → Type 0

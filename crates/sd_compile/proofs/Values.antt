@@ -4,8 +4,8 @@ use Rattle.std.proofs.lemmas.Bool.Decides.{nat_tests}
 use Rattle.std.specs.declared.alloc.Global.{Global}
 use Rattle.sd_graph.specs.PlainTree.{ValueTree, choice}
 use Rattle.sd_graph.specs.TreeFold.{value_step, value_tree, value_trees}
-use Rattle.sd_tcode.specs.Named.{count_of}
-use Rattle.sd_tcode.specs.Emitted.{is_scalar}
+use Rattle.sd_tcode.specs.tcode.Named.{count_of}
+use Rattle.sd_tcode.specs.tcode.Emitted.{is_scalar}
 use Rattle.sd_graph.specs.declared.tasklet.Value.{Value}
 use Rattle.sd_graph.specs.declared.tasklet.Value as shape
 use Rattle.sd_graph.specs.declared.tasklet.Value.TheOpen.{Choice}

@@ -1,7 +1,7 @@
 -- Jumps that are written before what they pass is there.
 use Rattle.std.specs.Prelude.{ℕ}
-use Rattle.sd_op.specs.declared.op.Op.{Op}
-use Rattle.sd_op.specs.declared.op.Op.TheVariants.{Skip, SkipIfZero, SkipUnlessZero, SkipUnlessLess, SkipUnlessLessEqual, SkipUnlessEqual, SkipUnlessDiffer}
+use Rattle.sd_tcode.specs.declared.op.op.Op.{Op}
+use Rattle.sd_tcode.specs.declared.op.op.Op.TheVariants.{Skip, SkipIfZero, SkipUnlessZero, SkipUnlessLess, SkipUnlessLessEqual, SkipUnlessEqual, SkipUnlessDiffer}
 
 -- a jump that passes so many instructions
 abbrev pub with_count : Op → (count : ℕ) → Op

@@ -1,9 +1,9 @@
 ghost use Rattle.std.specs.Prelude.{◌≡◌, ◌++◌, map, IfOk, option_map};
 ghost use Rattle.sd_graph.specs.TreeFold.{tasklet_tree};
-ghost use Rattle.sd_tcode.specs.Named.{IsNamed};
-ghost use Rattle.sd_tcode.specs.Emitted as emitted;
-ghost use Rattle.sd_tcode.specs.Compiled as compiled;
-ghost use Rattle.sd_tcode.specs.Compiled.{IsCodeOf};
+ghost use Rattle.sd_tcode.specs.tcode.Named.{IsNamed};
+ghost use Rattle.sd_tcode.specs.tcode.Emitted as emitted;
+ghost use Rattle.sd_tcode.specs.tcode.Compiled as compiled;
+ghost use Rattle.sd_tcode.specs.tcode.Compiled.{IsCodeOf};
 
 use crate::emit::behind;
 use crate::emit_act::{emit_acts, emit_locals, local_register};

@@ -1,14 +1,13 @@
 ghost use Rattle.std.specs.Prelude.{◌≡◌, ◌+◌, ◌-◌, ◌<◌, ◌∷◌, [], ◌++◌, length, slice_set, IfOk, OnOk};
 ghost use Rattle.sd_graph.specs.TreeFold.{value_tree, value_trees};
-ghost use Rattle.sd_tcode.specs.Named.{count_of};
-ghost use Rattle.sd_tcode.specs.Emitted as emitted;
-ghost use Rattle.sd_tcode.specs.Emitted.{IsReadyAt};
+ghost use Rattle.sd_tcode.specs.tcode.Named.{count_of};
+ghost use Rattle.sd_tcode.specs.tcode.Emitted as emitted;
+ghost use Rattle.sd_tcode.specs.tcode.Emitted.{IsReadyAt};
 ghost use Rattle.sd_compile.specs.Jumps as jumps;
 
 use sd_graph::{OneSign, TwoSign, Value};
 use sd_list::NoMemory;
-use sd_op::Op;
-use sd_tcode::Layout;
+use sd_tcode::{Layout, Op};
 
 /// The number of a register behind another one. There is no room for 2^32 registers.
 pub(crate) fn behind(register: u32, count: u32) -> Result<u32, NoMemory>

@@ -1,14 +1,13 @@
 ghost use Rattle.std.specs.Prelude.{◌≡◌, ◌+◌, ◌++◌, IfOk, OnOk};
 ghost use Rattle.sd_graph.specs.PlainTree.{assign};
 ghost use Rattle.sd_graph.specs.TreeFold.{act_tree, act_trees, value_tree, value_trees};
-ghost use Rattle.sd_tcode.specs.Named.{count_of};
-ghost use Rattle.sd_tcode.specs.Emitted as emitted;
+ghost use Rattle.sd_tcode.specs.tcode.Named.{count_of};
+ghost use Rattle.sd_tcode.specs.tcode.Emitted as emitted;
 
 use crate::emit::{behind, dims_of, emit_condition, emit_value, emit_values, is_scalar, join, put};
 use sd_graph::{Act, Value};
 use sd_list::NoMemory;
-use sd_op::Op;
-use sd_tcode::Layout;
+use sd_tcode::{Layout, Op};
 
 /// The register of a local.
 pub(crate) fn local_register(layout: Layout, local: u32) -> Result<u32, NoMemory>

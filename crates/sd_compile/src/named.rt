@@ -2,7 +2,7 @@ ghost use Rattle.std.specs.Prelude.{◌≡◌, ◌≤◌, ℕ, IsTrue};
 ghost use Rattle.std.specs.List.{AllByRecursion};
 ghost use Rattle.sd_graph.specs.PlainTree.{assign};
 ghost use Rattle.sd_graph.specs.TreeFold.{act_tree, act_trees, tasklet_tree, value_tree, value_trees};
-ghost use Rattle.sd_tcode.specs.Named.{count_of, dimensions_of, NamesOf, AllNamesOf, SetsOf, AllSetsOf, IsNamed};
+ghost use Rattle.sd_tcode.specs.tcode.Named.{count_of, dimensions_of, NamesOf, AllNamesOf, SetsOf, AllSetsOf, IsNamed};
 
 use sd_graph::{Act, Port, Tasklet, Value};
 

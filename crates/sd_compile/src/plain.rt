@@ -1,6 +1,6 @@
 ghost use Rattle.std.specs.Prelude.{◌≡◌, [], Some, None, IfOk, option_map, if◌then◌else◌};
 ghost use Rattle.sd_graph.specs.TreeFold.{act_tree, act_trees, tasklet_tree};
-ghost use Rattle.sd_tcode.specs.Plain as plain;
+ghost use Rattle.sd_tcode.specs.tcode.Plain as plain;
 
 use crate::emit::is_scalar;
 use sd_graph::{Act, Tasklet};

@@ -1,8 +1,8 @@
 ghost use Rattle.std.specs.Prelude.{◌≡◌, ◌≤◌, ◌+◌, length};
-ghost use Rattle.sd_op.specs.Within as within;
+ghost use Rattle.sd_tcode.specs.op.Within as within;
 ghost use Rattle.sd_compile.specs.Reach as needed;
 
-use sd_op::Op;
+use sd_tcode::Op;
 
 /// How many registers there have to be for one of this number.
 fn past(register: u32) -> usize

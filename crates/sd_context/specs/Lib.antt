@@ -1,7 +1,2 @@
-pub mod Context
-pub mod ContextFold
-pub mod Declaring
-pub mod Writing
-pub mod Awaiting
-pub mod Placing
-pub mod After
+pub mod context
+pub mod blocks

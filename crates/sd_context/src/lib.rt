@@ -1,19 +1,18 @@
-//! What is known between two lines of a source, and what a line leaves behind.
+//! What is known between two lines of a source, and what comes of the next one.
 //!
-//! `Context.antt` lists what is known. Which names a line declares is in `Declaring.antt`, which containers
-//! it writes in `Writing.antt`, what has to come behind it in `Awaiting.antt`, where what it says goes in
-//! `Placing.antt`, and all that is known behind it in `After.antt`. Nothing is judged here, and only memory can
-//! be wanting.
+//! `context` has all that is known, and what is known behind a line. `blocks` has what comes of a line that is
+//! judged and of a block that ends, by the least number that stands against it. Each equals its definition, and
+//! only memory can be wanting.
 #![tactic(auto)]
 
-mod after;
-mod awaiting;
-mod block;
+mod blocks;
 mod context;
-mod declaring;
-mod placing;
-mod writing;
 
-pub use awaiting::{Wanted, comes_right, is_wanted, wanted_of, wrong_number};
-pub use block::{Branch, InForce, OpenBlock, Opener};
-pub use context::{Awaited, Context};
+pub use blocks::{
+    Refusal, close_block, close_block_into, close_blocks, go_on, goes_on, is_elif_or_else, judge,
+    refused,
+};
+pub use context::{
+    Awaited, Branch, Context, InForce, OpenBlock, Opener, Wanted, comes_right, is_wanted,
+    wanted_of, wrong_number,
+};

@@ -9,11 +9,11 @@ use Rattle.sd_confluence.proofs.runs.Interleavings.{every-run}
 use Rattle.sd_graph.specs.PlainTree.{GraphTree}
 use Rattle.sd_graph.specs.Unfold.{run_of}
 use Rattle.sd_graph.specs.declared.place.Place.{Place}
-use Rattle.sd_race.specs.Pairs.{IsGraphAccepted}
-use Rattle.sd_normal.specs.NormalForm.{IsGraphNormal}
-use Rattle.sd_validity.specs.Valid.{IsValid}
-use Rattle.sd_fit.proofs.Fitting.{graph-fit}
-use Rattle.sd_safe.proofs.Whole.{may_interleave}
+use Rattle.sd_race.specs.race.Pairs.{IsGraphAccepted}
+use Rattle.sd_safe.specs.normal.NormalForm.{IsGraphNormal}
+use Rattle.sd_validity.specs.rules.Valid.{IsValid}
+use Rattle.sd_safe.proofs.fit_lemmas.Fitting.{graph-fit}
+use Rattle.sd_safe.proofs.safe_lemmas.Whole.{may_interleave}
 use Rattle.sd_core.specs.Interleaving.{EndsAsSequential}
 
 pub interleaved : (tree : GraphTree) (memory : Memory) (turns : ℕ) (picks : List ℕ) (outcome : Outcome Place Left) → IsGraphNormal tree → Run (run_of tree memory) turns picks outcome

@@ -9,10 +9,10 @@ use Rattle.sd_work.specs.Step.{Machine, opening, next_moves}
 use Rattle.sd_work.specs.WellFormed.{IsWellFormed}
 use Rattle.sd_work.proofs.going.MemoriesKept.{memories-ordered}
 use Rattle.sd_work.proofs.going.Machines.{well_formed-settled}
-use Rattle.sd_moves.specs.Counts.{count}
-use Rattle.sd_moves.specs.Places.{place_of}
-use Rattle.sd_moves.proofs.Counted.{counted}
-use Rattle.sd_moves.proofs.Placed.{placed}
+use Rattle.sd_moves.specs.numbered.Counts.{count}
+use Rattle.sd_moves.specs.numbered.Places.{place_of}
+use Rattle.sd_moves.proofs.numbered_lemmas.Counted.{counted}
+use Rattle.sd_moves.proofs.numbered_lemmas.Placed.{placed}
 use Rattle.sd_graph.specs.PlainTree.{GraphTree}
 use Rattle.sd_graph.specs.TreeParts.{containers_of}
 use Rattle.sd_graph.specs.Context.{Reach, own_reach}
@@ -21,8 +21,8 @@ use Rattle.sd_graph.specs.declared.place.Frame.{Frame}
 use Rattle.sd_graph.specs.declared.place.Place.{Place}
 use Rattle.sd_graph.proofs.UnfoldedOrder.{run_is_ordered}
 use Rattle.sd_graph.proofs.UnfoldedPools.{run_has_ordered_pools}
-use Rattle.sd_scope.specs.Standing.{opening_reach, reach_by}
-use Rattle.sd_scope.specs.declared.base.Base.{Base}
+use Rattle.sd_scope.specs.scope.Standing.{opening_reach, reach_by}
+use Rattle.sd_scope.specs.declared.scope.base.Base.{Base}
 use Rattle.sd_core.specs.Stepped.{place_by}
 
 -- ---- a run that begins

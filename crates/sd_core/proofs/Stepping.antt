@@ -11,28 +11,28 @@ use Rattle.sd_work.specs.BigStep.{Reached}
 use Rattle.sd_work.specs.WellFormed.{IsWellFormed}
 use Rattle.sd_work.proofs.Finished.{moves-finished}
 use Rattle.sd_work.proofs.going.Machines.{machine-finished, well_formed-step}
-use Rattle.sd_moves.specs.Places.{place_of}
-use Rattle.sd_moves.specs.Gone.{gone, map_outcome, settled_machine}
-use Rattle.sd_moves.proofs.Counted.{counted}
-use Rattle.sd_moves.proofs.Comes.{step-gone}
+use Rattle.sd_moves.specs.numbered.Places.{place_of}
+use Rattle.sd_moves.specs.numbered.Gone.{gone, map_outcome, settled_machine}
+use Rattle.sd_moves.proofs.numbered_lemmas.Counted.{counted}
+use Rattle.sd_moves.proofs.numbered_lemmas.Comes.{step-gone}
 use Rattle.sd_graph.specs.PlainTree.{GraphTree}
 use Rattle.sd_graph.specs.TreeFold.{graph_tree}
 use Rattle.sd_graph.specs.TreeParts.{containers_of}
 use Rattle.sd_graph.specs.Context.{Reach}
 use Rattle.sd_graph.specs.declared.place.Frame.{Frame}
 use Rattle.sd_graph.specs.declared.place.Place.{Place}
-use Rattle.sd_machine.specs.declared.end.End.{End}
-use Rattle.sd_machine.specs.declared.end.End.TheVariants as ends
-use Rattle.sd_scope.specs.Standing.{opening_reach}
-use Rattle.sd_leaf_moves.specs.Moved.{outcome_with}
-use Rattle.sd_fired.specs.Fired.{IsFired}
-use Rattle.sd_tree.specs.Standing.{run_left}
-use Rattle.sd_left.specs.declared.left.Run.{Run}
-use Rattle.sd_left.specs.Kept.{run_kept}
-use Rattle.sd_left.specs.Waits.{is_run_counted}
-use Rattle.sd_left.specs.Tells.{run_tells}
-use Rattle.sd_left.proofs.Showing.{run-shows-all}
-use Rattle.sd_advance.specs.Right.{IsRunFired}
+use Rattle.sd_mem.specs.declared.machine.end.End.{End}
+use Rattle.sd_mem.specs.declared.machine.end.End.TheVariants as ends
+use Rattle.sd_scope.specs.scope.Standing.{opening_reach}
+use Rattle.sd_leaves.specs.moves.Moved.{outcome_with}
+use Rattle.sd_left.specs.fired.Fired.{IsFired}
+use Rattle.sd_left.specs.tree.Standing.{run_left}
+use Rattle.sd_left.specs.declared.left.left.Run.{Run}
+use Rattle.sd_left.specs.left.Kept.{run_kept}
+use Rattle.sd_left.specs.left.Waits.{is_run_counted}
+use Rattle.sd_left.specs.left.Tells.{run_tells}
+use Rattle.sd_left.proofs.left_lemmas.Showing.{run-shows-all}
+use Rattle.sd_fire.specs.advance.Right.{IsRunFired}
 use Rattle.sd_core.specs.declared.stepped.Stepped.TheVariants as answers
 use Rattle.sd_core.specs.Kept.{Kept, machine_of, term_of, IsRunKept, IsKeptBy, IsSound}
 use Rattle.sd_core.specs.Stepped.{place_by, IsStepped}

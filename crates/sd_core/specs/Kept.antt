@@ -10,13 +10,13 @@ use Rattle.sd_graph.specs.TreeFold.{graph_tree}
 use Rattle.sd_graph.specs.TreeParts.{containers_of}
 use Rattle.sd_graph.specs.declared.graph.Sdfg.{Sdfg}
 use Rattle.sd_graph.specs.declared.place.Place.{Place}
-use Rattle.sd_scope.specs.Standing.{opening_reach}
-use Rattle.sd_scope.specs.declared.base.Base.{Base}
-use Rattle.sd_tree.specs.Standing.{run_left}
-use Rattle.sd_left.specs.declared.left.Run.{Run}
-use Rattle.sd_left.specs.Kept.{run_kept}
-use Rattle.sd_left.specs.Waits.{is_run_counted}
-use Rattle.sd_left.specs.Tells.{run_tells}
+use Rattle.sd_scope.specs.scope.Standing.{opening_reach}
+use Rattle.sd_scope.specs.declared.scope.base.Base.{Base}
+use Rattle.sd_left.specs.tree.Standing.{run_left}
+use Rattle.sd_left.specs.declared.left.left.Run.{Run}
+use Rattle.sd_left.specs.left.Kept.{run_kept}
+use Rattle.sd_left.specs.left.Waits.{is_run_counted}
+use Rattle.sd_left.specs.left.Tells.{run_tells}
 use Rattle.sd_core.specs.declared.machine.Machine.TheInside.{Inside}
 
 -- the work that is left of a run of a graph. Where no run is kept, a run that has ended

@@ -8,16 +8,12 @@ ghost use Rattle.sd_core.specs.Kept.{machine_of};
 ghost use Rattle.sd_core.specs.Stepped.{IsStepped};
 
 use crate::stepped::Stepped;
-use sd_begin::begin_run;
-use sd_fire::fire_run;
+use sd_fire::{begin_run, fire_run, settle_run};
 use sd_graph::{Bound, Sdfg};
-use sd_left::{Run, moves_of_run};
+use sd_left::{Run, moves_of_run, place_in_run};
 use sd_list::NoMemory;
-use sd_machine::{End, Machine as Stack};
-use sd_mem::Memory;
-use sd_next_moves::place_in_run;
+use sd_mem::{End, Machine as Stack, Memory};
 use sd_scope::Base;
-use sd_settle::settle_run;
 use std::alloc::Global;
 use std::marker::Model;
 
@@ -35,7 +31,7 @@ pub struct Machine<'a> {
 impl<'a> Model for Machine<'a> {
     ghost use Rattle.std.specs.Coded.{codes};
     ghost use Rattle.sd_graph.specs.contracts.graph.Sdfg as graphs;
-    ghost use Rattle.sd_left.specs.contracts.left.Run as runs;
+    ghost use Rattle.sd_left.specs.contracts.left.left.Run as runs;
     ghost use Rattle.sd_core.specs.Kept.{Kept, kept_of, IsKept};
 
     ghost Value = { Kept };

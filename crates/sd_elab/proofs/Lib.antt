@@ -1,2 +1,4 @@
-pub mod AgreeLemmas
-pub mod FunctionLemmas
+pub mod items_lemmas
+pub mod needs_lemmas
+pub mod states_lemmas
+pub mod elab_lemmas

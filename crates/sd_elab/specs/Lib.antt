@@ -1,2 +1,4 @@
-pub mod Elaboration
-pub mod Elaborable
+pub mod items
+pub mod needs
+pub mod states
+pub mod elab

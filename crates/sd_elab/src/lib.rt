@@ -1,10 +1,16 @@
 //! The graph of a program.
 //!
-//! `graph_of` (`Elaboration.antt`) is the graph of a plain syntax tree, one rule for each form, and
-//! `elaborate` makes it: of the programs of a source only those that the last one needs (`sd_needed`).
+//! `elab` makes the graph of the last program of a source, exactly as its definition has it: one rule for each
+//! form. `needs` tells which programs of a source that one needs, `items` makes the items of statements, and
+//! `states` the states and transitions of a block. Only memory can be wanting.
 #![tactic(auto)]
 
-mod function;
-mod program;
+mod elab;
+mod items;
+mod needs;
+mod states;
 
-pub use program::elaborate;
+pub use elab::elaborate;
+pub use items::{Graphs, Numbers, count_containers, count_variables, empty_graph, push_item};
+pub use needs::needed;
+pub use states::{Building, thread_all};

@@ -1,7 +1,4 @@
-pub mod Items
-pub mod PlainKinds
-pub mod Levels
-pub mod Choices
-pub mod Lists
-pub mod Bodies
-pub mod Runs
+pub mod begin_lemmas
+pub mod advance_lemmas
+pub mod fire_lemmas
+pub mod settle_lemmas

@@ -1,1 +1,4 @@
-pub use Rattle.sd_advance.specs.Right
+pub mod begin
+pub mod advance
+pub mod fire
+pub mod settle

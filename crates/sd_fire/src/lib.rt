@@ -1,12 +1,16 @@
-//! The move at a path of what is left of a graph's run.
+//! Moves in what is left of a graph's run.
 //!
-//! `fire_run` goes down the path, one level of the tree after another, to the leaf, the take or the transition that moves there. It
-//! lends the memory of each point, element and run on the way to the machine, and takes it back behind the move. What the move
-//! comes to is what it comes to in the run's work, and the counts of the tree are right again (`specs/Right.antt` of `sd_advance`).
-//! Nothing is asked of paths; one that leads into nothing is no move.
+//! `fire` makes the move at a path, `advance` the takes and transitions among them, and `begin` what begins there.
+//! `settle` closes the consume scopes that are finished for good. Each comes to what the work's move comes to, and
+//! the counts of the tree are right again. Nothing is asked of paths or graphs.
 #![tactic(auto)]
 
+mod advance;
+mod begin;
 mod fire;
-mod instance;
+mod settle;
 
+pub use advance::{go_on_run, take_element};
+pub use begin::{begin_body, begin_item, begin_run, begin_state};
 pub use fire::{fire_left, fire_run};
+pub use settle::settle_run;

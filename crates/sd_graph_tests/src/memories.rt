@@ -1,80 +1,41 @@
 //! Memories that runs, points and elements begin with, and streams.
-use indexmap::IndexMap;
-use sd_graph::{Bound, Container, ContainerKind, Sdfg};
-use sd_list::{NoMemory, Sequence};
+use crate::written::read_graph;
+use sd_graph::Bound;
+use sd_list::Sequence;
 use sd_mem::Memory;
-use sd_range::Affine;
 use std::alloc::Global;
 use std::test::Fail;
 
-/// A container of one extent, of this kind.
-fn of_length(alloc: Global, extent: i128, kind: ContainerKind) -> Result<Container, NoMemory> {
-    let extents = vec![in alloc; Affine::constant(alloc, extent)]?;
-    Ok(Container {
-        extents: Sequence::from(extents),
-        kind,
-    })
-}
-
 /// An argument, a transient, a stream, a private array and the array of an element.
-fn containers(alloc: Global) -> Result<IndexMap<String, Container>, NoMemory> {
-    let mut containers = IndexMap::new(alloc);
-    for (name, extent, kind) in [
-        ("A", 4, ContainerKind::Argument),
-        ("T", 3, ContainerKind::Transient),
-        ("S", 0, ContainerKind::Stream),
-        ("p", 2, ContainerKind::Private),
-        ("e", 1, ContainerKind::Private),
-    ] {
-        containers.insert(name.to_string(alloc)?, of_length(alloc, extent, kind)?)?;
+const CONTAINERS: &str = "argument 4; transient 3; stream; private 2; private 1";
+
+/// The elements that each container holds.
+fn told(alloc: Global, memory: &Memory) -> Result<String, Fail> {
+    let mut text = String::new(alloc);
+    for container in 0..5 {
+        write!(&mut text, "{:?}", memory.cells(container))?;
     }
-    Ok(containers)
-}
-
-/// How many elements each container holds.
-fn counts(memory: &Memory) -> [usize; 5] {
-    [
-        memory.cells(0).len(),
-        memory.cells(1).len(),
-        memory.cells(2).len(),
-        memory.cells(3).len(),
-        memory.cells(4).len(),
-    ]
+    Ok(text)
 }
 
 #[test]
-fn a_run_begins_with_its_transients_and_streams(rt: HostRuntime) -> Result<(), Fail> {
+fn a_memory_begins_with_what_is_its_own(rt: HostRuntime) -> Result<(), Fail> {
     let alloc = rt.alloc();
-    let mut memory = Memory::of_run(alloc, &containers(alloc)?)?;
-    assert_eq!(rt; counts(&memory), [0, 3, 0, 0, 0]);
-    memory.push(2, 7)?;
-    assert_eq!(rt; memory.take(2), Some(7));
-    Ok(())
-}
-
-#[test]
-fn a_point_begins_with_its_private_containers(rt: HostRuntime) -> Result<(), Fail> {
-    let alloc = rt.alloc();
-    let mut memory = Memory::of_scope(alloc, &containers(alloc)?, &[3])?;
-    assert_eq!(rt; counts(&memory), [0, 0, 0, 2, 0]);
-    memory.set(3, 1, None, -5);
-    assert_eq!(rt; memory.cell(3, 1), -5);
-    Ok(())
-}
-
-#[test]
-fn an_element_begins_with_the_value_taken(rt: HostRuntime) -> Result<(), Fail> {
-    let alloc = rt.alloc();
-    let memory = Memory::of_element(alloc, &containers(alloc)?, 4, &[3], 9)?;
-    assert_eq!(rt; counts(&memory), [0, 0, 0, 2, 1]);
-    assert_eq!(rt; memory.cell(4, 0), 9);
+    let containers = read_graph(alloc, CONTAINERS)?.containers;
+    let run = Memory::of_run(alloc, &containers)?;
+    assert_eq!(rt; told(alloc, &run)?.as_str(), "[][0, 0, 0][][][]");
+    let mut point = Memory::of_scope(alloc, &containers, &[3])?;
+    point.set(3, 1, None, -5);
+    assert_eq!(rt; told(alloc, &point)?.as_str(), "[][][][0, -5][]");
+    let element = Memory::of_element(alloc, &containers, 4, &[3], 9)?;
+    assert_eq!(rt; told(alloc, &element)?.as_str(), "[][][][0, 0][9]");
     Ok(())
 }
 
 #[test]
 fn what_is_not_there_reads_as_nothing_and_stays(rt: HostRuntime) -> Result<(), Fail> {
     let alloc = rt.alloc();
-    let mut memory = Memory::of_run(alloc, &containers(alloc)?)?;
+    let mut memory = Memory::of_run(alloc, &read_graph(alloc, CONTAINERS)?.containers)?;
     let before = memory.copy_of(alloc)?;
     memory.set(1, 3, None, 8);
     memory.set(2, 0, None, 8);
@@ -82,56 +43,23 @@ fn what_is_not_there_reads_as_nothing_and_stays(rt: HostRuntime) -> Result<(), F
     memory.push(1, 8)?;
     memory.push(9, 8)?;
     assert!(rt; memory.same(&before));
-    assert_eq!(rt; memory.cell(1, 3), 0);
-    assert_eq!(rt; memory.cell(9, 0), 0);
-    assert_eq!(rt; memory.take(1), None);
-    assert_eq!(rt; memory.take(9), None);
+    assert_eq!(rt; (memory.cell(1, 3), memory.cell(9, 0)), (0, 0));
+    assert_eq!(rt; (memory.take(1), memory.take(9)), (None, None));
     Ok(())
 }
 
-/// A container of two by three, of this kind.
-fn two_by_three(alloc: Global, kind: ContainerKind) -> Result<Container, NoMemory> {
-    let extents = vec![in alloc; Affine::constant(alloc, 2), Affine::constant(alloc, 3)]?;
-    Ok(Container {
-        extents: Sequence::from(extents),
-        kind,
-    })
-}
-
-/// A graph with an argument, a transient, a private array and a stream.
-fn graph(alloc: Global) -> Result<Bound, NoMemory> {
-    let mut containers = IndexMap::new(alloc);
-    for (name, kind) in [
-        ("A", ContainerKind::Argument),
-        ("T", ContainerKind::Transient),
-        ("p", ContainerKind::Private),
-        ("S", ContainerKind::Stream),
-    ] {
-        containers.insert(name.to_string(alloc)?, two_by_three(alloc, kind)?)?;
-    }
-    Ok(Bound {
-        graph: Sdfg {
-            name: String::new(alloc),
-            containers,
-            arguments: 1,
-            variables: Vec::new(alloc),
-            symbols: 0,
-            states: Vec::new(alloc),
-        },
-    })
-}
-
 /// A memory that opens with six times this number as the argument.
-fn opening_with(alloc: Global, bound: &Bound, element: i64) -> Result<Memory, NoMemory> {
+fn opening_with(alloc: Global, bound: &Bound, element: i64) -> Result<Memory, Fail> {
     let cells = vec![in alloc; element; 6]?;
     let given = vec![in alloc; Sequence::from(cells)]?;
-    Memory::opening(alloc, bound, given)
+    Ok(Memory::opening(alloc, bound, given)?)
 }
 
 #[test]
 fn zeros_are_an_opening_with_zeros(rt: HostRuntime) -> Result<(), Fail> {
     let alloc = rt.alloc();
-    let bound = graph(alloc)?;
+    let graph = read_graph(alloc, "argument 2 3; transient 2 3; private 2 3; stream")?;
+    let bound = Bound { graph };
     let zeros = Memory::zeros(alloc, &bound)?;
     assert!(rt; zeros.same(&opening_with(alloc, &bound, 0)?));
     assert!(rt; !zeros.same(&opening_with(alloc, &bound, 1)?));
@@ -139,37 +67,26 @@ fn zeros_are_an_opening_with_zeros(rt: HostRuntime) -> Result<(), Fail> {
     Ok(())
 }
 
-/// A memory with one stream, which is empty.
-fn one_stream(alloc: Global) -> Result<Memory, NoMemory> {
-    let mut containers = IndexMap::new(alloc);
-    let stream = of_length(alloc, 0, ContainerKind::Stream)?;
-    containers.insert("S".to_string(alloc)?, stream)?;
-    Memory::of_run(alloc, &containers)
-}
-
 #[test]
-fn the_oldest_value_is_taken_first(rt: HostRuntime) -> Result<(), Fail> {
-    let mut memory = one_stream(rt.alloc())?;
-    memory.push(0, 5)?;
-    memory.push(0, -7)?;
-    assert_eq!(rt; memory.take(0), Some(5));
-    assert_eq!(rt; memory.take(0), Some(-7));
-    assert_eq!(rt; memory.take(0), None);
-    Ok(())
-}
-
-#[test]
-fn a_value_at_a_position_is_taken(rt: HostRuntime) -> Result<(), Fail> {
-    let mut memory = one_stream(rt.alloc())?;
-    for value in [5, -7, 9] {
+fn a_stream_gives_its_oldest_value_or_the_one_at_a_position(rt: HostRuntime) -> Result<(), Fail> {
+    let alloc = rt.alloc();
+    let mut memory = Memory::of_run(alloc, &read_graph(alloc, "stream")?.containers)?;
+    for value in [5, -7, 9, 7] {
         memory.push(0, value)?;
     }
-    assert_eq!(rt; memory.waiting(0), 3);
-    assert_eq!(rt; memory.take_at(0, 1), Some(-7));
-    assert_eq!(rt; memory.take_at(0, 2), None);
-    assert_eq!(rt; memory.waiting(0), 2);
-    assert_eq!(rt; memory.waiting(1), 0);
-    assert_eq!(rt; memory.take(0), Some(5));
-    assert_eq!(rt; memory.take_at(0, 0), Some(9));
+    let told = format!(in alloc;
+        "{} {:?} {:?} {} {} {:?} {:?} {:?} {:?}",
+        memory.waiting(0),
+        memory.take_at(0, 1),
+        memory.take_at(0, 3),
+        memory.waiting(0),
+        memory.waiting(1),
+        memory.take(0),
+        memory.take_at(0, 0),
+        memory.take(0),
+        memory.take(0)
+    )?;
+    let wanted = "4 Some(-7) None 3 0 Some(5) Some(9) Some(7) None";
+    assert_eq!(rt; told.as_str(), wanted);
     Ok(())
 }

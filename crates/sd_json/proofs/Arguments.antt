@@ -8,7 +8,7 @@ use Rattle.sd_graph.specs.GraphMemory.{AreContentsOf, IsContentsOf}
 use Rattle.sd_graph.specs.declared.container.Container.{Container}
 use Rattle.sd_graph.specs.declared.container.ContainerKind.{ContainerKind}
 use Rattle.sd_graph.specs.declared.container.ContainerKind.TheVariants.{Argument, Transient, Private, Stream, PrivateStream}
-use Rattle.sd_mem.specs.Shaped.{IsArray}
+use Rattle.sd_mem.specs.mem.Shaped.{IsArray}
 
 no_stream : (kind : ContainerKind) → is_argument kind ≡ true → is_stream kind ≡ true → ⊥
 no_stream Argument is other = cc

@@ -7,7 +7,7 @@ use Rattle.sd_graph.specs.PlainTree.{GraphTree}
 use Rattle.sd_graph.specs.TreeParts.{containers_of}
 use Rattle.sd_graph.specs.InPlace.{arguments_of}
 use Rattle.sd_graph.specs.ContainerParts.{name_at, container_at, extents_of}
-use Rattle.sd_mem.specs.Shaped.{Shaped, contents_at}
+use Rattle.sd_mem.specs.mem.Shaped.{Shaped, contents_at}
 
 -- the extents, joined by commas
 abbrev pub extents_text : List ℕ → List ℕ

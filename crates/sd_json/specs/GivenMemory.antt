@@ -6,8 +6,8 @@ use Rattle.sd_graph.specs.PlainTree.{GraphTree}
 use Rattle.sd_graph.specs.TreeParts.{containers_of}
 use Rattle.sd_graph.specs.ContainerParts.{Containers, extents_of}
 use Rattle.sd_graph.specs.InPlace.{arguments_of, ArgumentsComeFirst}
-use Rattle.sd_mem.specs.Shaped.{Shaped}
-use Rattle.sd_mem.specs.GraphContents.{opened_with}
+use Rattle.sd_mem.specs.mem.Shaped.{Shaped}
+use Rattle.sd_mem.specs.mem.GraphContents.{opened_with}
 use Rattle.sd_json.specs.declared.array.Array.{Array}
 use Rattle.sd_json.specs.declared.error.InputError.{InputError}
 use Rattle.sd_json.specs.declared.error.InputError.TheVariants.{WrongShape}

@@ -6,7 +6,7 @@ ghost use Rattle.sd_graph.specs.PlainTree.{GraphTree};
 ghost use Rattle.sd_graph.specs.TreeParts.{containers_of};
 ghost use Rattle.sd_graph.specs.InPlace.{arguments_of, ArgumentsComeFirst};
 ghost use Rattle.sd_graph.specs.GraphMemory.{IsMemoryOf};
-ghost use Rattle.sd_mem.specs.Shaped.{Shaped, contents_at, IsArray};
+ghost use Rattle.sd_mem.specs.mem.Shaped.{Shaped, contents_at, IsArray};
 ghost use Rattle.sd_json.specs.NestedLists.{numbers_of, shape_of};
 ghost use Rattle.sd_json.specs.Shape.{HasShape};
 

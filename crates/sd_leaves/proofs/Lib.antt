@@ -1,11 +1,3 @@
-pub mod CellLists
-pub mod Conditions
-pub mod Containers
-pub mod Depths
-pub mod Doing
-pub mod EffectSteps
-pub mod Ends
-pub mod Instances
-pub mod Lists
-pub mod Places
-pub mod ReadValues
+pub mod leaves_lemmas
+pub mod transition_lemmas
+pub mod moves_lemmas

@@ -1,5 +1,3 @@
-pub mod Cells
-pub mod Done
-pub mod Given
-pub mod Next
-pub mod Read
+pub mod leaves
+pub mod transition
+pub mod moves

@@ -1,26 +1,17 @@
-//! What the leaves of a graph do when it runs from left to right: an instance of a tasklet, a copy, a reduction, and the choice
-//! of the first exit that may be taken.
+//! What the leaves of a graph do when it runs.
 //!
-//! Each ends as the graph's meaning has it, or for want of memory, and nothing is asked of graphs, scopes and memories
-//! (`specs/Done.antt`, `Read.antt`, `Given.antt`, `Next.antt`). The elements of an instance's inputs are all read, one after
-//! another, before its code is evaluated, and its effects are performed in their order. A fault stops the work where it comes.
-//! Code whose input has not an element for each of its places, or more than four dimensions, is answered by want of memory.
+//! `leaves` does an instance of a tasklet, a copy or a reduction as a whole; `moves` does the same one move
+//! after another. `transition` tells where a run goes on whose state is finished. Each is what the work of the graph
+//! comes to. Nothing is asked of graphs, scopes and memories.
 #![tactic(auto)]
 
-mod changes;
-mod copy;
-mod effects;
-mod ending;
-mod evaluation;
-mod exit;
-mod reading;
-mod reduction;
-mod task;
+mod leaves;
+mod moves;
+mod transition;
 
-pub use copy::run_copy;
-pub use effects::{dimensions_of, is_stream, perform_effect, widened};
-pub use ending::end_of;
-pub use evaluation::{evaluated, inputs_of};
-pub use exit::{Next, next_exit};
-pub use reduction::{places_of, put_target_place, run_reduction};
-pub use task::run_task;
+pub use leaves::{
+    Next, dimensions_of, end_of, evaluated, inputs_of, is_stream, next_exit, perform_effect,
+    places_of, put_target_place, run_copy, run_reduction, run_task, widened,
+};
+pub use moves::{Doing, Instance, Reading, Todo};
+pub use transition::{Entry, Onward, go_on};

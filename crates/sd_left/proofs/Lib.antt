@@ -1,10 +1,6 @@
-pub mod Rolls
-pub mod WaitRolls
-pub mod TellRolls
-pub mod Sameness
-pub mod Shows
-pub mod Layers
-pub mod Showing
-pub mod Readiness
-pub mod Recounted
-pub mod Changes
+pub mod tree_lemmas
+pub mod fired_lemmas
+pub mod left_lemmas
+pub mod next_moves_lemmas
+pub mod pool_free_lemmas
+pub mod pool_free_left_lemmas

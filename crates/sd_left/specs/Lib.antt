@@ -1,5 +1,4 @@
-pub use Rattle.sd_tree.specs.Standing
-pub mod Kept
-pub mod Waits
-pub mod Tells
-pub mod Changed
+pub mod tree
+pub mod fired
+pub mod left
+pub mod pool_free

@@ -1,66 +1,20 @@
-use sd_leaf_moves::{Doing, Instance};
-use sd_machine::Station;
-use sd_mem::Memory;
-use sd_order::Order;
-use sd_tally::Tally;
+//! What is left of a graph's run, as code keeps it: a tree beside the graph.
+//!
+//! An item that works has an instance or a list of things to do; a map its points, a consume scope the elements in work, a
+//! nested graph its state; each of these its own memory and what is left of its items. `specs/left/Kept.antt` says of which
+//! residual work such a tree is, where its items stand. The tree keeps counts of its next moves and of its open consume scopes
+//! (`specs/left/Tells.antt`), so that it tells how many there are, and whether it is finished, without a look at its parts.
+mod begin;
+mod change;
+mod count;
+mod laws;
+mod left;
+mod tells;
 
-/// What is left of an item.
-#[derive(Drop)]
-#[cycle(left)]
-pub enum Left {
-    /// Of a tasklet.
-    Instance(Instance),
-    /// Of a copy or a reduction.
-    Doing(Doing),
-    /// Of a map: at each of its points.
-    Points(Bodies),
-    /// Of a consume scope over this stream: of each element taken, in the order of taking. So many values wait.
-    Pool {
-        stream: Station,
-        active: Bodies,
-        waiting: usize,
-        closed: bool,
-    },
-    /// Of a nested graph.
-    Nested(Box<Run>),
-}
-
-/// Points of a map, or elements of a consume scope, and what is counted of them.
-#[derive(Drop)]
-#[cycle(left)]
-pub struct Bodies {
-    pub bodies: Vec<Body>,
-    /// How many moves of each come next.
-    pub moves: Tally,
-    /// 1 for each of which something is left, and else 0.
-    pub unfinished: Tally,
-    /// How many open consume scopes are in each.
-    pub open: Tally,
-}
-
-/// What is left of items at a point, in an element or in a state, and what is counted of them.
-#[derive(Drop)]
-#[cycle(left)]
-pub struct Body {
-    /// The point's numbers, the value that was taken, or the values of the variables.
-    pub at: Vec<i128>,
-    /// The containers of the point, the element or the run.
-    pub own: Memory,
-    pub order: Order,
-    pub parts: Vec<Left>,
-    /// How many moves of each item come next: none of one that may not go on.
-    pub moves: Tally,
-    /// 1 for each item of which something is left, and else 0.
-    pub unfinished: Tally,
-    /// How many open consume scopes are in each.
-    pub open: Tally,
-}
-
-/// What is left of a run of a graph. An ended one keeps its memory.
-#[derive(Drop)]
-#[cycle(left)]
-pub struct Run {
-    pub state: u32,
-    pub ended: bool,
-    pub body: Body,
-}
+pub use count::is_ready;
+pub use laws::{a_tree_tells_its_next_moves, work_that_counts_no_open_pool_has_none};
+pub use left::{Bodies, Body, Left, Run};
+pub use tells::{
+    are_finished, is_body_finished, is_finished, moves_of, moves_of_bodies, moves_of_body,
+    moves_of_run, pools_of, pools_of_bodies, pools_of_body, pools_of_run,
+};

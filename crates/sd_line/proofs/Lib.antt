@@ -1,1 +1,2 @@
-pub mod NamesLemmas
+pub mod line_lemmas
+pub mod lines_lemmas

@@ -1,15 +1,12 @@
-//! What a line of a source says.
+//! What the lines of a source say.
 //!
-//! `read_head` tells by the tokens of a line alone which form of its kind of block it is, with all that
-//! stands in it, or that it is none of them, or that an expression in it is nested too deeply: exactly
-//! as `HeadReading.antt` defines it from one definition for each form. Only memory can be wanting.
+//! `line` reads one line by its tokens: which form of its kind of block it is, with all that stands in it, or
+//! that it is none, or that an expression is nested too deeply. `lines` has the logical lines of a source, and
+//! which blocks of them are tasklets. Each equals its definition, and only memory can be wanting.
 #![tactic(auto)]
 
-mod body;
-mod head;
-mod head_reading;
-mod tasklet;
-mod top;
+mod line;
+mod lines;
 
-pub use head::{BlockKind, Head};
-pub use head_reading::read_head;
+pub use line::{BlockKind, Head, read_head};
+pub use lines::{LineSpan, head_in, line_spans, opens_tasklet};

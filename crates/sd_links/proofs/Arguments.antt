@@ -2,7 +2,7 @@
 use Rattle.std.proofs.Common.{◌≡◌, ℕ, zero, suc, ◌-◌, ◌<◌, List, ◌∷◌, not, ◌&&◌, refl, arith}
 use Rattle.sd_graph.specs.ContainerParts.{Containers, is_argument}
 use Rattle.sd_graph.specs.declared.container.Container.{Container}
-use Rattle.sd_validity.specs.NestedLinks.{do_arguments_come_first}
+use Rattle.sd_validity.specs.rules.NestedLinks.{do_arguments_come_first}
 
 -- an argument, where more are to come
 pub argument_first : (left : ℕ) (entry : List ℕ × Container) (entries : Containers) → 0 < left →

@@ -5,8 +5,8 @@ use Rattle.std.proofs.lemmas.List.{length-map}
 use Rattle.sd_graph.specs.PlainTree.{ValueTree}
 use Rattle.sd_graph.specs.TreeFold.{value_tree, value_trees, values_listed}
 use Rattle.sd_graph.specs.declared.tasklet.Value.{Value}
-use Rattle.sd_validity.specs.CodeNames.{count_values}
-use Rattle.sd_validity.specs.Parts.{is_empty}
+use Rattle.sd_validity.specs.rules.CodeNames.{count_values}
+use Rattle.sd_validity.specs.rules.Parts.{is_empty}
 
 values_listed_counted : (all : List ValueTree) → count_values (values_listed all) ≡ length all
 values_listed_counted [] = refl

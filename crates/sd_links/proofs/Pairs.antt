@@ -3,9 +3,9 @@ use Rattle.std.proofs.Common.{◌≡◌, ◌∙◌, ℕ, zero, suc, ◌+◌, ◌
 use Rattle.std.specs.Ordering.{int_eq}
 use Rattle.std.proofs.lemmas.List.{length-drop, length-map, map-append, take_all}
 use Rattle.sd_range.specs.declared.range.Range.{Range}
-use Rattle.sd_validity.specs.MovedShapes.{are_steps_same}
-use Rattle.sd_validity.specs.Shapes as plain
-use Rattle.sd_validity.specs.Shapes.{are_extents_same, is_extent_same}
+use Rattle.sd_validity.specs.rules.MovedShapes.{are_steps_same}
+use Rattle.sd_validity.specs.rules.Shapes as plain
+use Rattle.sd_validity.specs.rules.Shapes.{are_extents_same, is_extent_same}
 use Rattle.sd_links.specs.ExtentOf.{extent_of}
 use Rattle.sd_links.specs.declared.extents.Extent.{Extent}
 

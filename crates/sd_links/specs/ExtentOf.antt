@@ -1,5 +1,5 @@
 -- The code's extents, as plain ones.
-use Rattle.sd_validity.specs.Shapes as plain
+use Rattle.sd_validity.specs.rules.Shapes as plain
 use Rattle.sd_links.specs.declared.extents.Extent.{Extent}
 
 abbrev pub extent_of : Extent → plain.Extent

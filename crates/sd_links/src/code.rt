@@ -1,11 +1,11 @@
 //! The names in the code of a tasklet or condition.
 ghost use Rattle.std.specs.Prelude.{◌≡◌, [], slice_get, IfOk, OnOk};
 ghost use Rattle.sd_graph.specs.TreeFold.{act_tree, act_trees, tasklet_tree, value_tree, value_trees};
-ghost use Rattle.sd_validity.specs.CodeNames as names;
+ghost use Rattle.sd_validity.specs.rules.CodeNames as names;
 
 use sd_graph::{Act, Port, Tasklet, Value};
 use sd_list::NoMemory;
-use sd_ranks::{given, has_number};
+use sd_places::{given, has_number};
 use std::alloc::Global;
 
 /// Whether there is a connector at a place of a list, with so many dimensions.

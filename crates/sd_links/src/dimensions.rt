@@ -3,10 +3,10 @@ ghost use Rattle.std.specs.Prelude.{◌≡◌, nat_eq, length, map, option_map};
 ghost use Rattle.std.specs.List.{list_all};
 ghost use Rattle.sd_graph.specs.TreeFold.{exit_tree, guard_tree, kind_tree, named_container};
 ghost use Rattle.sd_graph.specs.ContainerParts.{container_at};
-ghost use Rattle.sd_places.specs.PlaceOf.{thing_of};
-ghost use Rattle.sd_validity.specs.Dimensions as dimensions;
-ghost use Rattle.sd_validity.specs.Parts.{is_empty, link_spans};
-ghost use Rattle.sd_validity.specs.Places.{doing};
+ghost use Rattle.sd_places.specs.places.PlaceOf.{thing_of};
+ghost use Rattle.sd_validity.specs.rules.Dimensions as dimensions;
+ghost use Rattle.sd_validity.specs.rules.Parts.{is_empty, link_spans};
+ghost use Rattle.sd_validity.specs.rules.Places.{doing};
 
 use crate::code::{is_code_known, is_one_value};
 use crate::spans::span_count;
@@ -164,7 +164,7 @@ struct Fitting<'a> {
 impl<'a> Test for Fitting<'a> {
     ghost use Rattle.std.specs.Prelude.{map};
     ghost use Rattle.sd_graph.specs.TreeFold.{named_container};
-    ghost use Rattle.sd_validity.specs.Dimensions as dimensions;
+    ghost use Rattle.sd_validity.specs.rules.Dimensions as dimensions;
 
     ghost tests = { λ s. dimensions.dimensions_tests (map named_container s.containers.now.entries) };
 
@@ -189,7 +189,7 @@ impl<'a> Test for Fitting<'a> {
 pub struct Dimensions;
 
 impl Rule for Dimensions {
-    ghost use Rattle.sd_validity.specs.Dimensions as dimensions;
+    ghost use Rattle.sd_validity.specs.rules.Dimensions as dimensions;
 
     ghost rule = { λ s. dimensions.rule_2 };
 

@@ -3,7 +3,7 @@ ghost use Rattle.std.specs.Prelude.{◌≡◌, ◌-ℤ◌, ◌++◌, pos, [], ma
 ghost use Rattle.std.specs.List.{list_all};
 ghost use Rattle.std.specs.Ordering.{int_eq};
 ghost use Rattle.sd_range.specs.Arithmetic.{affine_zero};
-ghost use Rattle.sd_validity.specs.Shapes as shapes;
+ghost use Rattle.sd_validity.specs.rules.Shapes as shapes;
 ghost use Rattle.sd_links.specs.ExtentOf.{extent_of};
 
 use sd_list::NoMemory;

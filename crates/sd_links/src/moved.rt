@@ -1,8 +1,8 @@
 //! Rule 6: shapes of what copies and reductions move.
 ghost use Rattle.std.specs.Prelude.{◌≡◌, ◌++◌, map, IfOk, IsTrue, OnOk};
 ghost use Rattle.sd_graph.specs.TreeFold.{kind_tree};
-ghost use Rattle.sd_validity.specs.MovedShapes as moved;
-ghost use Rattle.sd_validity.specs.Places.{doing};
+ghost use Rattle.sd_validity.specs.rules.MovedShapes as moved;
+ghost use Rattle.sd_validity.specs.rules.Places.{doing};
 
 use crate::extents::{Numbers, are_extents_same, are_steps_one, range_extents, shape_of};
 use crate::spans::link_spans;
@@ -140,7 +140,7 @@ fn is_item_right(alloc: Global, kind: &ItemKind) -> Result<bool, NoMemory>
 pub struct MovedShapes;
 
 impl Rule for MovedShapes {
-    ghost use Rattle.sd_validity.specs.MovedShapes as moved;
+    ghost use Rattle.sd_validity.specs.rules.MovedShapes as moved;
 
     ghost rule = { λ s. moved.rule_6 };
 

@@ -4,9 +4,9 @@ ghost use Rattle.sd_range.specs.Arithmetic.{affine_zero};
 ghost use Rattle.sd_graph.specs.ContainerParts as parts;
 ghost use Rattle.sd_graph.specs.TreeFold.{graph_tree, kind_tree, named_container};
 ghost use Rattle.sd_graph.specs.Wiring as wiring;
-ghost use Rattle.sd_validity.specs.NestedLinks as nested;
-ghost use Rattle.sd_validity.specs.Parts.{container_of};
-ghost use Rattle.sd_validity.specs.Places.{doing};
+ghost use Rattle.sd_validity.specs.rules.NestedLinks as nested;
+ghost use Rattle.sd_validity.specs.rules.Parts.{container_of};
+ghost use Rattle.sd_validity.specs.rules.Places.{doing};
 
 use crate::extents::{Numbers, are_extents_same, are_steps_one, dim_extents, shape_of};
 use crate::spans::link_spans;
@@ -14,9 +14,8 @@ use crate::written::written_of;
 use indexmap::IndexMap;
 use sd_graph::{Container, ContainerKind, ItemKind, Link, Sdfg};
 use sd_list::NoMemory;
-use sd_places::{Place, Rule, Thing, container_at};
+use sd_places::{Place, Rule, Thing, container_at, has_number};
 use sd_range::Affine;
-use sd_ranks::has_number;
 use std::alloc::Global;
 
 /// Whether a kind is that of an argument.
@@ -167,7 +166,7 @@ fn is_item_right(alloc: Global, graph: &Sdfg, kind: &ItemKind) -> Result<bool, N
 pub struct NestedLinks;
 
 impl Rule for NestedLinks {
-    ghost use Rattle.sd_validity.specs.NestedLinks as nested;
+    ghost use Rattle.sd_validity.specs.rules.NestedLinks as nested;
 
     ghost rule = { λ s. nested.rule_5 };
 

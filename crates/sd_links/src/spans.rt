@@ -1,6 +1,6 @@
 //! The ranges of a link's subset.
 ghost use Rattle.std.specs.Prelude.{◌≡◌, length, map, IfOk};
-ghost use Rattle.sd_validity.specs.Parts as parts;
+ghost use Rattle.sd_validity.specs.rules.Parts as parts;
 
 use sd_graph::Link;
 use sd_list::NoMemory;

@@ -1,12 +1,12 @@
 //! The containers that a graph writes.
 ghost use Rattle.std.specs.Prelude.{◌≡◌, ◌++◌, map, IfOk, OnOk};
 ghost use Rattle.sd_graph.specs.TreeFold.{graph_tree, item_trees, kind_tree, state_trees};
-ghost use Rattle.sd_validity.specs.NestedLinks as nested;
-ghost use Rattle.sd_validity.specs.Parts.{container_of};
+ghost use Rattle.sd_validity.specs.rules.NestedLinks as nested;
+ghost use Rattle.sd_validity.specs.rules.Parts.{container_of};
 
 use sd_graph::{Item, ItemKind, Link, Sdfg, State};
 use sd_list::NoMemory;
-use sd_ranks::has_number;
+use sd_places::has_number;
 use std::alloc::Global;
 
 /// Adds the containers of links.

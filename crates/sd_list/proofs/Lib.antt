@@ -1,1 +1,2 @@
-pub mod Lending
+pub mod list_lemmas
+pub mod tally_lemmas

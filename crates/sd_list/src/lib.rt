@@ -1,14 +1,12 @@
-//! Lists and texts that contracts see as plain values, and want of memory as a refusal.
+//! Lists, texts and counts that contracts see as plain values, and want of memory as a refusal.
 //!
-//! A `Sequence` is the list of its items and a `Text` the list of its bytes: two of them with the
-//! same items are one value, whatever room they hold. A call that may take memory and can refuse
-//! nothing else answers `NoMemory`, and what it was to change stays as it was.
+//! `list` has `Sequence`, `Text` and `NoMemory`: two lists with the same items are one value, whatever room
+//! they hold. `tally` has `Tally`, a list of counts that keeps their sum. A call that finds no memory leaves
+//! what it was to change as it was.
 #![tactic(auto)]
 
-mod memory;
-mod sequence;
-mod text;
+mod list;
+mod tally;
 
-pub use memory::NoMemory;
-pub use sequence::Sequence;
-pub use text::Text;
+pub use list::{NoMemory, Sequence, Text};
+pub use tally::{Found, Tally};

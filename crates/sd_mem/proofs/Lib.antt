@@ -1,6 +1,2 @@
-pub mod Held
-pub mod Streams
-pub mod Counts
-pub mod Places
-pub mod Wholes
-pub mod GraphWholes
+pub mod mem_lemmas
+pub mod machine_lemmas

@@ -1,4 +1,2 @@
-pub mod Shaped
-pub mod GraphContents
-pub mod Holding
-pub mod Strides
+pub mod mem
+pub mod machine

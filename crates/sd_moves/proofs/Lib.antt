@@ -1,6 +1,3 @@
-pub mod Counted
-pub mod Placed
-pub mod PartMoves
-pub mod Comes
-pub mod Open
-pub mod PoolFree
+pub mod numbered_lemmas
+pub mod picked_lemmas
+pub mod settling_lemmas

@@ -1,5 +1,2 @@
-pub mod Counts
-pub mod Places
-pub mod PartsChanged
-pub mod Gone
-pub mod OpenPools
+pub mod numbered
+pub mod picked

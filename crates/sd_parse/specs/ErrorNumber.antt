@@ -1,6 +1,6 @@
 -- The number and the line of an error in a source.
 use Rattle.std.specs.Prelude.{ℕ, Option, Some, None, option_map}
-use Rattle.sd_blocks.specs.declared.refusal.Refusal.{Refusal}
+use Rattle.sd_context.specs.declared.blocks.refusal.Refusal.{Refusal}
 use Rattle.sd_parse.specs.declared.error.SourceError.{SourceError}
 use Rattle.sd_parse.specs.declared.error.SourceError.TheVariants.{At, Memory}
 

@@ -1,7 +1,7 @@
 ghost use Rattle.std.specs.Prelude.{◌≡◌};
 ghost use Rattle.sd_parse.specs.ErrorNumber as errors;
 
-use sd_blocks::Refusal;
+use sd_context::Refusal;
 use sd_list::NoMemory;
 use thiserror::Error;
 

@@ -1,15 +1,15 @@
 //! A source is read to its program, or refused.
 ghost use Rattle.std.specs.Prelude.{◌≡◌, ◌≤◌, ◌^◌, Ok, Err, length, IfOk, IfErr, IfSome};
 ghost use Rattle.sd_lex.specs.TreeFold.{program_of};
-ghost use Rattle.sd_readable.specs.Levels.{HasFewLevels};
+ghost use Rattle.sd_read.specs.readable.Levels.{HasFewLevels};
 ghost use Rattle.sd_parse.specs.ErrorNumber as errors;
 ghost use Rattle.sd_program.specs.Place.{EveryPlace};
 ghost use Rattle.sd_program.specs.WellFormed.{IsWellFormed};
-ghost use Rattle.sd_source.specs.SourceReading as definition;
-ghost use Rattle.sd_told.specs.Told.{IsErrorNumber, IsLineOf};
+ghost use Rattle.sd_source.specs.source.SourceReading as definition;
+ghost use Rattle.sd_read.specs.told.Told.{IsErrorNumber, IsLineOf};
 
 use crate::error::SourceError;
-use sd_blocks::Refusal;
+use sd_context::Refusal;
 use sd_lex::Program;
 use sd_list::NoMemory;
 use sd_source::read_text;

@@ -1,1 +1,2 @@
-pub mod PlaceOf
+pub mod ranks
+pub mod places

@@ -1,19 +1,18 @@
-//! The places of a graph, and what rules ask of them.
+//! The places of a graph, and what rules of validity ask of them.
 //!
-//! `all_places` gives the places of a graph in their order, each with what is in force there, and
-//! `first_failing` the first of them at which a rule fails. A rule that asks the same of each link,
-//! range, expression and piece of code is a `Test` of parts. Each contract says the definition of
-//! `sd_validity`; the plain form of a place is that of `specs/PlaceOf.antt`.
+//! `places` gives the places of a graph in their order, each with what is in force there, and the first of them
+//! at which a rule fails. `ranks` tells which variables have a rank and what conditions compare. Each contract
+//! cites the definition of `sd_validity`. Nothing is asked of the graph; want of memory is the one refusal.
 #![tactic(auto)]
 
-mod container;
-mod failing;
-mod parts;
-mod place;
 mod places;
+mod ranks;
 
-pub use container::{container_at, is_stream, is_stream_at};
-pub use failing::{Rule, first_failing};
-pub use parts::{Test, is_thing_passed};
-pub use place::{Place, Scopes, Thing};
-pub use places::all_places;
+pub use places::{
+    Place, Rule, Scopes, Test, Thing, all_places, container_at, first_failing, is_stream,
+    is_stream_at, is_thing_passed,
+};
+pub use ranks::{
+    Comparison, are_ranked, begun_at, compared, given, has_number, has_numbers_only,
+    is_affine_value, is_ranked, push_assigned, ranks_of, variable_at,
+};

@@ -1,6 +1,14 @@
-//! The texts of places and of faults, byte for byte as `specs/FaultText.antt` has them.
+//! The texts of graphs, of places and of faults, byte for byte as their definitions have them.
+//!
+//! `graphs` writes a graph with its containers, states, nodes, edges and transitions. `places` writes where a
+//! fault came and what it is. Nothing is asked of what is written; want of memory is the one refusal.
 #![tactic(auto)]
 
-mod text;
+mod graphs;
+mod places;
 
-pub use text::{fault_text, place_text};
+pub use graphs::{
+    graph_text, names_stream, push_affine, push_container_name, push_end, push_path,
+    resolution_word,
+};
+pub use places::{fault_text, place_text};

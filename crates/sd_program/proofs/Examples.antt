@@ -8,7 +8,7 @@ use Rattle.std.proofs.lemmas.Map.Made.{IsDistinct-from_AllPairs}
 use Rattle.std.proofs.lemmas.Slice.Eq.{bytes_eq-Decides}
 use Rattle.sd_lex.specs.PlainTree.{Block, FunctionTree, Expression, number, named, element_at, two, Expressions, no_expression, and_expression, Dimension, span, StatementTree, argument_array, local_array, assign, map_scope, call, for_loop, while_loop, local_stream, tasklet, consume_scope, output, set, tasklet_branch, no_statement, and_statement, ProgramTree}
 use Rattle.sd_lex.specs.declared.syntax.operator.TwoSign.TheVariants.{Add, Mul}
-use Rattle.sd_nodes.specs.NodeLimits.{node_limits, nodes_over}
+use Rattle.sd_source.specs.nodes.NodeLimits.{node_limits, nodes_over}
 use Rattle.sd_program.specs.Names.{Name}
 use Rattle.sd_program.specs.IsAffine.{IsAffine}
 use Rattle.sd_program.specs.Small.{IsSmall}

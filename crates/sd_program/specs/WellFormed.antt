@@ -2,7 +2,7 @@
 use Rattle.std.specs.Prelude.{◌≡◌, ◌≤◌, reverse, None, bytes_eq}
 use Rattle.std.specs.List.{AllByRecursion, IsDistinct}
 use Rattle.sd_lex.specs.PlainTree.{ProgramTree}
-use Rattle.sd_nodes.specs.NodeLimits.{node_limits, nodes_over}
+use Rattle.sd_source.specs.nodes.NodeLimits.{node_limits, nodes_over}
 use Rattle.sd_program.specs.Bounds.{EachBound}
 use Rattle.sd_program.specs.IsAffine.{IsAffine}
 use Rattle.sd_program.specs.Small.{IsSmall}

@@ -16,13 +16,13 @@ use Rattle.sd_program.specs.Every.{EveryIn}
 use Rattle.sd_program.specs.IsAffine.{IsAffine}
 use Rattle.sd_program.specs.Known.{StandsIn, IsPlaced}
 use Rattle.sd_program.specs.Place.{Place, signature, past, EveryFrom}
-use Rattle.sd_in_force.specs.Names.{with_numbered}
-use Rattle.sd_in_force.specs.Ranges as affine
-use Rattle.sd_containers.specs.Declarations.{Containers, containers_with_all, containers_of_function}
-use Rattle.sd_elab_laws.proofs.ContainersMade.{holds_here, all_grown}
+use Rattle.sd_task.specs.in_force.Names.{with_numbered}
+use Rattle.sd_task.specs.in_force.Ranges as affine
+use Rattle.sd_task.specs.containers.Declarations.{Containers, containers_with_all, containers_of_function}
+use Rattle.sd_made.proofs.elab_lemmas.ContainersMade.{holds_here, all_grown}
 use Rattle.sd_json.specs.AnswerText.{line_of}
-use Rattle.sd_tie_programs.specs.Programs.{values_of}
-use Rattle.sd_tie_programs.proofs.Sizes.{numbered, extents_said}
+use Rattle.sd_tie.specs.programs.Programs.{values_of}
+use Rattle.sd_tie.proofs.programs_lemmas.Sizes.{numbered, extents_said}
 use Rattle.sd_promise.specs.Source.{argument_names, argument_lines}
 
 -- ---- the containers of arguments

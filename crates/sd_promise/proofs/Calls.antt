@@ -5,8 +5,8 @@ use Rattle.sd_work.specs.Move.{Fault}
 use Rattle.sd_work.specs.Run.{Left}
 use Rattle.sd_work.specs.Step.{Outcome, Done, Faulted, Spent}
 use Rattle.sd_graph.specs.declared.place.Place.{Place}
-use Rattle.sd_race.specs.Pairs.{IsGraphAccepted}
-use Rattle.sd_write.specs.RunText.{steps_text}
+use Rattle.sd_race.specs.race.Pairs.{IsGraphAccepted}
+use Rattle.sd_report.specs.write.RunText.{steps_text}
 use Rattle.sd_words.specs.Command.{Command, Call, to_run, to_step, to_print, to_check}
 use Rattle.sd_tool.specs.Work.{Work}
 use Rattle.sd_tool.specs.Answers.{ShelfUse, ran, listed, checked, answer_of_run, text_of}

@@ -8,7 +8,7 @@ use Rattle.sd_graph.specs.declared.place.Place.{Place}
 use Rattle.sd_program.specs.Names.{Name}
 use Rattle.sd_json.specs.AnswerText.{line_of}
 use Rattle.sd_json.specs.Given.{Contents}
-use Rattle.sd_write.specs.RunText.{fault_line, spent_line}
+use Rattle.sd_report.specs.write.RunText.{fault_line, spent_line}
 use Rattle.sd_promise.specs.Source.{names_sought, memory_given, text_said, status_said}
 
 abbrev N : Name

@@ -8,21 +8,21 @@ use Rattle.sd_graph.specs.PlainTree.{GraphTree}
 use Rattle.sd_graph.specs.TreeParts.{containers_of}
 use Rattle.sd_graph.specs.Unfold.{opening_memory}
 use Rattle.sd_graph.specs.declared.place.Place.{Place}
-use Rattle.sd_mem.specs.GraphContents.{shapes_of}
-use Rattle.sd_source.specs.SourceReading.{reads}
+use Rattle.sd_mem.specs.mem.GraphContents.{shapes_of}
+use Rattle.sd_source.specs.source.SourceReading.{reads}
 use Rattle.sd_valid.specs.Binding.{with_sizes, binding}
 use Rattle.sd_json.specs.ArraysReading.{arrays_reading}
 use Rattle.sd_json.specs.Given.{Contents}
 use Rattle.sd_json.specs.Names.{names_in}
 use Rattle.sd_json.specs.declared.error.InputError.{InputError}
-use Rattle.sd_readable.proofs.Fields.{well_formed}
-use Rattle.sd_readable.proofs.kept.Steps.{same_value}
-use Rattle.sd_elab.specs.Elaboration.{graph_of}
+use Rattle.sd_read.proofs.readable_lemmas.Fields.{well_formed}
+use Rattle.sd_read.proofs.readable_lemmas.kept.Steps.{same_value}
+use Rattle.sd_elab.specs.elab.Elaboration.{graph_of}
 use Rattle.sd_says.specs.Says.{sizes_of, Says}
-use Rattle.sd_tie_programs.specs.Programs.{AreFitting}
-use Rattle.sd_meant.proofs.Sources.{source_fine, graph_latest, graph_turned}
-use Rattle.sd_meant.proofs.Texts.{joined_whole, text_is_run, run_of_text}
-use Rattle.sd_write.specs.RunText.{done_text}
+use Rattle.sd_tie.specs.programs.Programs.{AreFitting}
+use Rattle.sd_tie.proofs.meant_lemmas.Sources.{source_fine, graph_latest, graph_turned}
+use Rattle.sd_tie.proofs.meant_lemmas.Texts.{joined_whole, text_is_run, run_of_text}
+use Rattle.sd_report.specs.write.RunText.{done_text}
 use Rattle.sd_tool.specs.Answers.{answer_of_run, status_of, text_of}
 use Rattle.sd_tool.specs.Work.{Work, source_graph, prepared, run_of_work}
 use Rattle.sd_promise.specs.Promise.{FilesSay}

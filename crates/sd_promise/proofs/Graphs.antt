@@ -8,7 +8,7 @@ use Rattle.sd_graph.specs.Unfold.{opening_of, opening_from, opening_memory}
 use Rattle.sd_graph.specs.declared.container.Container.{Container}
 use Rattle.sd_graph.specs.declared.container.ContainerKind.{ContainerKind}
 use Rattle.sd_graph.specs.declared.container.ContainerKind.TheVariants.{Argument, Transient, Private, Stream, PrivateStream}
-use Rattle.sd_mem.specs.Shaped.{Shaped}
+use Rattle.sd_mem.specs.mem.Shaped.{Shaped}
 use Rattle.sd_valid.specs.SizeValues.{NamedSizes}
 use Rattle.sd_valid.specs.Binding.{with_sizes}
 use Rattle.sd_valid.specs.BoundExpression.{bound_container}
@@ -16,20 +16,20 @@ use Rattle.sd_valid.specs.BoundTree.{bound_entry, bound_graph}
 use Rattle.sd_program.specs.Names.{Name, Named}
 use Rattle.sd_program.specs.Declared.{containers_in_all}
 use Rattle.sd_program.specs.Place.{in_signature}
-use Rattle.sd_in_force.specs.Names.{with_numbered}
-use Rattle.sd_containers.specs.Declarations.{Containers, variable_names_all, containers_of_function}
-use Rattle.sd_items.specs.Graphs.{graph_named}
-use Rattle.sd_elab.specs.Elaboration.{function_graph}
+use Rattle.sd_task.specs.in_force.Names.{with_numbered}
+use Rattle.sd_task.specs.containers.Declarations.{Containers, variable_names_all, containers_of_function}
+use Rattle.sd_elab.specs.items.Graphs.{graph_named}
+use Rattle.sd_elab.specs.elab.Elaboration.{function_graph}
 use Rattle.sd_json.specs.AnswerText.{text_of_arrays}
 use Rattle.sd_json.specs.Names.{names_in}
 use Rattle.sd_says.specs.Declared.{declared_of}
-use Rattle.sd_tie_elements.specs.Tied.{shape_of}
-use Rattle.sd_tie_items.specs.Standing.{owner_of, declared_by, variables_named_all}
-use Rattle.sd_tie_programs.specs.Programs.{symbols_of, values_of, IsFitting, AreFitting, graphs_latest}
-use Rattle.sd_tie_programs.proofs.Declaring.{all_declared, program_declared}
-use Rattle.sd_tie_programs.proofs.Names.{all_names_behind}
-use Rattle.sd_tie_programs.proofs.Sizes.{numbered}
-use Rattle.sd_meant.proofs.Sources.{graph_latest, named_sizes, values_latest, tree_latest}
+use Rattle.sd_tie.specs.elements.Tied.{shape_of}
+use Rattle.sd_tie.specs.items.Standing.{owner_of, declared_by, variables_named_all}
+use Rattle.sd_tie.specs.programs.Programs.{symbols_of, values_of, IsFitting, AreFitting, graphs_latest}
+use Rattle.sd_tie.proofs.programs_lemmas.Declaring.{all_declared, program_declared}
+use Rattle.sd_tie.proofs.programs_lemmas.Names.{all_names_behind}
+use Rattle.sd_tie.proofs.programs_lemmas.Sizes.{numbered}
+use Rattle.sd_tie.proofs.meant_lemmas.Sources.{graph_latest, named_sizes, values_latest, tree_latest}
 use Rattle.sd_promise.specs.Source.{argument_names, names_sought, held_first, memory_from, memory_of_last, argument_lines, lines_of_last}
 use Rattle.sd_promise.proofs.Arguments.{made, made_names, made_counted, arguments_first, first_of_joined, StandFrom, stand_first, row, lines_tied}
 

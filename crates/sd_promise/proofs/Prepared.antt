@@ -5,9 +5,9 @@ use Rattle.sd_lex.specs.PlainTree.{ProgramTree}
 use Rattle.sd_graph.specs.PlainTree.{GraphTree}
 use Rattle.sd_graph.specs.TreeParts.{containers_of}
 use Rattle.sd_graph.specs.Unfold.{opening_memory}
-use Rattle.sd_mem.specs.GraphContents.{opened_with}
-use Rattle.sd_blocks.specs.declared.refusal.Refusal.{Refusal}
-use Rattle.sd_source.specs.SourceReading.{reads}
+use Rattle.sd_mem.specs.mem.GraphContents.{opened_with}
+use Rattle.sd_context.specs.declared.blocks.refusal.Refusal.{Refusal}
+use Rattle.sd_source.specs.source.SourceReading.{reads}
 use Rattle.sd_valid.specs.Binding.{unless_refused, within_limits, with_sizes, binding}
 use Rattle.sd_valid.specs.Limits.{all_containers, tally}
 use Rattle.sd_valid.specs.SizeValues.{NamedSizes, symbols_of, first_name, has_no_size, has_bad_size}
@@ -20,8 +20,8 @@ use Rattle.sd_json.specs.Names.{names_in}
 use Rattle.sd_json.specs.declared.array.Array.{Array}
 use Rattle.sd_json.specs.declared.error.InputError.{InputError}
 use Rattle.sd_json.specs.declared.error.InputError.TheVariants.{WrongShape}
-use Rattle.sd_readable.proofs.kept.Steps.{refused_is_none, same_value}
-use Rattle.sd_elab.specs.Elaboration.{graph_of}
+use Rattle.sd_read.proofs.readable_lemmas.kept.Steps.{refused_is_none, same_value}
+use Rattle.sd_elab.specs.elab.Elaboration.{graph_of}
 use Rattle.sd_tool.specs.Work as come
 use Rattle.sd_tool.specs.Work.{Work, graph_read, source_graph, prepared}
 

@@ -5,10 +5,10 @@ use Rattle.sd_lex.specs.PlainTree.{ProgramTree}
 use Rattle.sd_work.specs.Run.{Left}
 use Rattle.sd_work.specs.Step.{Outcome}
 use Rattle.sd_graph.specs.declared.place.Place.{Place}
-use Rattle.sd_source.specs.SourceReading.{reads}
+use Rattle.sd_source.specs.source.SourceReading.{reads}
 use Rattle.sd_json.specs.Given.{Contents}
 use Rattle.sd_says.specs.Says.{Says}
-use Rattle.sd_write.specs.RunText.{steps_text}
+use Rattle.sd_report.specs.write.RunText.{steps_text}
 use Rattle.sd_words.specs.Command.{Command, Call, IsCall, to_run, to_step, to_print, to_check, RunsWith}
 use Rattle.sd_tool.specs.Answers.{ShelfUse, Reads}
 use Rattle.sd_tool.specs.Ends.{SinkUse, Writes}

@@ -16,7 +16,7 @@ use Rattle.sd_says.specs.Held.{Shape, opening_contents}
 use Rattle.sd_says.specs.Setting.{taken_in}
 use Rattle.sd_says.specs.Declared.{Owner, of_caller, of_run, of_scope, Declaration, declared_of}
 use Rattle.sd_says.specs.Says.{sizes_of}
-use Rattle.sd_write.specs.RunText.{fault_line, spent_line}
+use Rattle.sd_report.specs.write.RunText.{fault_line, spent_line}
 
 -- ---- the arrays file
 

@@ -6,7 +6,7 @@ ghost use Rattle.sd_graph.specs.PlainTree.{GraphTree};
 ghost use Rattle.sd_graph.specs.declared.place.Place.{Place};
 ghost use Rattle.sd_words.specs.Command.{Call, to_run};
 ghost use Rattle.sd_tool.specs.Work.{Work, source_graph, prepared, run_of_work};
-ghost use Rattle.sd_race.specs.Pairs.{IsGraphAccepted};
+ghost use Rattle.sd_race.specs.race.Pairs.{IsGraphAccepted};
 ghost use Rattle.sd_tool.specs.Answers.{ShelfUse, listed, checked, answer_of_run, text_of};
 ghost use Rattle.sd_tool.specs.Ends.{SinkUse, Writes};
 ghost use Rattle.sd_tool.specs.Headline.{Prints, PrintsTraced};
@@ -27,8 +27,9 @@ pub fn files_say_what_their_graph_runs()
 
 /// What a run prints is what its source says. Where two files are told and fit, what is printed is the text of
 /// an outcome that the source says with the sizes and arrays of the file (`prints`), behind the lines of the moves where a
-/// run by picks tells them (`moves`), and the text of what the source says is printed (`said`). Status 0 of a run, 7 and 8 come only where the source says that all is done, or this
-/// fault at this place, or that the turns are spent (`done`, `fault`, `spent`); so it is of a run by picks.
+/// run by picks tells them (`moves`), and the text of what the source says is printed (`said`). Status 0 of a run, 7 and 8 come only
+/// where the source says that all is done, or this fault at this place, or that the turns are spent (`done`, `fault`, `spent`).
+/// So it is of a run by picks.
 pub fn run_prints_what_the_source_says()
     ensures prints { (words : List (List ℕ)) (shelf : ShelfUse) (sink : SinkUse) (status : ℕ) (call : Call) (work : Work) (turns : ℕ) (asks : Asks words shelf call work)
         → Prints work turns sink status → PrintsWhatIsSaid asks.source asks.arrays turns [] sink status }

@@ -1,2 +1,2 @@
-pub mod ScopeLaws
-pub mod examples
+pub mod propagation_lemmas
+pub mod collecting_lemmas

@@ -1,4 +1,2 @@
-pub mod ItemNodes
-pub mod Accesses
-pub mod Scopes
-pub mod Joined
+pub mod propagation
+pub mod collecting

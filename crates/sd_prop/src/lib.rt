@@ -1,11 +1,14 @@
 //! The accesses of a graph's scopes, and those of each scope as a whole.
 //!
-//! `specs/ItemNodes.antt` numbers a state's items by its nodes, `Accesses.antt` has the accesses of
-//! an item with the parameters of its scopes replaced, `Scopes.antt` the scopes of a graph in the
-//! order of their nodes, and `Joined.antt` one access for each container and mode of a scope, its
-//! box the hull of all. By `laws` the scope at a path has this path.
+//! `propagation` has the definitions: the accesses of an item with the parameters of its scopes replaced, and one
+//! access for each container and mode of a scope, its box the hull of all. `collecting` makes them from a graph, each
+//! equal to its definition. Nothing is asked of the graph; want of memory is the one refusal.
 #![tactic(auto)]
 
-mod laws;
+mod collecting;
+mod propagation;
 
-pub use laws::the_scope_at_a_path_has_it;
+pub use collecting::{
+    Access, Over, Scope, WholeScope, accesses, annotate, propagate, scope_with, scopes,
+};
+pub use propagation::the_scope_at_a_path_has_it;

@@ -1,5 +1,4 @@
-pub mod Modes
-pub mod Symmetric
-pub mod Members
-pub mod FirstLaws
-pub mod examples
+pub mod race_lemmas
+pub mod cover_lemmas
+pub mod checking_lemmas
+pub mod text_lemmas

@@ -1,2 +1,4 @@
-pub mod Pairs
-pub mod Race
+pub mod race
+pub mod cover
+pub mod checking
+pub mod text

@@ -1,14 +1,19 @@
 //! The race check: which graphs are accepted, and the first pair of accesses that is not.
 //!
-//! `specs/Pairs.antt` has the pairs of accesses of a scope in their order, and when one is accepted:
-//! it is of two containers, its modes do not conflict, or its boxes share no element at two points.
-//! A graph is accepted where each pair of each scope is; `Race.antt` has the first that is not. By
-//! `laws` the two exclude each other, and an accepted scope's accesses are accepted in either order.
+//! `race` has the definitions, and that acceptance and a race exclude each other. `checking` answers the first pair
+//! exactly where a graph is not accepted, and `text` writes its answer. `cover` has the law that what an item touches
+//! lies in the boxes of its accesses. Want of memory is the one other refusal.
 #![tactic(auto)]
 
-mod laws;
+mod checking;
+mod cover;
+mod race;
+mod text;
 
-pub use laws::{
+pub use checking::{Race, RaceError, check, scope_accepted};
+pub use cover::{joined_accesses_cover_what_their_accesses_do, what_is_touched_lies_in_the_boxes};
+pub use race::{
     a_graph_has_one_race, an_accepted_graph_has_no_race,
     each_two_accesses_of_an_accepted_scope_are_accepted,
 };
+pub use text::{check_text, race_text};

@@ -4,9 +4,9 @@ use Rattle.std.specs.List.{list_any}
 use Rattle.sd_lex.specs.PlainTree.{Expression, Expressions, no_expression, and_expression}
 use Rattle.sd_names.specs.Expressions.{any_of, expression_list}
 use Rattle.sd_names.specs.Expressions.{optional}
-use Rattle.sd_refusal.specs.Uses.{bound, extent, code}
+use Rattle.sd_uses.specs.Uses.{bound, extent, code}
 use Rattle.sd_refusal.specs.NotAffine.{any_bound}
-use Rattle.sd_refusal.proofs.UseLemmas.{index_places}
+use Rattle.sd_uses.proofs.UseLemmas.{index_places}
 
 pub any_of_listed : (test : Expression → Bool) (es : Expressions) → list_any test (expression_list es) ≡ any_of test es
 any_of_listed test no_expression = refl

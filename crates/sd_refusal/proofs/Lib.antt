@@ -1,4 +1,2 @@
-pub mod UseLemmas
 pub mod MisuseLemmas
 pub mod BoundLemmas
-pub mod CallLemmas

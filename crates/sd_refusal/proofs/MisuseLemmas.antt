@@ -7,9 +7,9 @@ use Rattle.sd_lex.specs.TreeFold.{expressions_of}
 use Rattle.sd_names.specs.Names.{Name, Names, is_among, noted_all}
 use Rattle.sd_names.proofs.NameLemmas.{any_name_same, among_noted_all}
 use Rattle.sd_names.specs.Expressions.{any_name, expression_list}
-use Rattle.sd_refusal.specs.Uses.{bound, extent, code}
+use Rattle.sd_uses.specs.Uses.{bound, extent, code}
 use Rattle.sd_refusal.specs.NotAForm.{mentions_any, misuses_name, misuses, is_misread_alone, is_misread_in_code}
-use Rattle.sd_refusal.proofs.UseLemmas.{index_places}
+use Rattle.sd_uses.proofs.UseLemmas.{index_places}
 use Rattle.sd_names.proofs.ExpressionLemmas.{any_append}
 
 pub misused_bounds : (names : Names) (es : List Expression) → list_any (misuses names) (map bound es) ≡ list_any (misuses_name names) es

@@ -2,8 +2,8 @@
 use Rattle.std.specs.Prelude.{Bool, true, false, Option, Some, None}
 use Rattle.sd_lex.specs.declared.syntax.memlet.Lambda.{Lambda}
 use Rattle.sd_phrase.specs.Memlet.{LambdaTree}
-use Rattle.sd_line.specs.Head.{HeadTree}
-use Rattle.sd_refusal.specs.Uses.{lambda_of}
+use Rattle.sd_line.specs.line.Head.{HeadTree}
+use Rattle.sd_uses.specs.Uses.{lambda_of}
 
 abbrev pub is_none_kind : Option Lambda → Bool
 is_none_kind None = true

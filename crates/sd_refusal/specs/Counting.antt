@@ -1,7 +1,7 @@
 -- What is counted behind a line.
 use Rattle.std.specs.Prelude.{ℕ, ◌+◌, max, Bool, true, false, if◌then◌else◌}
-use Rattle.sd_line.specs.declared.head.BlockKind.{BlockKind}
-use Rattle.sd_line.specs.Head.{HeadTree, input_head, output_head}
+use Rattle.sd_line.specs.declared.line.head.BlockKind.{BlockKind}
+use Rattle.sd_line.specs.line.Head.{HeadTree, input_head, output_head}
 use Rattle.sd_refusal.specs.declared.site.Counts.{Counts}
 use Rattle.sd_names.specs.Names.{Names}
 use Rattle.sd_refusal.specs.OverLimit.{new_states, new_containers, new_lines, call_depth}

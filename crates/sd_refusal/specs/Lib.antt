@@ -1,10 +1,6 @@
-pub mod Uses
 pub mod NotAForm
-pub mod UnknownName
 pub mod NotAffine
-pub mod Twice
 pub mod OverLimit
 pub mod BadResolution
-pub mod ShapeMismatch
 pub mod Refusals
 pub mod Counting

@@ -2,14 +2,14 @@
 use Rattle.std.specs.Prelude.{ℕ, nat_eq, List, [], length, Bool, true, false, not, ◌&&◌, ◌||◌, is_some, bytes_eq}
 use Rattle.std.specs.List.{list_any}
 use Rattle.sd_lex.specs.PlainTree.{Expression, Dimension, StatementTree, map_scope, for_loop, while_loop, branch, set, set_at}
-use Rattle.sd_line.specs.declared.head.BlockKind.{BlockKind}
-use Rattle.sd_line.specs.declared.head.BlockKind.TheVariants.{Program}
-use Rattle.sd_line.specs.Head.{HeadTree, symbol_line, statement_head, input_head, output_head}
+use Rattle.sd_line.specs.declared.line.head.BlockKind.{BlockKind}
+use Rattle.sd_line.specs.declared.line.head.BlockKind.TheVariants.{Program}
+use Rattle.sd_line.specs.line.Head.{HeadTree, symbol_line, statement_head, input_head, output_head}
 use Rattle.sd_names.specs.Names.{Name, Names, meaning_of, container_of, is_stream, is_array, extents_of, is_input, is_output, dimensions_by, is_among}
 use Rattle.sd_names.specs.Expressions.{any_name, count_of}
 use Rattle.sd_refusal.specs.declared.site.Site.{Site}
 use Rattle.sd_names.specs.Expressions.{expressions_of_dimensions}
-use Rattle.sd_refusal.specs.Uses.{Use, value, code, bound, extent, part, target, called, consumed, uses}
+use Rattle.sd_uses.specs.Uses.{Use, value, code, bound, extent, part, target, called, consumed, uses}
 
 -- a container alone, where a number has to be
 abbrev pub is_container : Names → Name → Bool

@@ -2,12 +2,12 @@
 use Rattle.std.specs.Prelude.{Bool, false, ◌||◌}
 use Rattle.std.specs.List.{list_any}
 use Rattle.sd_lex.specs.PlainTree.{Expression, StatementTree, argument_array, local_array}
-use Rattle.sd_line.specs.Head.{HeadTree, statement_head}
+use Rattle.sd_line.specs.line.Head.{HeadTree, statement_head}
 use Rattle.sd_names.specs.Names.{Names, meaning_of, is_variable_kind}
 use Rattle.sd_names.specs.Expressions.{any_name, any_subscript, is_rough, expression_list}
-use Rattle.sd_line.specs.declared.head.BlockKind.{BlockKind}
+use Rattle.sd_line.specs.declared.line.head.BlockKind.{BlockKind}
 use Rattle.sd_names.specs.Expressions.{expressions_of_dimensions}
-use Rattle.sd_refusal.specs.Uses.{Use, value, code, bound, extent, part, target, called, consumed, uses}
+use Rattle.sd_uses.specs.Uses.{Use, value, code, bound, extent, part, target, called, consumed, uses}
 
 -- an affine place of the use passes the test
 abbrev pub any_bound : (Expression → Bool) → Use → Bool

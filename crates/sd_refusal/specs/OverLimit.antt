@@ -2,14 +2,14 @@
 use Rattle.std.specs.Prelude.{ℕ, ◌+◌, nat_lt, ℤ, pos, List, length, Bool, true, false, not, ◌||◌, Option, Some, None, if◌then◌else◌}
 use Rattle.std.specs.List.{list_any}
 use Rattle.sd_lex.specs.PlainTree.{Expression, Dimension, index, span, StatementTree, argument_array, local_array, local_stream, assign, copy, map_scope, tasklet, call, for_loop, while_loop, branch}
-use Rattle.sd_line.specs.declared.head.BlockKind.{BlockKind}
-use Rattle.sd_line.specs.declared.head.BlockKind.TheVariants.{Program, Tasklet}
-use Rattle.sd_line.specs.Head.{HeadTree, statement_head, reduce_head, input_head, output_head, consume_decorator, consume_head, elif_head}
+use Rattle.sd_line.specs.declared.line.head.BlockKind.{BlockKind}
+use Rattle.sd_line.specs.declared.line.head.BlockKind.TheVariants.{Program, Tasklet}
+use Rattle.sd_line.specs.line.Head.{HeadTree, statement_head, reduce_head, input_head, output_head, consume_decorator, consume_head, elif_head}
 use Rattle.sd_names.specs.declared.meaning.Signature.{Signature}
 use Rattle.sd_names.specs.Names.{Name, Names, meaning_of, signature_by}
 use Rattle.sd_names.specs.Expressions.{element_count, is_wide, count_of}
 use Rattle.sd_refusal.specs.declared.site.Site.{Site}
-use Rattle.sd_refusal.specs.Uses.{uses}
+use Rattle.sd_uses.specs.Uses.{uses}
 use Rattle.sd_refusal.specs.NotAffine.{any_bound}
 
 -- a step of 2^40 or more

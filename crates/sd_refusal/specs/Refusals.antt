@@ -1,15 +1,15 @@
 -- The least number that stands against a line.
 use Rattle.std.specs.Prelude.{ℕ, Option, Some, None, if◌then◌else◌}
-use Rattle.sd_line.specs.Head.{HeadTree}
+use Rattle.sd_line.specs.line.Head.{HeadTree}
 use Rattle.sd_names.specs.Names.{Names}
 use Rattle.sd_refusal.specs.declared.site.Site.{Site}
 use Rattle.sd_refusal.specs.NotAForm.{is_no_form}
-use Rattle.sd_refusal.specs.UnknownName.{has_unknown_name}
+use Rattle.sd_uses.specs.UnknownName.{has_unknown_name}
 use Rattle.sd_refusal.specs.NotAffine.{is_not_affine}
-use Rattle.sd_refusal.specs.Twice.{declares_twice}
+use Rattle.sd_uses.specs.Twice.{declares_twice}
 use Rattle.sd_refusal.specs.BadResolution.{has_bad_resolution}
 use Rattle.sd_refusal.specs.OverLimit.{is_over_limit}
-use Rattle.sd_refusal.specs.ShapeMismatch.{has_mismatch}
+use Rattle.sd_uses.specs.ShapeMismatch.{has_mismatch}
 
 -- the least of the numbers that stand against a line
 abbrev pub refusal : Names → Site → HeadTree → Option ℕ

@@ -1,6 +1,6 @@
 //! Error 9: no resolution.
 ghost use Rattle.std.specs.Prelude.{◌≡◌, option_map};
-ghost use Rattle.sd_line.specs.HeadFold.{head_tree};
+ghost use Rattle.sd_line.specs.line.HeadFold.{head_tree};
 ghost use Rattle.sd_phrase.specs.Memlet.{lambda_tree_of};
 ghost use Rattle.sd_refusal.specs.BadResolution as bad;
 

@@ -3,11 +3,11 @@ ghost use Rattle.std.specs.Prelude.{◌≡◌, ◌||◌, ◌∷◌, [], ◌++◌
 ghost use Rattle.std.specs.List.{list_any};
 ghost use Rattle.sd_lex.specs.PlainTree.{Expression, index};
 ghost use Rattle.sd_lex.specs.TreeFold.{expression_of, expressions_of, dimension_of, dimensions_of, statement_of, call_argument_of};
-ghost use Rattle.sd_line.specs.HeadFold.{head_tree};
+ghost use Rattle.sd_line.specs.line.HeadFold.{head_tree};
 ghost use Rattle.sd_names.specs.Expressions as expressions;
 ghost use Rattle.sd_names.specs.Expressions.{expression_list};
 ghost use Rattle.sd_refusal.specs.NotAffine as not_affine;
-ghost use Rattle.sd_refusal.specs.Uses as uses;
+ghost use Rattle.sd_uses.specs.Uses as uses;
 ghost use Rattle.sd_names.specs.Expressions.{optional, expressions_of_dimension, expressions_of_dimensions};
 
 use sd_lex::{Expr, Slot, Statement};

@@ -1,7 +1,7 @@
 //! What a line counts.
 ghost use Rattle.std.specs.Prelude.{◌≡◌, ◌+◌, IfOk};
 ghost use Rattle.sd_lex.specs.TreeFold.{statement_of};
-ghost use Rattle.sd_line.specs.HeadFold.{head_tree};
+ghost use Rattle.sd_line.specs.line.HeadFold.{head_tree};
 ghost use Rattle.sd_refusal.specs.Counting as counting;
 ghost use Rattle.sd_names.specs.Names.{signature_by, meaning_of};
 ghost use Rattle.sd_refusal.specs.OverLimit as over;

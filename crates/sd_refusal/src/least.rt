@@ -1,19 +1,17 @@
 //! The least number against a line.
 ghost use Rattle.std.specs.Prelude.{◌≡◌, IfOk};
-ghost use Rattle.sd_line.specs.HeadFold.{head_tree};
+ghost use Rattle.sd_line.specs.line.HeadFold.{head_tree};
 ghost use Rattle.sd_refusal.specs.Refusals as refusals;
 
 use crate::bad_resolution::has_bad_resolution;
 use crate::no_form::is_no_form;
 use crate::not_affine::is_not_affine;
 use crate::over_limit::is_over_limit;
-use crate::shape_mismatch::has_mismatch;
 use crate::site::Site;
-use crate::twice::declares_twice;
-use crate::unknown_name::has_unknown_name;
 use sd_line::Head;
 use sd_list::NoMemory;
 use sd_names::Names;
+use sd_uses::{declares_twice, has_mismatch, has_unknown_name};
 use std::alloc::Global;
 
 /// The least number that stands against a line of this head at this site, None where none does. The head

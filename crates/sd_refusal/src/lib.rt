@@ -1,9 +1,9 @@
 //! What stands against a line of a source: the errors 4 to 10, and the least of them.
 //!
 //! Each error is a predicate of what the line says, the names in force and where the line stands, with a
-//! definition of its own, and each call gives exactly its value. `refusal` is the least number whose
-//! predicate holds, or none. `counts_behind` is what is counted behind a line. Nothing is asked of the
-//! names or the line, and only memory can be wanting.
+//! definition of its own, here or in `sd_uses`, and each call gives exactly its value. `refusal` is the least
+//! number whose predicate holds, or none. `counts_behind` is what is counted behind a line. Nothing is asked of
+//! the names or the line, and only memory can be wanting.
 #![tactic(auto)]
 
 mod bad_resolution;
@@ -13,11 +13,7 @@ mod least;
 mod no_form;
 mod not_affine;
 mod over_limit;
-mod shape_mismatch;
 mod site;
-mod stretch;
-mod twice;
-mod unknown_name;
 
 pub use bad_resolution::has_bad_resolution;
 pub use counting::{counts_behind, is_connector};
@@ -25,7 +21,4 @@ pub use least::refusal;
 pub use no_form::is_no_form;
 pub use not_affine::is_not_affine;
 pub use over_limit::is_over_limit;
-pub use shape_mismatch::has_mismatch;
 pub use site::{Counts, Site};
-pub use twice::{declares_local, declares_twice};
-pub use unknown_name::has_unknown_name;

@@ -3,12 +3,12 @@ ghost use Rattle.std.specs.Prelude.{◌≡◌, [], ◌∷◌, ◌++◌, IfOk, ma
 ghost use Rattle.std.specs.List.{list_any};
 ghost use Rattle.sd_lex.specs.TreeFold.{expression_of, expressions_of, dimensions_of, statement_of, call_argument_of};
 ghost use Rattle.sd_lex.specs.PlainTree.{index};
-ghost use Rattle.sd_line.specs.HeadFold.{head_tree};
+ghost use Rattle.sd_line.specs.line.HeadFold.{head_tree};
 ghost use Rattle.sd_names.specs.Expressions as expressions;
 ghost use Rattle.sd_names.specs.Expressions.{expression_list};
 ghost use Rattle.sd_refusal.specs.NotAForm as no_form;
 ghost use Rattle.sd_names.specs.Names as names;
-ghost use Rattle.sd_refusal.specs.Uses as uses;
+ghost use Rattle.sd_uses.specs.Uses as uses;
 ghost use Rattle.sd_names.specs.Expressions.{expressions_of_dimensions};
 
 use crate::site::Site;

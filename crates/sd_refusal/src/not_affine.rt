@@ -2,7 +2,7 @@
 ghost use Rattle.std.specs.Prelude.{◌≡◌, IfOk};
 ghost use Rattle.std.specs.List.{list_any};
 ghost use Rattle.sd_lex.specs.TreeFold.{expressions_of, statement_of};
-ghost use Rattle.sd_line.specs.HeadFold.{head_tree};
+ghost use Rattle.sd_line.specs.line.HeadFold.{head_tree};
 ghost use Rattle.sd_names.specs.Expressions.{expression_list};
 ghost use Rattle.sd_refusal.specs.NotAffine as not_affine;
 

@@ -2,7 +2,7 @@
 ghost use Rattle.std.specs.Prelude.{◌≡◌, ◌+◌, ◌≤◌, ◌^◌, ℕ, min, nat_lt, IfOk, map};
 ghost use Rattle.std.specs.List.{list_any};
 ghost use Rattle.sd_lex.specs.TreeFold.{expression_of, dimension_of, dimensions_of, statement_of, call_argument_of};
-ghost use Rattle.sd_line.specs.HeadFold.{head_tree};
+ghost use Rattle.sd_line.specs.line.HeadFold.{head_tree};
 ghost use Rattle.sd_names.specs.Expressions as expressions;
 ghost use Rattle.sd_names.specs.Names.{signature_by, meaning_of};
 ghost use Rattle.sd_refusal.specs.OverLimit as over;

@@ -1,12 +1,3 @@
-pub mod Bands
-pub mod Free
-pub mod Fresh
-pub mod Gaps
-pub mod KeptSteps
-pub mod Matched
-pub mod RowBetween
-pub mod PlacesOfRange
-pub mod Points
-pub mod RowEnds
-pub mod RowsOfMap
-pub mod Tracks
+pub mod rows_lemmas
+pub mod consume_lemmas
+pub mod tasks_lemmas

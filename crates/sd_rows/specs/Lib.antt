@@ -1,6 +1,3 @@
-pub mod Along
-pub mod Band
-pub mod Code
-pub mod Kept
-pub mod Map
-pub mod Still
+pub mod rows
+pub mod consume
+pub mod tasks

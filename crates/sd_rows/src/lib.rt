@@ -1,24 +1,14 @@
-//! Runs a map whose body is one tasklet row by row.
+//! Scopes whose bodies are tasklets, run by flat code that is made once.
 //!
-//! A row is all points at which only the last parameter differs. Where each access of the tasklet is
-//! inside at both ends of a row, its elements lie at equal distances, so the row is run by flat code
-//! without a look-up at its points (`specs/Along.antt`). A tasklet whose effects depend on what it reads keeps
-//! them until they are performed, point by point, by targets that are known for the whole row (`specs/Kept.antt`).
-//! Any other row goes point by point. `run_rows` ends as the map does when it is done from left to right, or leaves a
-//! map of another kind alone.
+//! `rows` runs a map of one tasklet row by row, `consume` a consume scope of one tasklet, `tasks` a list of
+//! tasklets. Each ends as its items do one after another, from left to right. A scope of another kind is left
+//! alone; want of memory is the one refusal.
 #![tactic(auto)]
 
-mod band;
-mod between;
-mod instance;
-mod kept;
-mod map;
-mod moving;
-mod pointwise;
+mod consume;
 mod rows;
-mod spacing;
-mod steps;
-mod still;
-mod targets;
+mod tasks;
 
+pub use consume::run_elements;
 pub use rows::run_rows;
+pub use tasks::{run_tasks, runners_of};

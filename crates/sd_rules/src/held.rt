@@ -5,14 +5,13 @@ ghost use Rattle.sd_graph.specs.ContainerParts as parts;
 ghost use Rattle.sd_graph.specs.InForce as force;
 ghost use Rattle.sd_graph.specs.LoopScope.{numbers_below};
 ghost use Rattle.sd_graph.specs.TreeFold.{graph_tree, item_trees, kind_tree, named_container, state_trees};
-ghost use Rattle.sd_validity.specs.NamesInForce as names;
+ghost use Rattle.sd_validity.specs.rules.NamesInForce as names;
 
 use indexmap::IndexMap;
 use sd_graph::{Container, ContainerKind, Item, ItemKind, Sdfg, State};
 use sd_list::NoMemory;
-use sd_places::container_at;
+use sd_places::{container_at, has_number};
 use sd_range::Affine;
-use sd_ranks::has_number;
 use std::alloc::Global;
 
 /// Whether a kind is private.

@@ -2,18 +2,17 @@
 ghost use Rattle.std.specs.Prelude.{◌≡◌, length, map, IfOk};
 ghost use Rattle.std.specs.List.{list_all};
 ghost use Rattle.sd_graph.specs.TreeFold.{graph_tree, kind_tree, named_container};
-ghost use Rattle.sd_places.specs.PlaceOf.{place_of, thing_of};
-ghost use Rattle.sd_validity.specs.NamesInForce as names;
-ghost use Rattle.sd_validity.specs.Places.{doing};
+ghost use Rattle.sd_places.specs.places.PlaceOf.{place_of, thing_of};
+ghost use Rattle.sd_validity.specs.rules.NamesInForce as names;
+ghost use Rattle.sd_validity.specs.rules.Places.{doing};
 
 use crate::held::{are_own, are_private_held, is_element, is_private_at};
 use crate::single::{Named, are_single, push_named};
 use indexmap::IndexMap;
 use sd_graph::{Container, ItemKind, Link, Sdfg, Tasklet};
 use sd_list::NoMemory;
-use sd_places::{Place, Rule, Test, Thing, is_thing_passed};
+use sd_places::{Place, Rule, Test, Thing, has_number, is_thing_passed};
 use sd_range::{Affine, Range};
-use sd_ranks::has_number;
 use std::alloc::Global;
 
 /// Whether a container is there, and is in force everywhere or one of these private ones.
@@ -151,8 +150,8 @@ struct InForce<'a, 'b> {
 }
 
 impl<'a, 'b> Test for InForce<'a, 'b> {
-    ghost use Rattle.sd_places.specs.PlaceOf.{place_of};
-    ghost use Rattle.sd_validity.specs.NamesInForce as names;
+    ghost use Rattle.sd_places.specs.places.PlaceOf.{place_of};
+    ghost use Rattle.sd_validity.specs.rules.NamesInForce as names;
 
     ghost tests = { λ s. names.names_tests (place_of s.place.now) };
 
@@ -219,7 +218,7 @@ fn is_each_held(alloc: Global, place: &Place<'_>) -> Result<bool, NoMemory>
 pub struct NamesInForce;
 
 impl Rule for NamesInForce {
-    ghost use Rattle.sd_validity.specs.NamesInForce as names;
+    ghost use Rattle.sd_validity.specs.rules.NamesInForce as names;
 
     ghost rule = { λ s. names.rule_1 };
 

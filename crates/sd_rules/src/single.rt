@@ -2,17 +2,16 @@
 ghost use Rattle.std.specs.Prelude.{◌≡◌, ◌++◌, map, IfOk, OnOk};
 ghost use Rattle.std.specs.List.{flat_map};
 ghost use Rattle.sd_graph.specs.TreeFold.{exit_tree, kind_tree};
-ghost use Rattle.sd_validity.specs.Places.{doing, param_numbers};
-ghost use Rattle.sd_places.specs.PlaceOf.{place_of, thing_of};
-ghost use Rattle.sd_validity.specs.NamesInForce as names;
+ghost use Rattle.sd_validity.specs.rules.Places.{doing, param_numbers};
+ghost use Rattle.sd_places.specs.places.PlaceOf.{place_of, thing_of};
+ghost use Rattle.sd_validity.specs.rules.NamesInForce as names;
 ghost use Rattle.sd_rules.specs.Named.{numbers_of};
 
 use crate::held::push_held_by;
 use sd_graph::{Exit, ItemKind};
 use sd_list::NoMemory;
-use sd_places::{Place, Thing};
+use sd_places::{Place, Thing, has_number, push_assigned};
 use sd_range::Range;
-use sd_ranks::{has_number, push_assigned};
 use std::alloc::Global;
 
 /// Numbers that stand at a place: the containers that a scope makes its own, the parameters of a

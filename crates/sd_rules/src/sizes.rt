@@ -3,8 +3,8 @@ ghost use Rattle.std.specs.Prelude.{◌≡◌, map, IfOk};
 ghost use Rattle.std.specs.List.{list_all};
 ghost use Rattle.sd_graph.specs.TreeFold.{act_tree, act_trees, named_container, tasklet_tree, value_tree, value_trees};
 ghost use Rattle.sd_valid.specs.BoundCode.{names_symbol};
-ghost use Rattle.sd_validity.specs.SizesGone as sizes;
-ghost use Rattle.sd_validity.specs.Parts.{is_empty};
+ghost use Rattle.sd_validity.specs.rules.SizesGone as sizes;
+ghost use Rattle.sd_validity.specs.rules.Parts.{is_empty};
 
 use indexmap::IndexMap;
 use sd_graph::{Act, Container, Link, Tasklet, Value};
@@ -129,7 +129,7 @@ struct NoSymbol {
 }
 
 impl Test for NoSymbol {
-    ghost use Rattle.sd_validity.specs.SizesGone as sizes;
+    ghost use Rattle.sd_validity.specs.rules.SizesGone as sizes;
 
     ghost tests = { λ s. sizes.sizes_tests s.symbols };
 
@@ -154,7 +154,7 @@ impl Test for NoSymbol {
 pub struct SizesGone;
 
 impl Rule for SizesGone {
-    ghost use Rattle.sd_validity.specs.SizesGone as sizes;
+    ghost use Rattle.sd_validity.specs.rules.SizesGone as sizes;
 
     ghost rule = { λ s. sizes.rule_8 };
 

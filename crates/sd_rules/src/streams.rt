@@ -2,8 +2,8 @@
 ghost use Rattle.std.specs.Prelude.{◌≡◌, map, option_map};
 ghost use Rattle.std.specs.List.{list_all};
 ghost use Rattle.sd_graph.specs.TreeFold.{exit_tree, guard_tree, kind_tree, named_container};
-ghost use Rattle.sd_validity.specs.Places.{doing};
-ghost use Rattle.sd_validity.specs.StreamUse as streams;
+ghost use Rattle.sd_validity.specs.rules.Places.{doing};
+ghost use Rattle.sd_validity.specs.rules.StreamUse as streams;
 
 use indexmap::IndexMap;
 use sd_graph::{Container, Exit, Guard, ItemKind, Link};
@@ -72,7 +72,7 @@ pub(crate) fn are_in_place_in_item(
 pub struct Streams;
 
 impl Rule for Streams {
-    ghost use Rattle.sd_validity.specs.StreamUse as streams;
+    ghost use Rattle.sd_validity.specs.rules.StreamUse as streams;
 
     ghost rule = { λ s. streams.rule_4 };
 

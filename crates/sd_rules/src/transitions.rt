@@ -3,16 +3,15 @@ ghost use Rattle.std.specs.Prelude.{◌≡◌, ◌++◌, map, option_map, slice_
 ghost use Rattle.std.specs.List.{list_all};
 ghost use Rattle.sd_graph.specs.TreeFold.{exit_tree, guard_tree, state_trees};
 ghost use Rattle.sd_graph.specs.TreeParts as tree;
-ghost use Rattle.sd_ranks.specs.ComparisonOf.{comparison_of};
-ghost use Rattle.sd_places.specs.PlaceOf.{place_of, thing_of};
-ghost use Rattle.sd_validity.specs.Transitions as transitions;
+ghost use Rattle.sd_places.specs.ranks.ComparisonOf.{comparison_of};
+ghost use Rattle.sd_places.specs.places.PlaceOf.{place_of, thing_of};
+ghost use Rattle.sd_validity.specs.rules.Transitions as transitions;
 
 use sd_graph::{Exit, Guard, State};
 use sd_list::NoMemory;
-use sd_loops::leads_to;
-use sd_places::{Place, Rule, Thing};
+use sd_places::{Comparison, Place, Rule, Thing, compared, is_affine_value};
 use sd_range::Affine;
-use sd_ranks::{Comparison, compared, is_affine_value};
+use sd_wire::leads_to;
 use std::alloc::Global;
 
 /// The transitions out of a state; none where there is no such state.
@@ -283,7 +282,7 @@ fn have_one_begin(alloc: Global, before: &[Place<'_>], place: &Place<'_>) -> Res
 pub struct Transitions;
 
 impl Rule for Transitions {
-    ghost use Rattle.sd_validity.specs.Transitions as transitions;
+    ghost use Rattle.sd_validity.specs.rules.Transitions as transitions;
 
     ghost rule = { λ s. transitions.rule_3 };
 

@@ -1,5 +1,5 @@
 //! The size of instructions.
-use sd_op::Op;
+use sd_tcode::Op;
 use std::mem::size_of;
 
 #[test]

@@ -2,8 +2,7 @@
 use indexmap::IndexMap;
 use sd_graph::{Container, ContainerKind};
 use sd_list::{NoMemory, Sequence};
-use sd_machine::{Cell, Machine, Station};
-use sd_mem::Memory;
+use sd_mem::{Cell, Machine, Memory, Station};
 use sd_num::Resolution;
 use sd_range::Affine;
 use std::alloc::Global;

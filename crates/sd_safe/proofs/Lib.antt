@@ -1,11 +1,2 @@
-pub mod Rows
-pub mod Views
-pub mod Edges
-pub mod Compatible
-pub mod Distinct
-pub mod Parts
-pub mod Accepting
-pub mod GraphSafe
-pub mod Whole
-pub mod Standing
-pub mod examples
+pub mod fit_lemmas
+pub mod safe_lemmas

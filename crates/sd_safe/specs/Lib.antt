@@ -1,2 +1,2 @@
-pub mod Reached
-pub mod Standing
+pub mod normal
+pub mod safe

@@ -1,15 +1,17 @@
-//! An accepted graph is safe: its work may be done in any order.
+//! An accepted graph is safe: its work may be done in any order. Laws over definitions.
 //!
-//! The premise beside acceptance is `IsGraphFit`, what of a graph's validity its boxes rest on; a valid
-//! graph has it (`sd_fit`). By `laws`, items without a path between them, points of an accepted map and
-//! elements of an accepted consume scope do not conflict; so the run of a valid, accepted graph by any
-//! picks is done where its sequential run is. `specs/Reached.antt` has where work may stand so,
-//! `Standing.antt` where an item of a graph stands.
+//! `safe` has that a run of a valid, accepted graph by any picks is done where its sequential run is. `fit`
+//! has that a valid graph is as these laws ask, and `normal` shows that the expressions of each graph that code
+//! holds are in normal form, by the types of its parts.
 #![tactic(auto)]
 
-mod laws;
+mod fit;
+mod normal;
+mod safe;
 
-pub use laws::{
+pub use fit::a_valid_graph_is_fit;
+pub use normal::show_normal_forms;
+pub use safe::{
     a_valid_accepted_graph_may_interleave, an_accepted_consume_scope_may_interleave,
     an_accepted_graph_ends_alike, an_accepted_graph_may_interleave,
     an_item_over_a_memory_of_its_graph_stands_alone,

@@ -6,9 +6,9 @@ use Rattle.sd_lex.specs.StatementKind.{has_connector}
 use Rattle.sd_work.specs.Memory.{Memory, array}
 use Rattle.sd_work.specs.Change.{changed_at}
 use Rattle.sd_program.specs.Names.{Name, Named}
-use Rattle.sd_in_force.specs.Names.{with_numbered}
-use Rattle.sd_in_force.specs.Ranges as affine
-use Rattle.sd_in_force.specs.Subsets.{are_units}
+use Rattle.sd_task.specs.in_force.Names.{with_numbered}
+use Rattle.sd_task.specs.in_force.Ranges as affine
+use Rattle.sd_task.specs.in_force.Subsets.{are_units}
 use Rattle.sd_graph.specs.Context.{Reach}
 use Rattle.sd_says.specs.Exact.{extents_in}
 use Rattle.sd_says.specs.Held.{Shape, array_of, a_stream, Held, opening_contents, own_reach}

@@ -1,7 +1,2 @@
-pub mod Inside
-pub mod Entered
-pub mod Assigned
-pub mod Evaluated
-pub mod Found
-pub mod Told
-pub mod Ways
+pub mod scope_lemmas
+pub mod even_lemmas

@@ -1,1 +1,3 @@
-pub mod Standing
+pub mod scope
+pub mod even
+pub mod take

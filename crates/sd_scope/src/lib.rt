@@ -1,25 +1,20 @@
-//! Where work stands in a graph that runs: how each container is reached, the values of the
-//! variables, and what the place of a fault shows.
+//! Where work stands in a graph that runs.
 //!
-//! What stays as it is for a whole run of a graph is a `Base`, what each scope changes a `Scope`.
-//! Contracts see both together as a context of `sd_graph` (`specs/Standing.antt`), and each builder
-//! gives exactly the one that the graph's meaning has in a state, at a point, at an element or in a
-//! nested graph. `cell_at` gives an element exactly where the meaning has one, and `place_of` the
-//! place that it has. Nothing is asked of graphs and scopes: what 128 bits don't hold, or has no
-//! 64-bit number, counts as want of memory.
+//! `scope` has how containers are reached, the values of variables and the places of faults, exactly as the
+//! meaning of the graph has them. `even` has laws of rows: points that differ in the last parameter, and elements
+//! at equal distances. `take` takes a value out of the stream of a consume scope.
 #![tactic(auto)]
 
-mod access;
-mod base;
-mod element;
-mod evaluation;
-mod extents;
-mod place;
+mod even;
 mod scope;
+mod take;
 
-pub use access::{cell_at, link_cell, link_cells, station};
-pub use base::{Base, View, Way};
-pub use evaluation::{checked_points, value_of, values_behind};
-pub use extents::connector_extents;
-pub use place::place_of;
-pub use scope::{Scope, Shown, ShownName};
+pub use even::{
+    a_scalar_subset_has_one_element, elements_of_a_row_are_at_equal_distances, has_one_element,
+    numbers_of_a_range_are_at_equal_distances, points_come_in_rows,
+};
+pub use scope::{
+    Base, Scope, Shown, ShownName, View, Way, cell_at, checked_points, connector_extents,
+    link_cell, link_cells, place_of, station, value_of, values_behind,
+};
+pub use take::{Taken, take_value};

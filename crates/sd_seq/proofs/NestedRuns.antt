@@ -9,10 +9,10 @@ use Rattle.sd_graph.specs.PlainTree.{nested_graph, GraphTree, graph}
 use Rattle.sd_graph.specs.TreeParts.{containers_of}
 use Rattle.sd_graph.specs.Context.{Reach, Context, frames_at}
 use Rattle.sd_graph.specs.Unfold.{unfold_graph, reach_inside, run_memory}
-use Rattle.sd_machine.specs.ComesTo.{ComesTo, outcome_of, IsEnd}
-use Rattle.sd_machine.specs.Coming.{kind_coming, graph_coming}
-use Rattle.sd_machine.specs.declared.end.End.{End}
-use Rattle.sd_row.proofs.Comes.{owned_ends}
+use Rattle.sd_mem.specs.machine.ComesTo.{ComesTo, outcome_of, IsEnd}
+use Rattle.sd_mem.specs.machine.Coming.{kind_coming, graph_coming}
+use Rattle.sd_mem.specs.declared.machine.end.End.{End}
+use Rattle.sd_row.proofs.row_lemmas.Comes.{owned_ends}
 
 nested_is : (inner : GraphTree) (reach : ℕ → Reach) (own : Memory) (around : List Frame) (most : ℕ) (memories : Memories) (turns : ℕ) →
     big_step (unfold_graph inner reach own around) most memories turns ≡ leaving (graph_coming inner reach around (record { memories = own ∷ memories; turns = turns }) most)

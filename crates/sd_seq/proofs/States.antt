@@ -14,12 +14,12 @@ use Rattle.sd_graph.specs.TreeParts.{states_of_graph, exits_at, items_at, count_
 use Rattle.sd_graph.specs.Context.{Reach, Context}
 use Rattle.sd_graph.specs.Unfold.{unfold_state, unfold_items, exit_of, at_state}
 use Rattle.sd_graph.specs.Upwards.{ItemsLeadUpwards, StatesLeadUpwards, LeadsUpwards, ExitsLeadUpwards}
-use Rattle.sd_machine.specs.Stack.{IsPaid}
-use Rattle.sd_machine.specs.ComesTo.{ComesTo, outcome_of, IsEnd}
-use Rattle.sd_machine.specs.Coming.{items_coming, state_context, state_term, exits_of, from_state}
-use Rattle.sd_machine.specs.declared.end.End.{End}
-use Rattle.sd_machine.specs.declared.end.End.TheVariants.{Finished, Fault, OutOfTurns}
-use Rattle.sd_row.proofs.Comes.{IsLeft, comes-then, comes-stop, stops}
+use Rattle.sd_mem.specs.machine.Stack.{IsPaid}
+use Rattle.sd_mem.specs.machine.ComesTo.{ComesTo, outcome_of, IsEnd}
+use Rattle.sd_mem.specs.machine.Coming.{items_coming, state_context, state_term, exits_of, from_state}
+use Rattle.sd_mem.specs.declared.machine.end.End.{End}
+use Rattle.sd_mem.specs.declared.machine.end.End.TheVariants.{Finished, Fault, OutOfTurns}
+use Rattle.sd_row.proofs.row_lemmas.Comes.{IsLeft, comes-then, comes-stop, stops}
 
 -- the work of a state is that of its items
 state_is : (states : StateTrees) (state : ℕ) (context : Context) (most : ℕ) (memories : Memories) (turns : ℕ) →

@@ -21,15 +21,15 @@ use Rattle.sd_graph.specs.declared.graph.State.{State}
 use Rattle.sd_graph.specs.declared.graph.Sdfg.{Sdfg}
 use Rattle.sd_graph.specs.declared.exit.Exit.{Exit}
 use Rattle.sd_graph.specs.declared.graph.ItemKind.TheViews.{out-State, out-Sdfg}
-use Rattle.sd_machine.specs.Stack.{IsPaid}
-use Rattle.sd_machine.specs.ComesTo.{IsEnd}
-use Rattle.sd_machine.specs.Coming.{items_coming, state_context, exits_of, from_state, variable_count, IsExit}
-use Rattle.sd_machine.specs.declared.end.End.{End}
-use Rattle.sd_machine.specs.declared.end.End.TheVariants.{Finished, Fault, OutOfTurns}
-use Rattle.sd_leaves.specs.Next.{IsNext}
-use Rattle.sd_leaves.specs.declared.exit.Next.{Next}
-use Rattle.sd_leaves.specs.declared.exit.Next.TheVariants.{Nowhere, By, Fault as Fault_of_exit}
-use Rattle.sd_row.proofs.Comes.{IsLeft}
+use Rattle.sd_mem.specs.machine.Stack.{IsPaid}
+use Rattle.sd_mem.specs.machine.ComesTo.{IsEnd}
+use Rattle.sd_mem.specs.machine.Coming.{items_coming, state_context, exits_of, from_state, variable_count, IsExit}
+use Rattle.sd_mem.specs.declared.machine.end.End.{End}
+use Rattle.sd_mem.specs.declared.machine.end.End.TheVariants.{Finished, Fault, OutOfTurns}
+use Rattle.sd_leaves.specs.leaves.Next.{IsNext}
+use Rattle.sd_leaves.specs.declared.leaves.exit.Next.{Next}
+use Rattle.sd_leaves.specs.declared.leaves.exit.Next.TheVariants.{Nowhere, By, Fault as Fault_of_exit}
+use Rattle.sd_row.proofs.row_lemmas.Comes.{IsLeft}
 use Rattle.sd_seq.proofs.States.{exits_of_graph, state_stop, exit_nowhere, exit_fault, exit_spent, exit_on, items_of_state_lead, measure, measure_falls}
 
 -- ---- states and exits of the code

@@ -20,12 +20,12 @@ use Rattle.sd_graph.proofs.UnfoldedOrder.{run_is_ordered, run_is_run}
 use Rattle.sd_graph.proofs.UnfoldedNew.{run_unfolds_new}
 use Rattle.sd_graph.proofs.UnfoldedCycles.{run_pays}
 use Rattle.sd_graph.proofs.UnfoldedPools.{run_has_ordered_pools}
-use Rattle.sd_machine.specs.ComesTo.{ComesTo, outcome_of, IsEnd}
-use Rattle.sd_machine.specs.Coming.{graph_coming}
-use Rattle.sd_scope.specs.Standing.{opening_reach, reach_by}
-use Rattle.sd_scope.specs.declared.base.Base.{Base}
-use Rattle.sd_machine.specs.declared.end.End.{End}
-use Rattle.sd_machine.specs.declared.end.End.TheVariants.{Finished, Fault, OutOfTurns}
+use Rattle.sd_mem.specs.machine.ComesTo.{ComesTo, outcome_of, IsEnd}
+use Rattle.sd_mem.specs.machine.Coming.{graph_coming}
+use Rattle.sd_scope.specs.scope.Standing.{opening_reach, reach_by}
+use Rattle.sd_scope.specs.declared.scope.base.Base.{Base}
+use Rattle.sd_mem.specs.declared.machine.end.End.{End}
+use Rattle.sd_mem.specs.declared.machine.end.End.TheVariants.{Finished, Fault, OutOfTurns}
 
 -- the outcome of the whole run that an end stands for
 abbrev pub left_end : End → Reached → Outcome Place Left

@@ -4,7 +4,7 @@
 //! `run_seq` ends exactly as the sequential run of the graph's work does (`specs/RunEnd.antt`), which
 //! `sd_work` defines by single moves. Below it stand functions for each level of a graph, which call each
 //! other down the tree: each ends as its part of the graph does when it is done from left to right
-//! (`IsEnd` of `sd_machine`). Their runs end because unmarked transitions lead upwards and marked ones spend
+//! (`IsEnd` of `sd_mem`). Their runs end because unmarked transitions lead upwards and marked ones spend
 //! turns.
 #![tactic(auto)]
 

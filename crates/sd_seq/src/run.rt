@@ -6,23 +6,20 @@ ghost use Rattle.sd_graph.specs.declared.graph.ItemKind.TheViews.{out-Sdfg};
 ghost use Rattle.sd_graph.specs.TreeFold.{graph_tree, kind_tree, item_tree, item_trees, state_tree};
 ghost use Rattle.sd_graph.specs.TreeParts.{containers_of};
 ghost use Rattle.sd_graph.specs.Upwards.{KindLeadsUpwards, ItemsLeadUpwards, LeadsUpwards};
-ghost use Rattle.sd_machine.specs.ComesTo.{IsEnd};
-ghost use Rattle.sd_machine.specs.Coming.{kind_coming, items_coming, map_coming, from_state, graph_coming};
-ghost use Rattle.sd_scope.specs.Standing.{context_of, opening_reach};
-ghost use Rattle.sd_consume.specs.Taking.{consume_coming};
-ghost use Rattle.sd_tasks.specs.Runners.{AreRunnersOf};
+ghost use Rattle.sd_mem.specs.machine.ComesTo.{IsEnd};
+ghost use Rattle.sd_mem.specs.machine.Coming.{kind_coming, items_coming, map_coming, from_state, graph_coming};
+ghost use Rattle.sd_scope.specs.scope.Standing.{context_of, opening_reach};
+ghost use Rattle.sd_rows.specs.consume.Taking.{consume_coming};
+ghost use Rattle.sd_rows.specs.tasks.Runners.{AreRunnersOf};
 
-use sd_consume::run_elements;
 use sd_graph::{Item, ItemKind, Link, Sdfg, State};
-use sd_instance::Runner;
 use sd_leaves::{Next, next_exit, run_copy, run_reduction, run_task};
 use sd_list::NoMemory;
-use sd_machine::{End, Machine};
-use sd_mem::Memory;
+use sd_mem::{End, Machine, Memory};
 use sd_range::Range;
-use sd_rows::run_rows;
+use sd_row::Runner;
+use sd_rows::{run_elements, run_rows, run_tasks, runners_of};
 use sd_scope::{Base, Scope, checked_points, station, values_behind};
-use sd_tasks::{run_tasks, runners_of};
 use std::alloc::Global;
 
 /// Items one after another.
@@ -51,7 +48,7 @@ fn run_items(
 
 /// One item with its line.
 #[cycle(run)]
-#[tactic(auto, using(sd_instance::proofs::Bodies::item_opened))]
+#[tactic(auto, using(sd_row::proofs::instance_lemmas::Bodies::item_opened))]
 fn run_item(
     alloc: Global,
     item: &Item,

@@ -9,8 +9,7 @@ use crate::run::run_graph;
 use crate::run_end::RunEnd;
 use sd_graph::Bound;
 use sd_list::NoMemory;
-use sd_machine::{End, Machine};
-use sd_mem::Memory;
+use sd_mem::{End, Machine, Memory};
 use sd_scope::Base;
 use std::alloc::Global;
 

@@ -1,2 +1,2 @@
-pub mod LineLemmas
-pub mod PrefixLemmas
+pub mod nodes_lemmas
+pub mod source_lemmas

@@ -1,6 +1,2 @@
-pub mod LineReading
-pub mod LinesReading
-pub mod Prefix
-pub mod NodeRefusal
-pub mod Parsed
-pub mod SourceReading
+pub mod nodes
+pub mod source

@@ -1,14 +1,11 @@
-//! A source is read line by line to its program, or refused at the first line that is wrong, with the least number.
+//! A source read to its program, or refused at the first line that is wrong, with the least number.
 //!
-//! `SourceReading.antt` defines what a text is: its logical lines, which are of `sd_lines`, are read one after
-//! another (`LineReading.antt`, `LinesReading.antt`) by what is known between them, which is of `sd_blocks`. The limits on
-//! nodes stand against the source as a whole (`NodeRefusal.antt`). `read_text` gives exactly that.
+//! `source` reads the logical lines one after another, exactly as its definition has it. `nodes` tells the least
+//! line at which the graphs of a source have more nodes than they may. Only memory can be wanting.
 #![tactic(auto)]
 
-mod line_reading;
-mod lines_reading;
-mod node_limit;
-mod prefix;
+mod nodes;
 mod source;
 
+pub use nodes::{a_line_is_told_exactly_where_there_are_too_many, first_over};
 pub use source::read_text;

@@ -1,4 +1,2 @@
-pub mod Ways
-pub mod Spans
-pub mod Compositions
-pub mod Insides
+pub mod elements_lemmas
+pub mod boxes_lemmas

@@ -1,3 +1,2 @@
-pub mod Way
-pub mod Walk
-pub mod Composition
+pub mod elements
+pub mod boxes

@@ -1,6 +1,5 @@
-pub mod Table
-pub mod Links
-pub mod Operators
-pub mod UsedVariables
-pub mod ElementCode
-pub mod TableOf
+pub mod in_force
+pub mod task
+pub mod tasklet_names
+pub mod tasklets
+pub mod containers

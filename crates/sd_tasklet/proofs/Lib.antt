@@ -1,6 +1,2 @@
-pub mod Places
-pub mod Sizes
-pub mod KeptLemmas
-pub mod Acts
-pub mod Members
-pub mod Counts
+pub mod tasklet_lemmas
+pub mod literals_lemmas

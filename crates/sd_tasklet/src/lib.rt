@@ -1,25 +1,15 @@
 //! The plain evaluation of a tasklet's code, which is what the code means.
 //!
-//! `eval` gives the effects of a tasklet in their order, or its first fault, exactly as the tasklet
-//! meaning of `sd_graph` has it, or want of memory (`specs/Answer.antt`). An effect is kept with its
-//! index in four numbers (`specs/Kept.antt`). Nothing is asked of the code; of what it is given only
-//! that each input has its elements and no connector more than four dimensions (`specs/Given.antt`).
+//! `tasklet` gives the effects of the code in their order, or its first fault, exactly as the meaning of
+//! `sd_graph` has it. `literals` has code with its numbers in variables, which means what it meant. Nothing is
+//! asked of the code; want of memory is the one refusal.
 #![tactic(auto)]
 
-mod effect;
-mod evaluation;
-mod fault;
-mod inputs;
-mod operator;
-mod place;
-mod progress;
-mod value;
-mod whole;
+mod literals;
+mod tasklet;
 
-pub use effect::{Effect, Effects};
-pub use evaluation::eval;
-pub use fault::TaskFault;
-pub use inputs::Inputs;
-pub use operator::{decides, holds, one_value, two_values};
-pub use place::{filled, is_inside, row_number};
-pub use whole::has_room;
+pub use literals::{Lifted, code_with_its_numbers_in_variables_means_the_same};
+pub use tasklet::{
+    Effect, Effects, Inputs, TaskFault, decides, eval, filled, has_room, holds, is_inside,
+    one_value, row_number, two_values,
+};

@@ -1,21 +1,14 @@
-//! The flat code of a tasklet, and its run without memory.
+//! Flat code: a tasklet's instructions and their run without memory.
 //!
-//! A `Code` has the instructions of a tasklet (`specs/Emitted.antt`), of which each register and
-//! connector is known to be there (`specs/Compiled.antt`); `sd_compile` makes it. `run` does them on
-//! what a `Frame` holds: its effects, or the fault, are the tasklet meaning's. Where each output is a
-//! scalar that is set exactly once, outside of branches (`specs/Plain.antt`), `run_plain` leaves the
-//! outputs in registers and makes no list of effects.
+//! `op` has the instructions and what they do on registers, arrays and a list of effects. `tcode` has the code of a
+//! tasklet, the frame that it is run on, and its run, whose effects or fault are the tasklet meaning's. `columns`
+//! runs the code many times at once. `sd_compile` makes it.
 #![tactic(auto)]
 
-mod code;
-mod frame;
-mod laws;
-mod layout;
-mod room;
-mod running;
+mod columns;
+mod op;
+mod tcode;
 
-pub use code::Code;
-pub use frame::Frame;
-pub use laws::{what_a_frame_has, what_is_given_stays_whole};
-pub use layout::Layout;
-pub use running::{run, run_plain};
+pub use columns::{Columns, Spaced, add_products};
+pub use op::{Array, Log, Op, run_ops};
+pub use tcode::{Code, Frame, Layout, run, run_plain, what_a_frame_has, what_is_given_stays_whole};

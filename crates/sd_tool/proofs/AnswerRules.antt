@@ -14,7 +14,7 @@ use Rattle.sd_words.specs.declared.command.Command.TheVariants as asked
 use Rattle.sd_words.specs.declared.command.Step as asked_step
 use Rattle.sd_tool.specs.Ending.{answer_of, picks_ending, Refuses}
 use Rattle.sd_tool.specs.declared.ending.Ending.{Ending}
-use Rattle.sd_write.proofs.SinkLemmas.{HasRisen-later, HasRisen-earlier}
+use Rattle.sd_report.proofs.write_lemmas.SinkLemmas.{HasRisen-later, HasRisen-earlier}
 
 -- one use is a part of another: what is told is the same, and no count falls outside it
 pub record IsPart (part whole : ShelfUse) : Type 0 where

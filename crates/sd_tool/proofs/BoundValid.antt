@@ -1,22 +1,22 @@
 -- What a call runs is valid: its graph is that of a program that was read, with sizes that are not refused.
 use Rattle.std.proofs.Common.{◌≡◌, ℕ, List, Result, Ok, Err, refl, sym, subst}
 use Rattle.sd_lex.specs.PlainTree.{ProgramTree}
-use Rattle.sd_source.specs.SourceReading.{reads}
-use Rattle.sd_blocks.specs.declared.refusal.Refusal.{Refusal}
+use Rattle.sd_source.specs.source.SourceReading.{reads}
+use Rattle.sd_context.specs.declared.blocks.refusal.Refusal.{Refusal}
 use Rattle.sd_graph.specs.PlainTree.{GraphTree}
-use Rattle.sd_mem.specs.Shaped.{Shaped}
+use Rattle.sd_mem.specs.mem.Shaped.{Shaped}
 use Rattle.sd_valid.specs.Binding.{binding}
 use Rattle.sd_valid.specs.SizeValues.{NamedSizes}
 use Rattle.sd_valid.specs.declared.error.BindError.{BindError}
-use Rattle.sd_validity.specs.Valid.{IsValid}
+use Rattle.sd_validity.specs.rules.Valid.{IsValid}
 use Rattle.sd_json.specs.ArraysReading.{arrays_reading}
 use Rattle.sd_json.specs.Given.{Contents}
 use Rattle.sd_json.specs.GivenMemory.{memory_given}
 use Rattle.sd_json.specs.Names.{names_in}
 use Rattle.sd_json.specs.declared.array.Array.{Array}
 use Rattle.sd_json.specs.declared.error.InputError.{InputError}
-use Rattle.sd_elab.specs.Elaboration.{graph_of}
-use Rattle.sd_made_valid.proofs.Rules.{text_valid}
+use Rattle.sd_elab.specs.elab.Elaboration.{graph_of}
+use Rattle.sd_made_valid.proofs.valid_lemmas.Rules.{text_valid}
 use Rattle.sd_tool.specs.Work.{Work, graph_read, source_graph, opened, bound, given, prepared, input_refusal, binding_refusal}
 use Rattle.sd_tool.proofs.Reading.{same_Ok, Ok_or_Err}
 

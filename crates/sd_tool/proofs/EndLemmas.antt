@@ -9,7 +9,7 @@ use Rattle.sd_work.specs.Run.{Left, Sequential}
 use Rattle.sd_work.specs.Step.{Outcome}
 use Rattle.sd_graph.specs.PlainTree.{GraphTree}
 use Rattle.sd_graph.specs.declared.place.Place.{Place}
-use Rattle.sd_race.specs.Race.{Race, IsRaceOf}
+use Rattle.sd_race.specs.race.Race.{Race, IsRaceOf}
 use Rattle.sd_tool.specs.Written.{written_status}
 use Rattle.sd_tool.specs.Work.{Work, run_of_work}
 use Rattle.sd_core.specs.Traced.{IsTraced}

@@ -5,12 +5,12 @@ use Rattle.sd_work.specs.Step.{Outcome, Done, Faulted, Spent}
 use Rattle.sd_graph.specs.PlainTree.{GraphTree}
 use Rattle.sd_graph.specs.TreeParts.{containers_of}
 use Rattle.sd_graph.specs.declared.place.Place.{Place}
-use Rattle.sd_mem.specs.GraphContents.{shapes_of}
-use Rattle.sd_same_end.specs.Told.{EndAlike}
-use Rattle.sd_same_end.proofs.Texts.{text_same}
-use Rattle.sd_step.specs.Step.{IsStep}
-use Rattle.sd_write.specs.RunText.{steps_text, run_text}
-use Rattle.sd_race.specs.Pairs.{IsGraphAccepted}
+use Rattle.sd_mem.specs.mem.GraphContents.{shapes_of}
+use Rattle.sd_report.specs.same_end.Told.{EndAlike}
+use Rattle.sd_report.proofs.same_end_lemmas.Texts.{text_same}
+use Rattle.sd_report.specs.stepping.Step.{IsStep}
+use Rattle.sd_report.specs.write.RunText.{steps_text, run_text}
+use Rattle.sd_race.specs.race.Pairs.{IsGraphAccepted}
 use Rattle.sd_words.specs.Command.{Step, command_of}
 use Rattle.sd_words.specs.declared.command.Command as asked_command
 use Rattle.sd_words.specs.declared.command.Command.TheVariants.{Print, Check}

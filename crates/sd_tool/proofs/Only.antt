@@ -2,7 +2,7 @@
 use Rattle.std.proofs.Common.{◌≡◌, ◌⊎◌, ℕ, ◌<◌, ◌≤◌, ◌^◌, List, length, Ok, Err, refl, ap, sym, ◌∙◌, subst, arith, inl, inr}
 use Rattle.sd_io.specs.Count.{HasRisen}
 use Rattle.sd_graph.specs.PlainTree.{GraphTree}
-use Rattle.sd_blocks.specs.declared.refusal.Refusal.{Refusal}
+use Rattle.sd_context.specs.declared.blocks.refusal.Refusal.{Refusal}
 use Rattle.sd_words.specs.Command.{Command, Call, IsCall}
 use Rattle.sd_words.proofs.Calls.{IsCall-unique}
 use Rattle.sd_tool.specs.declared.ending.ArraysRefusal.{ArraysRefusal}

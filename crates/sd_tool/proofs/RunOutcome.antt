@@ -7,11 +7,11 @@ use Rattle.sd_graph.specs.PlainTree.{GraphTree}
 use Rattle.sd_graph.specs.declared.place.Place.{Place}
 use Rattle.sd_graph.proofs.UnfoldedCycles.{run_pays}
 use Rattle.sd_graph.proofs.UnfoldedNew.{run_unfolds_new}
-use Rattle.sd_validity.specs.Valid.{IsValid}
-use Rattle.sd_validity.proofs.UpwardsLemmas.{leads_upwards}
+use Rattle.sd_validity.specs.rules.Valid.{IsValid}
+use Rattle.sd_validity.proofs.rules_lemmas.UpwardsLemmas.{leads_upwards}
 use Rattle.sd_core.specs.Traced.{IsTraced}
-use Rattle.sd_step.specs.Step.{IsPicked}
-use Rattle.sd_step.proofs.Steps.{trace_of, with_steps, without_steps}
+use Rattle.sd_report.specs.stepping.Step.{IsPicked}
+use Rattle.sd_report.proofs.stepping_lemmas.Steps.{trace_of, with_steps, without_steps}
 use Rattle.sd_tool.specs.Answers.{ShelfUse, Comes}
 use Rattle.sd_words.specs.Command.{Call}
 use Rattle.sd_tool.specs.Work.{Work, source_graph, prepared, run_of_work}

@@ -6,8 +6,8 @@ use Rattle.sd_work.specs.Move.{Fault}
 use Rattle.sd_work.specs.Run.{Left}
 use Rattle.sd_work.specs.Step.{Done, Faulted, Spent}
 use Rattle.sd_graph.specs.declared.place.Place.{Place}
-use Rattle.sd_race.specs.Race.{Race}
-use Rattle.sd_blocks.specs.declared.refusal.Refusal.{Refusal}
+use Rattle.sd_race.specs.race.Race.{Race}
+use Rattle.sd_context.specs.declared.blocks.refusal.Refusal.{Refusal}
 use Rattle.sd_tool.specs.declared.ending.ArraysRefusal.{ArraysRefusal}
 use Rattle.sd_tool.specs.Work.{Work}
 use Rattle.sd_tool.specs.Answers.{ShelfUse, Answer, ran, listed, checked, raced, bad_words, source_refused, arrays_refused, picks_refused, read_fault, too_long, Answers, status_of, text_of}

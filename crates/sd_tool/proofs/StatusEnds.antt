@@ -5,8 +5,8 @@ use Rattle.sd_work.specs.Run.{Left, Sequential}
 use Rattle.sd_work.specs.Step.{Outcome}
 use Rattle.sd_graph.specs.PlainTree.{GraphTree}
 use Rattle.sd_graph.specs.declared.place.Place.{Place}
-use Rattle.sd_race.specs.Pairs.{IsGraphAccepted}
-use Rattle.sd_step.specs.Step.{IsPicked}
+use Rattle.sd_race.specs.race.Pairs.{IsGraphAccepted}
+use Rattle.sd_report.specs.stepping.Step.{IsPicked}
 use Rattle.sd_words.specs.Command.{Step, to_run, to_step, to_print, to_check, MakesRaceCheck, Call}
 use Rattle.sd_tool.specs.Work.{Work, run_of_work}
 use Rattle.sd_tool.specs.Answers.{ShelfUse, Answer, ran, listed, checked, bad_words, source_refused, arrays_refused, picks_refused, too_long, Answers, answer_of_run, TellsRace, Tells, status_of, text_of}

@@ -2,9 +2,9 @@
 use Rattle.std.proofs.Common.{◌≡◌, ℕ, List, [], ap, sym, ◌∙◌, subst, inl, inr}
 use Rattle.sd_work.proofs.Outcomes.{Run-unique}
 use Rattle.sd_graph.specs.PlainTree.{GraphTree}
-use Rattle.sd_race.specs.Pairs.{IsGraphAccepted}
-use Rattle.sd_race.proofs.FirstLaws.{no-race, one-race}
-use Rattle.sd_step.proofs.Traces.{IsPicked-unique}
+use Rattle.sd_race.specs.race.Pairs.{IsGraphAccepted}
+use Rattle.sd_race.proofs.race_lemmas.FirstLaws.{no-race, one-race}
+use Rattle.sd_report.proofs.stepping_lemmas.Traces.{IsPicked-unique}
 use Rattle.sd_words.specs.Command.{Command, Step, to_run, to_step, to_print, to_check, MakesRaceCheck}
 use Rattle.sd_tool.specs.Work.{Work, run_of_work}
 use Rattle.sd_tool.specs.Answers.{Answer, ran, raced, TellsRun, TellsStep, TellsRace, UnlessRace, Tells}

@@ -1,8 +1,8 @@
 -- The texts of refusals, each line ended by a newline.
 use Rattle.std.specs.Prelude.{ℕ, List, [], ◌∷◌, ◌++◌, Option, Some, None, codes}
 use Rattle.std.specs.Fmt.{decimal}
-use Rattle.sd_blocks.specs.declared.refusal.Refusal.{Refusal}
-use Rattle.sd_write.specs.RunText.{line}
+use Rattle.sd_context.specs.declared.blocks.refusal.Refusal.{Refusal}
+use Rattle.sd_report.specs.write.RunText.{line}
 use Rattle.sd_tool.specs.declared.ending.ArraysRefusal.{ArraysRefusal}
 
 abbrev pub source_text : Refusal → List ℕ

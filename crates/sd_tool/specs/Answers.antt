@@ -6,15 +6,15 @@ use Rattle.sd_work.specs.Run.{Left, Sequential}
 use Rattle.sd_work.specs.Step.{Outcome, Done, Faulted, Spent}
 use Rattle.sd_graph.specs.PlainTree.{GraphTree}
 use Rattle.sd_graph.specs.declared.place.Place.{Place}
-use Rattle.sd_blocks.specs.declared.refusal.Refusal.{Refusal}
-use Rattle.sd_graph_text.specs.GraphText.{graph_text}
-use Rattle.sd_race.specs.Pairs.{IsGraphAccepted}
-use Rattle.sd_race.specs.Race.{Race, IsRaceOf}
-use Rattle.sd_race_text.specs.CheckText.{check_text}
-use Rattle.sd_race_text.specs.RaceText.{race_text}
+use Rattle.sd_context.specs.declared.blocks.refusal.Refusal.{Refusal}
+use Rattle.sd_print.specs.graphs.GraphText.{graph_text}
+use Rattle.sd_race.specs.race.Pairs.{IsGraphAccepted}
+use Rattle.sd_race.specs.race.Race.{Race, IsRaceOf}
+use Rattle.sd_race.specs.text.CheckText.{check_text}
+use Rattle.sd_race.specs.text.RaceText.{race_text}
 use Rattle.sd_chain.specs.Picks.{picks_reading}
-use Rattle.sd_step.specs.Step.{IsPicked}
-use Rattle.sd_write.specs.RunText.{line, run_text}
+use Rattle.sd_report.specs.stepping.Step.{IsPicked}
+use Rattle.sd_report.specs.write.RunText.{line, run_text}
 use Rattle.sd_words.specs.Command.{Command, Step, to_run, to_step, to_print, to_check, Call, IsCall}
 use Rattle.sd_tool.specs.declared.ending.ArraysRefusal.{ArraysRefusal}
 use Rattle.sd_tool.specs.Work.{Work, source_graph, prepared, run_of_work}

@@ -2,7 +2,7 @@
 use Rattle.std.specs.Prelude.{◌≡◌, ⊤, Option, Some, None, Result, Ok, Err}
 use Rattle.std.specs.Option.{option_map_or}
 use Rattle.sd_graph.specs.TreeFold.{graph_tree}
-use Rattle.sd_check.specs.Found.{race_of}
+use Rattle.sd_race.specs.checking.Found.{race_of}
 use Rattle.sd_tool.specs.Work.{input_refusal, binding_refusal}
 use Rattle.sd_tool.specs.Answers.{Answer, raced, bad_words, source_refused, arrays_refused, picks_refused, read_fault, too_long}
 use Rattle.sd_parse.specs.ErrorNumber.{refusal_of}

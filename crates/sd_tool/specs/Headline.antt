@@ -3,12 +3,12 @@ use Rattle.std.specs.Prelude.{◌≡◌, ◌⊎◌, ℕ, List}
 use Rattle.sd_work.specs.Run.{Left, Sequential}
 use Rattle.sd_work.specs.Step.{Outcome}
 use Rattle.sd_graph.specs.declared.place.Place.{Place}
-use Rattle.sd_graph_text.specs.GraphText.{graph_text}
-use Rattle.sd_race.specs.Race.{Race, IsRaceOf}
-use Rattle.sd_race_text.specs.CheckText.{check_text}
-use Rattle.sd_race_text.specs.RaceText.{race_text}
+use Rattle.sd_print.specs.graphs.GraphText.{graph_text}
+use Rattle.sd_race.specs.race.Race.{Race, IsRaceOf}
+use Rattle.sd_race.specs.text.CheckText.{check_text}
+use Rattle.sd_race.specs.text.RaceText.{race_text}
 use Rattle.sd_core.specs.Traced.{IsTraced}
-use Rattle.sd_write.specs.RunText.{line}
+use Rattle.sd_report.specs.write.RunText.{line}
 use Rattle.sd_tool.specs.Work.{Work, run_of_work}
 use Rattle.sd_tool.specs.Answers.{ran, answer_of_run, status_of, text_of}
 use Rattle.sd_tool.specs.Ends.{SinkUse, Writes}

@@ -2,7 +2,7 @@
 use Rattle.std.specs.Prelude.{◌≡◌}
 use Rattle.sd_graph.specs.TreeFold.{graph_tree}
 use Rattle.sd_seq.specs.RunEnd.{outcome_of}
-use Rattle.sd_step.specs.Step.{steps_of}
+use Rattle.sd_report.specs.stepping.Step.{steps_of}
 use Rattle.sd_tool.specs.Answers.{Answer, ran, listed, checked, status_of, text_of}
 use Rattle.sd_tool.specs.declared.ran.Ran.{Ran}
 use Rattle.sd_tool.specs.declared.report.Report.{Report}

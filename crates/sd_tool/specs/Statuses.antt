@@ -1,4 +1,4 @@
--- Each status of a call with its cause, both ways; all of it follows from which answer comes where.
+-- Each status of a call but that of want of memory, with its cause. All of it follows from which answer comes where.
 use Rattle.std.specs.Prelude.{◌≡◌, ◌⊎◌, ℕ, ◌^◌, ◌<◌, ◌≤◌, List, [], length, Err}
 use Rattle.sd_io.specs.Count.{HasRisen}
 use Rattle.sd_io.specs.Shelf.{IsToldLonger}
@@ -7,12 +7,12 @@ use Rattle.sd_work.specs.Run.{Left, Sequential}
 use Rattle.sd_work.specs.Step.{Outcome, Done, Faulted, Spent}
 use Rattle.sd_graph.specs.PlainTree.{GraphTree}
 use Rattle.sd_graph.specs.declared.place.Place.{Place}
-use Rattle.sd_race.specs.Pairs.{IsGraphAccepted}
-use Rattle.sd_race.specs.Race.{Race, IsRaceOf}
-use Rattle.sd_blocks.specs.declared.refusal.Refusal.{Refusal}
+use Rattle.sd_race.specs.race.Pairs.{IsGraphAccepted}
+use Rattle.sd_race.specs.race.Race.{Race, IsRaceOf}
+use Rattle.sd_context.specs.declared.blocks.refusal.Refusal.{Refusal}
 use Rattle.sd_tool.specs.declared.ending.ArraysRefusal.{ArraysRefusal}
 use Rattle.sd_chain.specs.Picks.{picks_reading}
-use Rattle.sd_step.specs.Step.{IsPicked}
+use Rattle.sd_report.specs.stepping.Step.{IsPicked}
 use Rattle.sd_words.specs.Command.{Command, Step, to_run, to_step, to_print, to_check, RunsWith, MakesRaceCheck, Call, IsCall}
 use Rattle.sd_tool.specs.Work.{Work, source_graph, prepared, run_of_work}
 use Rattle.sd_tool.specs.Answers.{ShelfUse, Answer, ran, listed, checked, raced, bad_words, source_refused, arrays_refused, picks_refused, read_fault, too_long, Reads, ReadsSource, Comes, HasPicks, Answers, answer_of_run, status_of, text_of}

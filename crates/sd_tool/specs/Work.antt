@@ -5,7 +5,7 @@ use Rattle.sd_work.specs.Residual.{Term}
 use Rattle.sd_graph.specs.PlainTree.{GraphTree}
 use Rattle.sd_graph.specs.Unfold.{run_of}
 use Rattle.sd_graph.specs.declared.place.Place.{Place}
-use Rattle.sd_mem.specs.Shaped.{Shaped}
+use Rattle.sd_mem.specs.mem.Shaped.{Shaped}
 use Rattle.sd_valid.specs.Binding.{binding}
 use Rattle.sd_valid.specs.declared.error.BindError.{BindError}
 use Rattle.sd_valid.specs.declared.error.BindError.TheVariants.{MissingSize, BadSize, OverLimit}
@@ -18,10 +18,10 @@ use Rattle.sd_json.specs.declared.array.Array.{Array}
 use Rattle.sd_json.specs.declared.error.InputError.{InputError}
 use Rattle.sd_json.specs.declared.error.InputError.TheVariants.{NotJson, Missing, Extra, NotANumber, Ragged, WrongShape}
 use Rattle.sd_json.specs.declared.error.InputError.TheVariants as inputs
-use Rattle.sd_source.specs.SourceReading.{reads}
-use Rattle.sd_blocks.specs.declared.refusal.Refusal.{Refusal}
+use Rattle.sd_source.specs.source.SourceReading.{reads}
+use Rattle.sd_context.specs.declared.blocks.refusal.Refusal.{Refusal}
 use Rattle.sd_lex.specs.PlainTree.{ProgramTree}
-use Rattle.sd_elab.specs.Elaboration.{graph_of}
+use Rattle.sd_elab.specs.elab.Elaboration.{graph_of}
 use Rattle.sd_tool.specs.declared.ending.ArraysRefusal.{ArraysRefusal}
 
 -- ---- the source

@@ -1,6 +1,6 @@
 ghost use Rattle.std.specs.Prelude.{◌≡◌, ◌≤◌, ℕ, true, false, List, map, IfOk, IfErr, IfSome, string_bytes};
 ghost use Rattle.sd_io.specs.Count.{HasRisen};
-ghost use Rattle.sd_race.specs.Pairs.{IsGraphAccepted};
+ghost use Rattle.sd_race.specs.race.Pairs.{IsGraphAccepted};
 ghost use Rattle.sd_words.specs.Command.{Call, Step, to_run, to_step, to_print, to_check, MakesRaceCheck};
 ghost use Rattle.sd_tool.specs.Answers.{ShelfUse, Answers, shelf_use};
 ghost use Rattle.sd_tool.specs.Ending.{answer_of};
@@ -16,7 +16,7 @@ use crate::ending::Ending;
 use crate::files::{picks, prepare};
 use crate::report::Report;
 use sd_io::{Gate, Shelf, Sink, SinkError};
-use sd_write::write_text;
+use sd_report::write_text;
 use std::alloc::Global;
 
 /// The statuses of what may go wrong while text is written.
@@ -164,7 +164,7 @@ pub fn sdfg<R, S: Shelf, K: Sink, G: Gate>(
     ensures answers { Ends (map string_bytes words.now) (shelf_use S.told S.faults S.overruns shelf.old shelf.new)
         (sink_use K.taken K.faults out.old out.new) result }
 
-    // Each status with its cause, both ways.
+    // Each status but that of want of memory, with its cause.
     ensures statuses { Statuses (map string_bytes words.now) (shelf_use S.told S.faults S.overruns shelf.old shelf.new)
         (sink_use K.taken K.faults out.old out.new) result }
 

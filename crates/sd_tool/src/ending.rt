@@ -5,12 +5,11 @@ ghost use Rattle.sd_tool.specs.Answers.{status_of, text_of};
 ghost use Rattle.sd_tool.specs.Ending.{answer_of, source_ending, input_ending, binding_ending, picks_ending};
 
 use sd_chain::PicksError;
-use sd_check::Race;
 use sd_graph::Bound;
 use sd_json::InputError;
 use sd_list::{NoMemory, Text};
 use sd_parse::{Refusal, SourceError};
-use sd_race_text::race_text;
+use sd_race::{Race, race_text};
 use sd_valid::BindError;
 use std::alloc::Global;
 

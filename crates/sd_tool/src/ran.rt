@@ -2,8 +2,8 @@
 ghost use Rattle.std.specs.Prelude.{[], IfOk};
 ghost use Rattle.sd_graph.specs.TreeFold.{graph_tree};
 ghost use Rattle.sd_graph.specs.Upwards.{LeadsUpwards};
-ghost use Rattle.sd_race.specs.Pairs.{IsGraphAccepted};
-ghost use Rattle.sd_validity.specs.Valid.{IsValid};
+ghost use Rattle.sd_race.specs.race.Pairs.{IsGraphAccepted};
+ghost use Rattle.sd_validity.specs.rules.Valid.{IsValid};
 ghost use Rattle.sd_words.specs.Command.{step_of};
 ghost use Rattle.sd_tool.specs.Answers.{TellsRun, TellsStep};
 ghost use Rattle.sd_tool.specs.Report.{Says, answer_of_ran};
@@ -13,8 +13,8 @@ use crate::workspace::Workspace;
 use sd_core::TracedRun;
 use sd_graph::Bound;
 use sd_list::NoMemory;
+use sd_report::step;
 use sd_seq::run_seq;
-use sd_step::step;
 use sd_words::Step;
 use std::alloc::Global;
 

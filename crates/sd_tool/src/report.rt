@@ -2,9 +2,9 @@ ghost use Rattle.std.specs.Prelude.{◌≡◌, ◌≤◌, IfOk, IfErr, IfSome, O
 ghost use Rattle.sd_io.specs.Count.{HasRisen};
 ghost use Rattle.sd_io.specs.Sink.{Appends, AppendsPrefix};
 ghost use Rattle.sd_graph.specs.TreeFold.{graph_tree};
-ghost use Rattle.sd_graph_text.specs.GraphText as listing;
-ghost use Rattle.sd_race_text.specs.CheckText as checking;
-ghost use Rattle.sd_validity.specs.Valid.{IsValid};
+ghost use Rattle.sd_print.specs.graphs.GraphText as listing;
+ghost use Rattle.sd_race.specs.text.CheckText as checking;
+ghost use Rattle.sd_validity.specs.rules.Valid.{IsValid};
 ghost use Rattle.sd_words.specs.Command.{command_of};
 ghost use Rattle.sd_tool.specs.Answers.{Tells, text_of};
 ghost use Rattle.sd_tool.specs.Answers as answers;
@@ -16,12 +16,12 @@ use crate::ending::Ending;
 use crate::ran::{Ran, run, run_by};
 use crate::workspace::{Workspace, accepted};
 use sd_graph::Bound;
-use sd_graph_text::graph_text;
 use sd_io::{Sink, SinkError};
-use sd_race_text::check_text;
+use sd_print::graph_text;
+use sd_race::check_text;
+use sd_report::{write_run, write_text};
 use sd_seq::RunEnd;
 use sd_words::Command;
-use sd_write::{write_run, write_text};
 use std::alloc::Global;
 
 /// What a command gives that nothing refuses.

@@ -1,18 +1,18 @@
 ghost use Rattle.std.specs.Prelude.{◌≡◌, ◌≤◌, ◌^◌, Ok, length, IfOk, IfErr, IfSome};
 ghost use Rattle.sd_graph.specs.TreeFold.{graph_tree};
-ghost use Rattle.sd_race.specs.Pairs.{IsGraphAccepted};
+ghost use Rattle.sd_race.specs.race.Pairs.{IsGraphAccepted};
 ghost use Rattle.sd_tool.specs.Answers.{source_refused, arrays_refused, TellsRace};
 ghost use Rattle.sd_tool.specs.Ending.{answer_of, Refuses};
 ghost use Rattle.sd_tool.specs.Work as definition;
 ghost use Rattle.sd_tool.specs.Workspace.{work_of};
 
 use crate::ending::Ending;
-use sd_check::{RaceError, check};
 use sd_elab::elaborate;
 use sd_graph::{Bound, Sdfg};
 use sd_json::read_arrays;
 use sd_mem::Memory;
 use sd_parse::parse;
+use sd_race::{RaceError, check};
 use sd_valid::bind;
 use std::alloc::Global;
 

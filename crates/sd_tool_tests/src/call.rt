@@ -1,4 +1,3 @@
-use crate::sources::source;
 use sd_io::{MemShelf, MemSink, Open};
 use sd_tool::sdfg;
 use std::alloc::Global;
@@ -7,6 +6,15 @@ use std::test::Fail;
 /// A text up to its first newline, and what stands behind it.
 pub(crate) fn cut<'a>(text: &'a str) -> (&'a str, &'a str) {
     text.split_once('\n').unwrap_or((text, ""))
+}
+
+/// The number of this place in a line; 255 where there is none.
+pub(crate) fn number(line: &str, place: usize) -> u64 {
+    line.split(' ')
+        .nth(place)
+        .unwrap_or("")
+        .parse()
+        .unwrap_or(255)
 }
 
 /// The words of a text, parted by commas.
@@ -24,52 +32,30 @@ fn file(alloc: Global, name: &str, content: &str) -> Result<(String, Vec<u8>), F
     Ok((String::from_str(alloc, name)?, bytes))
 }
 
-/// A shelf with files of these names and contents, which fails at the calls of these numbers.
-fn shelf(alloc: Global, contents: &[(&str, &str)], failing: &[u64]) -> Result<MemShelf, Fail> {
+/// A shelf with files of these names and contents, which fails at the call of this number.
+fn shelf(alloc: Global, contents: &[(&str, &str)], failing: u64) -> Result<MemShelf, Fail> {
     let mut files = Vec::new(alloc);
     for (name, content) in contents {
         files.push(file(alloc, name, content)?)?;
     }
-    Ok(MemShelf::new(files, Vec::from_slice(alloc, failing)?))
+    Ok(MemShelf::new(files, vec![in alloc; failing]?))
 }
 
 /// What comes of a call of these words with these files, where the calls of the shelf and of the sink with these numbers fail: the
 /// status, and the bytes that the sink has taken.
-pub(crate) fn with_files(
+pub(crate) fn answer(
     alloc: Global,
     text: &str,
     contents: &[(&str, &str)],
-    reads: &[u64],
-    writes: &[u64],
+    read: u64,
+    write: u64,
 ) -> Result<(u8, String), Fail> {
     let words = words(alloc, text)?;
-    let mut shelf = shelf(alloc, contents, reads)?;
-    let mut sink = MemSink::new(alloc, Vec::from_slice(alloc, writes)?);
+    let mut shelf = shelf(alloc, contents, read)?;
+    let mut sink = MemSink::new(alloc, vec![in alloc; write]?);
     let status = sdfg(&(), alloc, &words, &mut shelf, &mut sink, &Open);
     let written = std::str::from_utf8(sink.bytes())?;
     Ok((status, String::from_str(alloc, written)?))
-}
-
-/// The same with a source and an arrays file.
-pub(crate) fn failing(
-    alloc: Global,
-    text: &str,
-    files: (&str, &str),
-    reads: &[u64],
-    writes: &[u64],
-) -> Result<(u8, String), Fail> {
-    let contents = [("a.py", files.0), ("a.json", files.1)];
-    with_files(alloc, text, &contents, reads, writes)
-}
-
-/// The same where no call fails.
-pub(crate) fn called(
-    alloc: Global,
-    text: &str,
-    source: &str,
-    arrays: &str,
-) -> Result<(u8, String), Fail> {
-    failing(alloc, text, (source, arrays), &[], &[])
 }
 
 /// Adds to a text what a call came to, where that is not this status and this text.
@@ -85,28 +71,4 @@ pub(crate) fn note(
         write!(text, "{name}: {answer} {other}")?;
     }
     Ok(())
-}
-
-/// The number of this place in a line; 255 where there is none.
-pub(crate) fn number(line: &str, place: usize) -> u64 {
-    line.split(' ')
-        .nth(place)
-        .unwrap_or("")
-        .parse()
-        .unwrap_or(255)
-}
-
-/// The rows of a table that have another answer. Each row has the name of the source that `a.py` holds, the words, what
-/// `a.json` holds, the status, and the text that is written.
-pub(crate) fn wrong_rows(alloc: Global, rows: &str) -> Result<String, Fail> {
-    let mut wrong = String::new(alloc);
-    for row in rows.split("===\n") {
-        let (name, row) = cut(row);
-        let (words, row) = cut(row);
-        let (arrays, row) = cut(row);
-        let (status, text) = cut(row);
-        let found = called(alloc, words, source(name), arrays)?;
-        note(&mut wrong, arrays, &found, number(status, 0), text)?;
-    }
-    Ok(wrong)
 }

@@ -1,93 +1,67 @@
-use crate::call::{called, cut, failing, note, number};
+use crate::call::{answer, cut, note, number};
 use crate::sources::source;
 use std::alloc::Global;
 use std::test::Fail;
 
-const WORDS: &str = "run,a.py,a.json";
+/// The number of a call that no device comes to.
+const NONE: u64 = 255;
 
 const ARRAYS: &str = r#"{"N":3,"A":[1,2,3],"B":[0,0,0]}"#;
 
-const BOTH: &str = "A[3] = 1 2 3\nB[3] = 2 3 4\n";
-
-/// The source that adds 1, with empty lines behind it until it has so many bytes.
-fn long_source(alloc: Global, bytes: usize) -> Result<String, Fail> {
-    let mut text = String::from_str(alloc, source("INC"))?;
-    for _ in text.len()..bytes {
-        text.push_str("\n")?;
-    }
-    Ok(text)
-}
-
-/// What is wrong of a source at its limit and of one that is longer.
-fn wrong_lengths(alloc: Global) -> Result<String, Fail> {
-    let mut wrong = String::new(alloc);
-    let most = long_source(alloc, 1_048_576)?;
-    let found = called(alloc, WORDS, most.as_str(), ARRAYS)?;
-    note(&mut wrong, "at the limit", &found, 0, BOTH)?;
-    let more = long_source(alloc, 1_048_577)?;
-    let found = called(alloc, WORDS, more.as_str(), ARRAYS)?;
-    note(&mut wrong, "longer", &found, 11, "too long a.py\n")?;
-    Ok(wrong)
-}
-
-#[test]
-fn a_source_of_one_byte_above_its_limit_is_too_long(rt: HostRuntime) -> Result<(), Fail> {
-    assert_eq!(rt; wrong_lengths(rt.alloc())?.as_str(), "");
-    Ok(())
-}
-
-/// Runs of a source where a call of the shelf and one of the sink fail, by their numbers; the status, and the text written.
-const FAILING: &str = "INC
-0 9 9
+/// Calls with a call of the shelf and one of the sink that fail. Each row has the name of the source that `a.py` holds, the words,
+/// the two numbers with the status, and the text that is written.
+const READS: &str = "INC
+run,a.py,a.json
+0 255 9
 read fault a.py
 ===
 INC
-1 9 9
+run,a.py,a.json
+1 255 9
 read fault a.json
 ===
 INC
-2 9 0
+run,a.py,a.json
+2 255 0
 A[3] = 1 2 3
 B[3] = 2 3 4
 ===
 INC
-9 0 10
+step,a.py,a.json,p
+2 255 9
+read fault p
 ===
 INC
-9 1 10
-A[3] = 1 2 3
-===
-INC
-9 2 0
+run,a.py,a.json
+255 2 0
 A[3] = 1 2 3
 B[3] = 2 3 4
 ===
 INC
+run,a.py,a.json
 0 0 10
 ===
 INC
+run,a.py,a.json
 0 1 9
 read fault a.py
 ===
 SQUARE
-1 9 3
+run,a.py,a.json
+1 255 3
 source error 6 at line 7
-===
-SQUARE
-9 0 10
-===
-PRODUCT
-9 0 10
 ";
 
-/// The runs that end otherwise.
-fn wrong_ends(alloc: Global) -> Result<String, Fail> {
+/// The rows that have another answer.
+fn wrong_reads(alloc: Global) -> Result<String, Fail> {
     let mut wrong = String::new(alloc);
-    for row in FAILING.split("===\n") {
+    for row in READS.split("===\n") {
         let (name, row) = cut(row);
+        let (words, row) = cut(row);
         let (numbers, text) = cut(row);
-        let (reads, writes) = ([number(numbers, 0)], [number(numbers, 1)]);
-        let found = failing(alloc, WORDS, (source(name), ARRAYS), &reads, &writes)?;
+        let files = [("a.py", source(name)), ("a.json", ARRAYS), ("p", "")];
+        let (read, write) = (number(numbers, 0), number(numbers, 1));
+        let found = answer(alloc, words, &files, read, write)?;
         note(&mut wrong, numbers, &found, number(numbers, 2), text)?;
     }
     Ok(wrong)
@@ -95,7 +69,121 @@ fn wrong_ends(alloc: Global) -> Result<String, Fail> {
 
 #[test]
 fn each_failing_call_ends_the_run(rt: HostRuntime) -> Result<(), Fail> {
-    assert_eq!(rt; wrong_ends(rt.alloc())?.as_str(), "");
+    assert_eq!(rt; wrong_reads(rt.alloc())?.as_str(), "");
+    Ok(())
+}
+
+/// Calls with the text that they write. Each row has the name of the source that `a.py` holds, the words, what `a.json` holds, what
+/// `p` holds, and the text.
+const WRITES: &str = r#"INC
+run,a.py,a.json
+{"N":3,"A":[1,2,3],"B":[0,0,0]}
+
+A[3] = 1 2 3
+B[3] = 2 3 4
+===
+INC
+print,a.py,a.json
+{"N":3,"A":[1,2,3],"B":[0,0,0]}
+
+sdfg inc
+array A[3]
+array B[3]
+state 0
+next 1
+state 1
+node 0 access A
+node 1 map i=0:3
+node 2 in 1 tasklet line 7
+node 3 exit 1
+node 4 access B
+edge 0 1 A
+edge 1 2 A[i] _in0
+edge 2 3 B[i] _out
+edge 3 4 B
+===
+HALVES
+check,a.py,a.json
+{"N":8,"A":[1,2,3,4,5,6,7,8]}
+
+scope 1.1: read A[4:8]
+scope 1.1: write A[0:4]
+accepted
+===
+SHIFTED
+run,a.py,a.json
+{"N":5,"A":[1,2,3,4,5]}
+
+race at 1.1: read A by 2, write A by 2
+===
+SQUARE
+run,a.py,a.json
+{"N":3,"A":[1,2,3],"B":[0,0,0]}
+
+source error 6 at line 7
+===
+INC
+run,a.py,a.json
+{"N":3,"A":[1,2,3]}
+
+arrays error 17 B
+===
+INC
+step,a.py,a.json,p,--trace
+{"N":2,"A":[4,5],"B":[0,0]}
+0 1 1 0
+move 0 of 1
+move 1 of 2
+move 1 of 2
+move 0 of 2
+move 0 of 2
+move 0 of 2
+move 0 of 1
+move 0 of 1
+A[2] = 4 5
+B[2] = 5 6
+===
+INC
+step,a.py,a.json,p
+{"N":2,"A":[4,5],"B":[0,0]}
+x
+picks refused at word 1
+===
+INC
+run,a.py,a.json,--turns,1
+{"N":2,"A":[4,5],"B":[0,0]}
+
+turns spent 1
+===
+INC
+run
+{"N":2,"A":[4,5],"B":[0,0]}
+
+bad words
+"#;
+
+/// What is wrong where a write of a line fails: the status is 10, and the sink has the lines before it.
+fn wrong_writes(alloc: Global) -> Result<String, Fail> {
+    let mut wrong = String::new(alloc);
+    for row in WRITES.split("===\n") {
+        let (name, row) = cut(row);
+        let (words, row) = cut(row);
+        let (arrays, row) = cut(row);
+        let (picks, text) = cut(row);
+        let files = [("a.py", source(name)), ("a.json", arrays), ("p", picks)];
+        let mut front = String::new(alloc);
+        for (place, line) in text.split_inclusive('\n').enumerate() {
+            let found = answer(alloc, words, &files, NONE, place as u64)?;
+            note(&mut wrong, line, &found, 10, front.as_str())?;
+            front.push_str(line)?;
+        }
+    }
+    Ok(wrong)
+}
+
+#[test]
+fn each_line_is_one_write(rt: HostRuntime) -> Result<(), Fail> {
+    assert_eq!(rt; wrong_writes(rt.alloc())?.as_str(), "");
     Ok(())
 }
 
@@ -124,10 +212,11 @@ const PIECES: &str = "0 10 0
 /// The pieces that are others.
 fn wrong_pieces(alloc: Global) -> Result<String, Fail> {
     let mut wrong = String::new(alloc);
-    let arrays = long_arrays(alloc)?;
-    let files = (source("LONG"), arrays.as_str());
+    let text = format!(in alloc; "{}\n{}", long_arrays(alloc)?, source("LONG"))?;
+    let (arrays, source) = cut(text.as_str());
+    let files = [("a.py", source), ("a.json", arrays)];
     for line in PIECES.lines() {
-        let (status, written) = failing(alloc, WORDS, files, &[], &[number(line, 0)])?;
+        let (status, written) = answer(alloc, "run,a.py,a.json", &files, NONE, number(line, 0))?;
         let bytes = written.len();
         if u64::from(status) != number(line, 1) || bytes as u64 != number(line, 2) {
             write!(&mut wrong, "{line}: {status} {bytes}; ")?;

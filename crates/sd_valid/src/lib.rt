@@ -1,7 +1,7 @@
 //! Sizes in the place of a graph's size symbols.
 //!
 //! `bind` gives the graph with each size symbol replaced by its size, in each expression of it and
-//! of its nested graphs (`specs/BoundTree.antt`), or refuses: the first symbol without a size, the
+//! of its nested graphs (`specs/BoundTree.antt`). Else it refuses the first symbol without a size, the
 //! first whose size is outside its limits, or the first container over a limit
 //! (`specs/Binding.antt`). By `laws` the bound graph does what the graph does with these sizes.
 #![tactic(auto)]

@@ -1,1 +1,2 @@
-pub mod Lowest
+pub mod limits_lemmas
+pub mod validating_lemmas

@@ -1,1 +1,2 @@
-pub mod Invalidity
+pub mod limits
+pub mod validating

@@ -1,5 +1,3 @@
-pub mod Joined
-pub mod Owned
-pub mod ItemLists
-pub mod Listed
-pub mod StateItems
+pub mod wiring_lemmas
+pub mod wire_laws_lemmas
+pub mod loops_lemmas

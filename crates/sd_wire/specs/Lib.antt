@@ -1,3 +1,3 @@
-pub mod Mentioned
-pub mod Drawing
-pub mod Listing
+pub mod wiring
+pub mod wire_laws
+pub mod loops

@@ -1,22 +1,17 @@
-//! The nodes and edges of a graph's states, and what items do to which containers.
+//! What a graph's data imply: the nodes and edges of its states, and the loops about them.
 //!
-//! Items are drawn one after another by the five rules of `specs/Drawing.antt`, and the edges are
-//! listed by source and target (`specs/Listing.antt`). Nothing is asked of the graph: a container
-//! that stands in no list round an item has no edge. Want of memory is the one refusal; a state with
-//! more nodes than 32 bits can count comes to it too.
+//! `wiring` draws exactly the nodes and edges that its definitions have, and tells what items do to which
+//! containers. `wire_laws` has laws about them. `loops` tells which loop variables are in force in a state,
+//! and how many loops are about it. Nothing is asked of the graph; want of memory is the one refusal.
 #![tactic(auto)]
 
-mod access;
-mod drawing;
-mod items;
-mod listing;
-mod mentioned;
-mod mode;
-mod passing;
-mod uses;
+mod loops;
+mod wire_laws;
 mod wiring;
 
-pub use mentioned::{has_number, joined_mode};
-pub use mode::{Use, UseMode, do_conflict, reduction_mode};
-pub use uses::{graph_uses, output_mode};
-pub use wiring::{wire, wire_items};
+pub use loops::{leads_to, loops_about, loops_in_force};
+pub use wire_laws::order_edges_come_from_the_items_that_conflict;
+pub use wiring::{
+    Use, UseMode, do_conflict, graph_uses, has_number, joined_mode, output_mode, reduction_mode,
+    wire, wire_items,
+};

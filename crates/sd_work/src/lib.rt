@@ -1,9 +1,9 @@
 //! Residual work: what is left to do of a run, apart from graphs. `specs/` defines memories and
 //! their changes, the terms of residual work, their next moves, steps and runs by picks
-//! (`docs/SEMANTICS.md` has each in plain words). By `laws`, changes at different places commute;
-//! a run has at most one outcome, has one where its cycles of transitions pay and what it unfolds is
-//! new, and goes on until it is finished where its lists have orders and its pools memories; and work
-//! from left to right gives that of the sequential run where all is in order.
+//! (`docs/SEMANTICS.md` has each in plain words). By `laws` changes at different places commute, and a run
+//! has at most one outcome. It has one where its cycles of transitions pay and what it unfolds is new. It goes
+//! on until it is finished where its lists have orders and its pools memories. Where all is in order, work
+//! from left to right gives what the sequential run does.
 //! There is no code here but the kinds of faults.
 #![tactic(auto)]
 

@@ -41,39 +41,3 @@ impl<R: Files> Shelf for FileShelf<'_, R> {
         self.counts.read(fs::open(self.files, name), alloc, most)
     }
 }
-
-#[cfg(test)]
-mod tests {
-    use super::*;
-    use std::test::Fail;
-    use std::{env, process};
-
-    #[test]
-    fn a_file_is_read_whole_to_its_limit(rt: HostRuntime) -> Result<(), Fail> {
-        let alloc = rt.alloc();
-        let folder = env::temp_dir(&rt)?;
-        let file = format!(in alloc; "sdfg-shelf-{}", process::id(rt.process()))?;
-        let path = folder.join(alloc, file.as_str())?;
-        let content = (0..100_000u32)
-            .map(|i| (i % 251) as u8)
-            .collect::<Vec<u8>>(alloc)?;
-        fs::write(&rt, path.as_str(), content.as_slice())?;
-
-        let mut shelf = FileShelf::new(&rt);
-        for most in [100_000, 100_001, usize::MAX] {
-            let read = shelf.read(alloc, path.as_str(), most)?;
-            assert_eq!(rt; read.as_slice(), content.as_slice(), "at {most}");
-        }
-        for most in [99_999, 16_384, 0] {
-            let error = shelf.read(alloc, path.as_str(), most).err();
-            assert_eq!(rt; error, Some(ShelfError::TooLong), "at {most}");
-        }
-        fs::remove_file(&rt, path.as_str())?;
-        for missing in [path.as_str(), folder.as_str()] {
-            let error = shelf.read(alloc, missing, 100_000).err();
-            assert_eq!(rt; error, Some(ShelfError::Failed), "at {missing}");
-        }
-        assert_eq!(rt; (shelf.counts.faults, shelf.counts.overruns), (2, 3));
-        Ok(())
-    }
-}

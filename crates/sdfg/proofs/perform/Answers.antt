@@ -1,5 +1,5 @@
 use Rattle.std.proofs.Common.{refl}
-use Rattle.sd_write.proofs.SinkLemmas.{Appends-nothing}
+use Rattle.sd_report.proofs.write_lemmas.SinkLemmas.{Appends-nothing}
 use Rattle.sd_tool.specs.Ends.{no_memory}
 use Rattle.sdfg.proofs.perform.Goals as goal
 

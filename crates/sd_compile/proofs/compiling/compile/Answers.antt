@@ -3,14 +3,14 @@ use Rattle.std.proofs.lemmas.List.{length-map}
 use Rattle.std.specs.List.{AllByRecursion}
 use Rattle.std.proofs.lemmas.Grind.{common_steps}
 use Rattle.sd_graph.specs.TreeFold.{tasklet_tree}
-use Rattle.sd_tcode.specs.Emitted.{layout_of, tasklet_code}
-use Rattle.sd_op.specs.Within.{most_kept}
+use Rattle.sd_tcode.specs.tcode.Emitted.{layout_of, tasklet_code}
+use Rattle.sd_tcode.specs.op.Within.{most_kept}
 use Rattle.sd_compile.specs.Reach.{reach_all}
-use Rattle.sd_tcode.specs.Plain.{plain_of}
-use Rattle.sd_tcode.specs.Compiled.{is_plain, AreOutputs, room_of}
-use Rattle.sd_tcode.specs.CodeView.{compiled}
+use Rattle.sd_tcode.specs.tcode.Plain.{plain_of}
+use Rattle.sd_tcode.specs.tcode.Compiled.{is_plain, AreOutputs, room_of}
+use Rattle.sd_tcode.specs.tcode.CodeView.{compiled}
 use Rattle.sd_compile.proofs.Shapes.{IsRoom, IsShaped, tasklet_shaped, within_all}
-use Rattle.sd_tcode.proofs.Plains.{outputs_low}
+use Rattle.sd_tcode.proofs.tcode_lemmas.Plains.{outputs_low}
 use Rattle.sd_compile.proofs.compiling.compile.Goals as goal
 
 pub new-requires : goal.new-requires

@@ -2,8 +2,8 @@ use Rattle.std.proofs.Common.{◌≡◌, ◌∙◌, ℕ, ◌++◌, [], ◌∷◌
 use Rattle.std.proofs.lemmas.Result.{on_ok_weaker}
 use Rattle.sd_graph.specs.declared.tasklet.Value.{Value}
 use Rattle.sd_graph.specs.TreeFold.{value_tree}
-use Rattle.sd_tcode.specs.Emitted as emitted
-use Rattle.sd_op.specs.declared.op.Op.TheVariants.{Skip, Copy}
+use Rattle.sd_tcode.specs.tcode.Emitted as emitted
+use Rattle.sd_tcode.specs.declared.op.op.Op.TheVariants.{Skip, Copy}
 use Rattle.sd_compile.specs.Jumps.{with_count}
 use Rattle.sd_compile.proofs.Joined.{joined, choice_joined, is_jumped, test_counted, either_counted, condition_either}
 use Rattle.sd_compile.proofs.Values.{choice_tree}

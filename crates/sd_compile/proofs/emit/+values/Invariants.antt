@@ -1,6 +1,6 @@
 use Rattle.std.proofs.Common.{◌≡◌, ◌++◌, drop}
 use Rattle.sd_graph.specs.TreeFold.{value_trees}
-use Rattle.sd_tcode.specs.Emitted.{values_code}
+use Rattle.sd_tcode.specs.tcode.Emitted.{values_code}
 use Rattle.sd_compile.proofs.emit.+values.Given as goal
 
 -- the code so far and that of what is left is the code of all

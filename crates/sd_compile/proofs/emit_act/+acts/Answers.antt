@@ -2,9 +2,9 @@ use Rattle.std.proofs.Common.{◌≡◌, ◌∙◌, ◌++◌, ap, subst, length,
 use Rattle.std.proofs.lemmas.Result.{on_ok_weaker}
 use Rattle.sd_graph.specs.declared.tasklet.Act.{Act}
 use Rattle.sd_graph.specs.TreeFold.{value_tree, act_tree, act_trees}
-use Rattle.sd_tasklet.proofs.Acts.{when_tree}
-use Rattle.sd_tcode.specs.Emitted as emitted
-use Rattle.sd_op.specs.declared.op.Op.TheVariants.{Skip}
+use Rattle.sd_tasklet.proofs.tasklet_lemmas.Acts.{when_tree}
+use Rattle.sd_tcode.specs.tcode.Emitted as emitted
+use Rattle.sd_tcode.specs.declared.op.op.Op.TheVariants.{Skip}
 use Rattle.sd_compile.specs.Jumps.{with_count}
 use Rattle.sd_compile.proofs.Joined.{choice_joined, condition_either}
 use Rattle.sd_compile.proofs.emit_act.+acts.Goals as goal

@@ -1,6 +1,6 @@
 use Rattle.std.proofs.Common.{◌≡◌, ◌++◌, drop}
 use Rattle.sd_graph.specs.TreeFold.{act_trees}
-use Rattle.sd_tcode.specs.Emitted.{acts_code}
+use Rattle.sd_tcode.specs.tcode.Emitted.{acts_code}
 use Rattle.sd_compile.proofs.emit_act.+acts.Given as goal
 
 -- the code so far and that of what is left is the code of all

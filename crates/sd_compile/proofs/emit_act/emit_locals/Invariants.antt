@@ -1,5 +1,5 @@
 use Rattle.std.proofs.Common.{◌≡◌, ◌++◌, ◌+◌, ◌-◌}
-use Rattle.sd_tcode.specs.Emitted.{locals_code}
+use Rattle.sd_tcode.specs.tcode.Emitted.{locals_code}
 use Rattle.sd_compile.proofs.emit_act.emit_locals.Given as goal
 
 -- the code so far and that of what is left is the code of all

@@ -1,6 +1,6 @@
 use Rattle.std.proofs.Common.{drop}
 use Rattle.sd_graph.specs.TreeFold.{tasklet_tree, value_trees}
-use Rattle.sd_tcode.specs.Named.{AllNamesOf}
+use Rattle.sd_tcode.specs.tcode.Named.{AllNamesOf}
 use Rattle.sd_compile.proofs.named.+names.Given as goal
 
 -- all name what is there where those that are left do

@@ -1,6 +1,6 @@
 use Rattle.std.proofs.Common.{drop}
 use Rattle.sd_graph.specs.TreeFold.{act_trees, tasklet_tree}
-use Rattle.sd_tcode.specs.Named.{AllSetsOf}
+use Rattle.sd_tcode.specs.tcode.Named.{AllSetsOf}
 use Rattle.sd_compile.proofs.named.+sets.Given as goal
 
 -- all set what is there where those that are left do

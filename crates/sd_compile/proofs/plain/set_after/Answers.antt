@@ -1,10 +1,10 @@
 use Rattle.std.proofs.Common.{◌≡◌, ◌∙◌, ap, sym, subst, List, false}
 use Rattle.sd_graph.specs.TreeFold.{act_tree, value_tree, value_trees}
 use Rattle.sd_graph.specs.declared.tasklet.Value.{Value}
-use Rattle.sd_tasklet.proofs.Acts.{out_tree}
-use Rattle.sd_tcode.specs.Plain as plain
-use Rattle.sd_tcode.specs.Emitted.{is_scalar}
-use Rattle.sd_tcode.proofs.Plains.{sets_none}
+use Rattle.sd_tasklet.proofs.tasklet_lemmas.Acts.{out_tree}
+use Rattle.sd_tcode.specs.tcode.Plain as plain
+use Rattle.sd_tcode.specs.tcode.Emitted.{is_scalar}
+use Rattle.sd_tcode.proofs.tcode_lemmas.Plains.{sets_none}
 use Rattle.sd_compile.proofs.plain.set_after.Goals as goal
 
 pub returns-then-not-is_scalar : goal.returns-then-not-is_scalar

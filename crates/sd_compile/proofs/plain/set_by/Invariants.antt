@@ -1,6 +1,6 @@
 use Rattle.std.proofs.Common.{◌≡◌, [], drop}
 use Rattle.sd_graph.specs.TreeFold.{act_trees}
-use Rattle.sd_tcode.specs.Plain as plain
+use Rattle.sd_tcode.specs.tcode.Plain as plain
 use Rattle.sd_compile.proofs.plain.set_by.Given as goal
 
 -- what is left sets with what is set as all do

@@ -1,5 +1,5 @@
 use Rattle.std.proofs.Common.{◌≡◌, ◌≤◌, ◌+◌, drop}
-use Rattle.sd_op.specs.Within as within
+use Rattle.sd_tcode.specs.op.Within as within
 use Rattle.sd_compile.proofs.reach.most_kept.Given as goal
 
 -- with what is left it is that of all

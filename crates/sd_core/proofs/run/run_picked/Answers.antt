@@ -2,8 +2,8 @@ use Rattle.std.proofs.lemmas.Result.{IfOk-weaker}
 use Rattle.sd_work.specs.Run.{Run}
 use Rattle.sd_graph.specs.TreeFold.{graph_tree}
 use Rattle.sd_graph.specs.Unfold.{run_of}
-use Rattle.sd_race.specs.Pairs.{IsGraphAccepted}
-use Rattle.sd_validity.specs.Valid.{IsValid}
+use Rattle.sd_race.specs.race.Pairs.{IsGraphAccepted}
+use Rattle.sd_validity.specs.rules.Valid.{IsValid}
 use Rattle.sd_seq.specs.RunEnd.{outcome_of}
 use Rattle.sd_core.specs.Interleaving.{EndsAsSequential}
 use Rattle.sd_core.proofs.Interleaved.{interleaved}

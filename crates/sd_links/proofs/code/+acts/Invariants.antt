@@ -1,6 +1,6 @@
 use Rattle.std.proofs.Common.{◌≡◌, drop}
 use Rattle.sd_graph.specs.TreeFold.{act_trees, tasklet_tree}
-use Rattle.sd_validity.specs.CodeNames as names
+use Rattle.sd_validity.specs.rules.CodeNames as names
 use Rattle.sd_links.proofs.code.+acts.Given as goal
 
 -- those left are known, with the locals in force so far, where all are

@@ -1,6 +1,6 @@
 use Rattle.std.proofs.Common.{◌≡◌, drop}
 use Rattle.sd_graph.specs.TreeFold.{tasklet_tree, value_trees}
-use Rattle.sd_validity.specs.CodeNames as names
+use Rattle.sd_validity.specs.rules.CodeNames as names
 use Rattle.sd_links.proofs.code.+values.Given as goal
 
 -- those left are known where all are

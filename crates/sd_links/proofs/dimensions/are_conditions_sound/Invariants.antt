@@ -2,7 +2,7 @@ use Rattle.std.proofs.Common.{◌≡◌, drop, map}
 use Rattle.std.specs.List.{list_all}
 use Rattle.sd_graph.specs.PlainTree.{ExitTree}
 use Rattle.sd_graph.specs.TreeFold.{exit_tree}
-use Rattle.sd_validity.specs.Dimensions as dimensions
+use Rattle.sd_validity.specs.rules.Dimensions as dimensions
 use Rattle.sd_links.proofs.dimensions.are_conditions_sound.Given as goal
 
 -- those left are sound where all are

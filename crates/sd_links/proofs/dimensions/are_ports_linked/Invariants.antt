@@ -1,5 +1,5 @@
 use Rattle.std.proofs.Common.{◌≡◌, length}
-use Rattle.sd_validity.specs.Dimensions as dimensions
+use Rattle.sd_validity.specs.rules.Dimensions as dimensions
 use Rattle.sd_links.proofs.dimensions.are_ports_linked.Given as goal
 
 -- those left are linked where all are

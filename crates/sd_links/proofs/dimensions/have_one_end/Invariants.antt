@@ -1,6 +1,6 @@
 use Rattle.std.proofs.Common.{◌≡◌, drop}
 use Rattle.std.specs.List.{list_all}
-use Rattle.sd_validity.specs.Dimensions as dimensions
+use Rattle.sd_validity.specs.rules.Dimensions as dimensions
 use Rattle.sd_links.proofs.dimensions.have_one_end.Given as goal
 
 -- those left have one end where all have

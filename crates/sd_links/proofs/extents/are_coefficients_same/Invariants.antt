@@ -1,6 +1,6 @@
 use Rattle.std.proofs.Common.{◌≡◌, ℕ, ℤ, drop, map}
 use Rattle.std.specs.List.{list_all}
-use Rattle.sd_validity.specs.Shapes as shapes
+use Rattle.sd_validity.specs.rules.Shapes as shapes
 use Rattle.sd_links.specs.ExtentOf.{extent_of}
 use Rattle.sd_links.proofs.extents.are_coefficients_same.Given as goal
 

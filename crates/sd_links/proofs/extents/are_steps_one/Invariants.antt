@@ -1,5 +1,5 @@
 use Rattle.std.proofs.Common.{◌≡◌, drop, map}
-use Rattle.sd_validity.specs.Shapes as shapes
+use Rattle.sd_validity.specs.rules.Shapes as shapes
 use Rattle.sd_links.proofs.extents.are_steps_one.Given as goal
 
 -- those left have the step 1 where all have

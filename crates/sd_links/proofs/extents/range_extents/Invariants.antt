@@ -1,5 +1,5 @@
 use Rattle.std.proofs.Common.{◌≡◌, take, map}
-use Rattle.sd_validity.specs.Shapes as shapes
+use Rattle.sd_validity.specs.rules.Shapes as shapes
 use Rattle.sd_links.specs.ExtentOf.{extent_of}
 use Rattle.sd_links.proofs.extents.range_extents.Given as goal
 

@@ -1,5 +1,5 @@
 use Rattle.std.proofs.Common.{◌≡◌, drop, map}
-use Rattle.sd_validity.specs.MovedShapes as moved
+use Rattle.sd_validity.specs.rules.MovedShapes as moved
 use Rattle.sd_links.proofs.moved.are_steps_same.Given as goal
 
 -- those left have the same steps where all have

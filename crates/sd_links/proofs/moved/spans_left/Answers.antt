@@ -1,6 +1,6 @@
 use Rattle.std.proofs.Common.{◌≡◌, ℕ, ◌+◌, Bor, Option, List, ◌++◌, map, take, drop, ap, sym, ◌∙◌}
 use Rattle.sd_range.specs.declared.range.Range.{Range}
-use Rattle.sd_validity.specs.MovedShapes as moved
+use Rattle.sd_validity.specs.rules.MovedShapes as moved
 use Rattle.sd_links.proofs.Pairs.{all_behind, left_mapped}
 use Rattle.sd_links.proofs.moved.spans_left.Goals as goal
 

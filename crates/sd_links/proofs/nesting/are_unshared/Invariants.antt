@@ -1,5 +1,5 @@
 use Rattle.std.proofs.Common.{◌≡◌, length}
-use Rattle.sd_validity.specs.NestedLinks as nested
+use Rattle.sd_validity.specs.rules.NestedLinks as nested
 use Rattle.sd_links.proofs.nesting.are_unshared.Given as goal
 
 -- those left are unshared where all are

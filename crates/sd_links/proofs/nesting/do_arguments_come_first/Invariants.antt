@@ -1,6 +1,6 @@
 use Rattle.std.proofs.Common.{◌≡◌, map}
 use Rattle.sd_graph.specs.TreeFold.{named_container}
-use Rattle.sd_validity.specs.NestedLinks as nested
+use Rattle.sd_validity.specs.rules.NestedLinks as nested
 use Rattle.sd_links.proofs.nesting.do_arguments_come_first.Given as goal
 
 -- the arguments that are left come first among the containers that are left where all do

@@ -1,6 +1,6 @@
 use Rattle.std.proofs.Common.{◌≡◌, drop, map}
 use Rattle.sd_graph.specs.TreeFold.{named_container}
-use Rattle.sd_validity.specs.NestedLinks as nested
+use Rattle.sd_validity.specs.rules.NestedLinks as nested
 use Rattle.sd_links.proofs.nesting.have_shapes.Given as goal
 
 -- those left have their shapes where all have

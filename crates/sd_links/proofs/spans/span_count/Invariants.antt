@@ -1,5 +1,5 @@
 use Rattle.std.proofs.Common.{◌≡◌, ◌+◌, ◌≤◌, drop, length}
-use Rattle.sd_validity.specs.Parts.{spans_of}
+use Rattle.sd_validity.specs.rules.Parts.{spans_of}
 use Rattle.sd_links.proofs.spans.span_count.Given as goal
 
 -- those so far, with those of the dimensions that are left, are all

@@ -1,6 +1,6 @@
 use Rattle.std.proofs.Common.{◌≡◌, ◌++◌, drop}
 use Rattle.sd_graph.specs.TreeFold.{item_trees, state_trees}
-use Rattle.sd_validity.specs.NestedLinks as nested
+use Rattle.sd_validity.specs.rules.NestedLinks as nested
 use Rattle.sd_links.proofs.written.+writing.Given as goal
 
 -- those so far, with those of the items that are left, are all

@@ -1,5 +1,5 @@
 use Rattle.std.proofs.Common.{◌≡◌, ◌++◌, take, map}
-use Rattle.sd_validity.specs.Parts.{container_of}
+use Rattle.sd_validity.specs.rules.Parts.{container_of}
 use Rattle.sd_links.proofs.written.push_containers.Given as goal
 
 -- those so far

@@ -1,5 +1,5 @@
 use Rattle.std.proofs.Common.{◌≡◌, ◌++◌, drop}
-use Rattle.sd_validity.specs.NestedLinks as nested
+use Rattle.sd_validity.specs.rules.NestedLinks as nested
 use Rattle.sd_links.proofs.written.push_through.Given as goal
 
 -- those so far, with those of the links that are left, are all

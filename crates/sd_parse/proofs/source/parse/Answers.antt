@@ -1,8 +1,8 @@
 use Rattle.std.proofs.Common.{rules, ◌≡◌, Ok, Err}
 use Rattle.sd_lex.specs.TreeFold.{program_of}
-use Rattle.sd_source.specs.SourceReading.{reads}
-use Rattle.sd_readable.proofs.Fields.{well_formed, levels_of_program}
-use Rattle.sd_told.proofs.Told.{number_is, line_is}
+use Rattle.sd_source.specs.source.SourceReading.{reads}
+use Rattle.sd_read.proofs.readable_lemmas.Fields.{well_formed, levels_of_program}
+use Rattle.sd_read.proofs.told_lemmas.Told.{number_is, line_is}
 use Rattle.sd_parse.proofs.source.parse.Goals as goal
 
 -- what was read is well formed

@@ -1,7 +1,7 @@
 use Rattle.std.proofs.Common.{◌≡◌, drop, map}
 use Rattle.std.specs.List.{list_any}
 use Rattle.sd_lex.specs.TreeFold.{call_argument_of}
-use Rattle.sd_refusal.specs.Uses as uses
+use Rattle.sd_uses.specs.Uses as uses
 use Rattle.sd_refusal.specs.NotAffine.{any_bound}
 use Rattle.sd_refusal.proofs.bound_test.any_argument_passes.Given as goal
 

@@ -1,6 +1,6 @@
 use Rattle.std.proofs.Common.{◌≡◌, ◌++◌, drop}
 use Rattle.sd_graph.specs.TreeFold.{item_trees}
-use Rattle.sd_validity.specs.NamesInForce as names
+use Rattle.sd_validity.specs.rules.NamesInForce as names
 use Rattle.sd_rules.proofs.held.+holding.Given as goal
 
 -- those so far, with those of the items that are left, are all

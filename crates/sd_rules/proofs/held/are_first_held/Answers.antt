@@ -1,6 +1,6 @@
 use Rattle.std.proofs.Common.{map, sym, ◌∙◌}
 use Rattle.sd_graph.specs.TreeFold.{named_container}
-use Rattle.sd_validity.specs.NamesInForce as names
+use Rattle.sd_validity.specs.rules.NamesInForce as names
 use Rattle.sd_rules.proofs.Below.{all_more, fails_below}
 use Rattle.sd_rules.proofs.held.are_first_held.Goals as goal
 

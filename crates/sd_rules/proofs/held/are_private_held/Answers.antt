@@ -5,7 +5,7 @@ use Rattle.sd_graph.specs.LoopScope.{numbers_below}
 use Rattle.sd_graph.specs.TreeFold.{named_container, state_trees}
 use Rattle.sd_graph.specs.declared.graph.Sdfg.{out-Sdfg}
 use Rattle.sd_graph.specs.declared.graph.State.{State}
-use Rattle.sd_validity.specs.NamesInForce as names
+use Rattle.sd_validity.specs.rules.NamesInForce as names
 use Rattle.sd_rules.proofs.PrivateHeld.{held_opened}
 use Rattle.sd_rules.proofs.held.are_private_held.Goals as goal
 

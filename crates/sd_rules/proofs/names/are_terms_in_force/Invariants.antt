@@ -1,7 +1,7 @@
 use Rattle.std.proofs.Common.{◌≡◌, drop, ℕ, ℤ}
 use Rattle.std.specs.List.{list_all}
-use Rattle.sd_places.specs.PlaceOf.{place_of}
-use Rattle.sd_validity.specs.NamesInForce as names
+use Rattle.sd_places.specs.places.PlaceOf.{place_of}
+use Rattle.sd_validity.specs.rules.NamesInForce as names
 use Rattle.sd_rules.proofs.names.are_terms_in_force.Given as goal
 
 -- those left are in force where all are

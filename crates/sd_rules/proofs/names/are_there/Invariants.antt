@@ -1,7 +1,7 @@
 use Rattle.std.proofs.Common.{◌≡◌, drop}
 use Rattle.std.specs.List.{list_all}
 use Rattle.sd_graph.specs.TreeFold.{graph_tree}
-use Rattle.sd_validity.specs.NamesInForce as names
+use Rattle.sd_validity.specs.rules.NamesInForce as names
 use Rattle.sd_rules.proofs.names.are_there.Given as goal
 
 -- those left are there where all are

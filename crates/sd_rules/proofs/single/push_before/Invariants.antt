@@ -1,7 +1,7 @@
 use Rattle.std.proofs.Common.{◌≡◌, ◌++◌, drop, map}
-use Rattle.sd_places.specs.PlaceOf.{place_of}
+use Rattle.sd_places.specs.places.PlaceOf.{place_of}
 use Rattle.sd_rules.specs.Named.{numbers_of}
-use Rattle.sd_validity.specs.NamesInForce as names
+use Rattle.sd_validity.specs.rules.NamesInForce as names
 use Rattle.sd_rules.proofs.single.push_before.Given as goal
 
 -- those so far, with those of the places that are left, are all

@@ -1,5 +1,5 @@
 use Rattle.std.proofs.Common.{◌≡◌, ◌++◌, take}
-use Rattle.sd_validity.specs.Places.{param_numbers}
+use Rattle.sd_validity.specs.rules.Places.{param_numbers}
 use Rattle.sd_rules.proofs.single.push_params.Given as goal
 
 -- those so far

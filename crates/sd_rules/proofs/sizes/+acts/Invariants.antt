@@ -1,6 +1,6 @@
 use Rattle.std.proofs.Common.{◌≡◌, drop}
 use Rattle.sd_graph.specs.TreeFold.{act_trees}
-use Rattle.sd_validity.specs.SizesGone as sizes
+use Rattle.sd_validity.specs.rules.SizesGone as sizes
 use Rattle.sd_rules.proofs.sizes.+acts.Given as goal
 
 -- those left have no size symbol where all have none

@@ -1,6 +1,6 @@
 use Rattle.std.proofs.Common.{◌≡◌, drop}
 use Rattle.std.specs.List.{list_all}
-use Rattle.sd_validity.specs.Parts.{is_empty}
+use Rattle.sd_validity.specs.rules.Parts.{is_empty}
 use Rattle.sd_rules.proofs.sizes.are_constant.Given as goal
 
 -- those left are constants where all are

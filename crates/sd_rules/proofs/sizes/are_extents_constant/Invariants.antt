@@ -1,7 +1,7 @@
 use Rattle.std.proofs.Common.{◌≡◌, map, ℕ, List}
 use Rattle.std.specs.List.{list_all}
 use Rattle.sd_graph.specs.TreeFold.{named_container}
-use Rattle.sd_validity.specs.Parts.{is_empty}
+use Rattle.sd_validity.specs.rules.Parts.{is_empty}
 use Rattle.sd_graph.specs.declared.container.Container.{Container}
 use Rattle.sd_rules.proofs.sizes.are_extents_constant.Given as goal
 

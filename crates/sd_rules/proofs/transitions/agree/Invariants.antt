@@ -1,5 +1,5 @@
 use Rattle.std.proofs.Common.{◌≡◌, drop}
-use Rattle.sd_validity.specs.Transitions as transitions
+use Rattle.sd_validity.specs.rules.Transitions as transitions
 use Rattle.sd_rules.proofs.transitions.agree.Given as goal
 
 -- those left agree with those so far where all agree

@@ -1,7 +1,7 @@
 use Rattle.std.proofs.Common.{◌≡◌, drop, map}
 use Rattle.std.specs.List.{list_all}
 use Rattle.sd_graph.specs.TreeFold.{exit_tree, state_trees}
-use Rattle.sd_validity.specs.Transitions as transitions
+use Rattle.sd_validity.specs.rules.Transitions as transitions
 use Rattle.sd_rules.proofs.transitions.are_exits_right.Given as goal
 
 -- those left lead where they may where all do

@@ -1,6 +1,6 @@
 use Rattle.std.proofs.Common.{◌≡◌, ◌++◌, drop, map}
-use Rattle.sd_places.specs.PlaceOf.{place_of}
-use Rattle.sd_validity.specs.Transitions as transitions
+use Rattle.sd_places.specs.places.PlaceOf.{place_of}
+use Rattle.sd_validity.specs.rules.Transitions as transitions
 use Rattle.sd_rules.proofs.transitions.begins_before.Given as goal
 
 -- those so far, with those of the places that are left, are all

@@ -2,7 +2,7 @@ use Rattle.std.proofs.Common.{◌<◌, ◌≤◌, List, length, map, ap, sym, �
 use Rattle.sd_graph.specs.TreeFold.{exit_tree}
 use Rattle.sd_graph.specs.declared.exit.Exit.{Exit}
 use Rattle.sd_graph.specs.declared.graph.State.{State, out-State}
-use Rattle.sd_loops.proofs.States.{exits_opened}
+use Rattle.sd_wire.proofs.loops_lemmas.States.{exits_opened}
 use Rattle.sd_rules.proofs.States.{exits_beyond}
 use Rattle.sd_rules.proofs.transitions.exits_at.Goals as goal
 

@@ -1,6 +1,6 @@
 use Rattle.std.proofs.Common.{◌≡◌, drop}
 use Rattle.std.specs.List.{list_all}
-use Rattle.sd_validity.specs.Transitions as transitions
+use Rattle.sd_validity.specs.rules.Transitions as transitions
 use Rattle.sd_rules.proofs.transitions.is_agreed.Given as goal
 
 -- those left agree where all do

@@ -1,7 +1,7 @@
 use Rattle.std.proofs.Common.{◌≡◌, ◌++◌, drop, map}
 use Rattle.std.specs.List.{flat_map}
 use Rattle.sd_graph.specs.TreeFold.{exit_tree}
-use Rattle.sd_validity.specs.Transitions as transitions
+use Rattle.sd_validity.specs.rules.Transitions as transitions
 use Rattle.sd_rules.proofs.transitions.push_begins.Given as goal
 
 -- those so far, with those of the transitions that are left, are all

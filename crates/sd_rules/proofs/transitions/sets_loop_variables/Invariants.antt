@@ -1,7 +1,7 @@
 use Rattle.std.proofs.Common.{◌≡◌, drop}
 use Rattle.std.specs.List.{list_all}
 use Rattle.sd_graph.specs.TreeFold.{exit_tree, state_trees}
-use Rattle.sd_validity.specs.Transitions as transitions
+use Rattle.sd_validity.specs.rules.Transitions as transitions
 use Rattle.sd_rules.proofs.transitions.sets_loop_variables.Given as goal
 
 -- those left are variables of loops where all are

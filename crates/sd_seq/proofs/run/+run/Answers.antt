@@ -9,20 +9,20 @@ use Rattle.sd_graph.specs.TreeFold.{graph_tree, kind_tree, item_trees, named_con
 use Rattle.sd_graph.specs.declared.graph.ItemKind.TheViews.{out-Sdfg}
 use Rattle.sd_graph.specs.TreeParts.{containers_of}
 use Rattle.sd_graph.specs.Unfold.{run_memory}
-use Rattle.sd_machine.specs.ComesTo.{IsEnd}
+use Rattle.sd_mem.specs.machine.ComesTo.{IsEnd}
 use Rattle.sd_work.specs.BigStep.{Reached}
-use Rattle.sd_machine.specs.Coming.{kind_coming, map_coming, points_coming, state_context, from_state}
-use Rattle.sd_scope.specs.Standing.{context_of, opening_reach, IsInside}
-use Rattle.sd_row.proofs.Comes.{IsLeft, as_finished}
-use Rattle.sd_tasks.proofs.Items.{item_more, item_stop}
+use Rattle.sd_mem.specs.machine.Coming.{kind_coming, map_coming, points_coming, state_context, from_state}
+use Rattle.sd_scope.specs.scope.Standing.{context_of, opening_reach, IsInside}
+use Rattle.sd_row.proofs.row_lemmas.Comes.{IsLeft, as_finished}
+use Rattle.sd_rows.proofs.tasks_lemmas.Items.{item_more, item_stop}
 use Rattle.sd_seq.proofs.Items.{item_leads}
 use Rattle.sd_seq.proofs.ItemKinds.{map_kind, consume_kind}
-use Rattle.sd_rows.proofs.Points.{points_begin, point_first, point_ends, point_more, point_stop}
-use Rattle.sd_consume.specs.Taking.{consume_coming, takes_coming}
-use Rattle.sd_consume.proofs.Takes.{take_there, oldest_there, no_value, takes_end, element_ends, element_more, element_stop}
+use Rattle.sd_rows.proofs.rows_lemmas.Points.{points_begin, point_first, point_ends, point_more, point_stop}
+use Rattle.sd_rows.specs.consume.Taking.{consume_coming, takes_coming}
+use Rattle.sd_rows.proofs.consume_lemmas.Takes.{take_there, oldest_there, no_value, takes_end, element_ends, element_more, element_stop}
 use Rattle.sd_seq.proofs.NestedRuns.{nested_ends}
-use Rattle.sd_instance.proofs.Bodies.{containers_in}
-use Rattle.sd_instance.proofs.Matched.{none_so}
+use Rattle.sd_row.proofs.instance_lemmas.Bodies.{containers_in}
+use Rattle.sd_row.proofs.instance_lemmas.Matched.{none_so}
 use Rattle.sd_seq.proofs.Transitions.{items_lead, graph_stop, graph_nowhere, graph_fault, graph_spent, graph_on, graph_falls, graph_over, as_many, values_begin}
 use denote.Param.Weighed.{most, at_most}
 use Rattle.sd_graph.proofs.graph.Item.TheLaws.{the_size}

@@ -3,11 +3,11 @@ use Rattle.std.specs.Option.{MatchOption}
 use Rattle.std.specs.Bool.{⊤}
 use Rattle.sd_graph.specs.TreeFold.{graph_tree, item_trees}
 use Rattle.sd_graph.specs.TreeParts.{containers_of}
-use Rattle.sd_machine.specs.Coming.{items_coming, map_coming, points_coming, from_state}
-use Rattle.sd_scope.specs.Standing.{context_of, opening_reach, IsInside}
-use Rattle.sd_tasks.specs.Runners.{AreRunnersOf}
-use Rattle.sd_consume.specs.Taking.{consume_coming, takes_coming}
-use Rattle.sd_row.proofs.Comes.{IsLeft}
+use Rattle.sd_mem.specs.machine.Coming.{items_coming, map_coming, points_coming, from_state}
+use Rattle.sd_scope.specs.scope.Standing.{context_of, opening_reach, IsInside}
+use Rattle.sd_rows.specs.tasks.Runners.{AreRunnersOf}
+use Rattle.sd_rows.specs.consume.Taking.{consume_coming, takes_coming}
+use Rattle.sd_row.proofs.row_lemmas.Comes.{IsLeft}
 use Rattle.sd_seq.proofs.States.{measure}
 use Rattle.sd_seq.proofs.run.+run.Given as goal
 

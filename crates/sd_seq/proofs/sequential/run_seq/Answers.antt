@@ -4,7 +4,7 @@ use Rattle.sd_work.specs.Run.{Left, Sequential}
 use Rattle.sd_graph.specs.declared.place.Place.{Place}
 use Rattle.sd_graph.specs.TreeFold.{graph_tree}
 use Rattle.sd_graph.specs.Unfold.{run_of}
-use Rattle.sd_machine.specs.declared.end.End.{End}
+use Rattle.sd_mem.specs.declared.machine.end.End.{End}
 use Rattle.sd_seq.proofs.WholeRuns.{left_end, run_ends}
 use Rattle.sd_seq.proofs.sequential.run_seq.Goals as goal
 

@@ -1,6 +1,6 @@
 use Rattle.std.proofs.Common.{◌≡◌, [], ap, rules}
 use Rattle.sd_seq.specs.RunEnd.{outcome_of}
-use Rattle.sd_write.specs.RunText.{steps_told}
+use Rattle.sd_report.specs.write.RunText.{steps_told}
 use Rattle.sd_tool.specs.Workspace.{work_of}
 use Rattle.sd_tool.proofs.Ended.{says_run}
 use Rattle.sd_tool.proofs.ran.run.Goals as goal

@@ -1,5 +1,5 @@
 use Rattle.sd_seq.specs.RunEnd.{outcome_of}
-use Rattle.sd_step.specs.Step.{steps_of}
+use Rattle.sd_report.specs.stepping.Step.{steps_of}
 use Rattle.sd_words.specs.Command.{step_of}
 use Rattle.sd_tool.specs.Workspace.{work_of}
 use Rattle.sd_tool.proofs.Ended.{says_step}

@@ -4,10 +4,10 @@ use Rattle.sd_work.specs.BigStep.{Reached}
 use Rattle.sd_work.specs.WellFormed.{IsWellFormed}
 use Rattle.sd_graph.specs.TreeFold.{graph_tree}
 use Rattle.sd_graph.specs.TreeParts.{containers_of}
-use Rattle.sd_scope.specs.Standing.{opening_reach}
-use Rattle.sd_tree.specs.Standing.{run_left}
-use Rattle.sd_left.specs.Kept.{run_kept}
-use Rattle.sd_left.specs.Waits.{is_run_counted}
+use Rattle.sd_scope.specs.scope.Standing.{opening_reach}
+use Rattle.sd_left.specs.tree.Standing.{run_left}
+use Rattle.sd_left.specs.left.Kept.{run_kept}
+use Rattle.sd_left.specs.left.Waits.{is_run_counted}
 use Rattle.sd_core.proofs.Machines.{opening-formed, opened}
 use Rattle.sd_core.proofs.machine.Machine.new.Goals as goal
 

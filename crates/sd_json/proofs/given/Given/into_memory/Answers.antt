@@ -5,7 +5,7 @@ use Rattle.sd_graph.specs.InPlace.{ArgumentsComeFirst}
 use Rattle.sd_graph.specs.GraphMemory.{IsMemoryOf, AreArgumentsGiven}
 use Rattle.sd_graph.proofs.TreeLemmas.{graph_opened}
 use Rattle.sd_graph.proofs.Openings.{opens}
-use Rattle.sd_mem.specs.GraphContents.{opened_with}
+use Rattle.sd_mem.specs.mem.GraphContents.{opened_with}
 use Rattle.sd_json.specs.GivenMemory as definition
 use Rattle.sd_json.proofs.Prefixes.{arguments_given}
 use Rattle.sd_json.proofs.given.Given.into_memory.Goals as goal

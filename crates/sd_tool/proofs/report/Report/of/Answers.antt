@@ -1,6 +1,6 @@
 use Rattle.std.proofs.Common.{sym, subst}
-use Rattle.sd_validity.specs.Valid.{IsValid}
-use Rattle.sd_validity.proofs.UpwardsLemmas.{leads_upwards}
+use Rattle.sd_validity.specs.rules.Valid.{IsValid}
+use Rattle.sd_validity.proofs.rules_lemmas.UpwardsLemmas.{leads_upwards}
 use Rattle.sd_tool.specs.Work.{Work}
 use Rattle.sd_tool.specs.Workspace.{work_of}
 use Rattle.sd_tool.proofs.Ended.{says_print, says_check}

@@ -1,6 +1,0 @@
-use Rattle.std.proofs.Common.{◌≡◌, take}
-use Rattle.sd_accesses.proofs.access.bounds_copied.Given as goal
-
--- those so far
-abbrev pub invariant-loop-one : goal.invariant-loop-one
-invariant-loop-one l = l.copy.items ≡ take l.one-index l.bounds

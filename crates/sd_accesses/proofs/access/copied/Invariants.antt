@@ -1,6 +1,0 @@
-use Rattle.std.proofs.Common.{◌≡◌, take}
-use Rattle.sd_accesses.proofs.access.copied.Given as goal
-
--- those so far
-abbrev pub invariant-loop-access : goal.invariant-loop-access
-invariant-loop-access l = l.copy.items ≡ take l.access-index l.accesses

@@ -1,7 +1,0 @@
-use Rattle.std.proofs.Common.{◌≡◌, drop}
-use Rattle.sd_prop.specs.Scopes.{scope_with}
-use Rattle.sd_accesses.proofs.depth_first.scope_with.Given as goal
-
--- it is that among those that are left
-abbrev pub invariant-loop-scope : goal.invariant-loop-scope
-invariant-loop-scope l = scope_with l.path l.scopes ≡ scope_with l.path (drop l.scope-index l.scopes)

@@ -1,8 +1,0 @@
-use Rattle.std.proofs.Common.{◌≡◌, drop}
-use Rattle.std.specs.List.{list_any}
-use Rattle.sd_prop.specs.Joined.{is_like}
-use Rattle.sd_accesses.proofs.joining.has_like.Given as goal
-
--- one of those that are left is, if any
-abbrev pub invariant-loop-other : goal.invariant-loop-other
-invariant-loop-other l = list_any (is_like l.access) l.known ≡ list_any (is_like l.access) (drop l.other-index l.known)

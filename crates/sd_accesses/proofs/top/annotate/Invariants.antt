@@ -1,7 +1,0 @@
-use Rattle.std.proofs.Common.{◌≡◌, take, map}
-use Rattle.sd_prop.specs.Joined.{propagated}
-use Rattle.sd_accesses.proofs.top.annotate.Given as goal
-
--- those so far
-abbrev pub invariant-loop-scope : goal.invariant-loop-scope
-invariant-loop-scope l = l.all.items ≡ map (λ scope. (scope.path, propagated scope)) (take l.scope-index l.scope-items)

@@ -1,8 +1,0 @@
--- What the body of a scope is done for, as the definitions have it.
-use Rattle.sd_prop.specs.Scopes.{Over, points, elements}
-use Rattle.sd_accesses.specs.declared.scope.Over as kept
-use Rattle.sd_accesses.specs.declared.scope.Over.TheVariants.{Points, Elements}
-
-abbrev pub over_of : kept.Over → Over
-over_of (Points params) = points params.items
-over_of Elements = elements

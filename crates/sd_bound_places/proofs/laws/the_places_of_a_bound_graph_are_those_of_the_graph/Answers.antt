@@ -1,5 +1,0 @@
-use Rattle.sd_bound_places.proofs.BoundPlaces.{graph_bound}
-use Rattle.sd_bound_places.proofs.laws.the_places_of_a_bound_graph_are_those_of_the_graph.Goals as goal
-
-pub returns : goal.returns
-returns c = graph_bound

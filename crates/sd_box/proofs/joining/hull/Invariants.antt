@@ -1,7 +1,0 @@
-use Rattle.std.proofs.Common.{◌≡◌, ◌++◌, drop, map}
-use Rattle.sd_box.specs.Hull as definition
-use Rattle.sd_box.proofs.joining.hull.Given as goal
-
--- the dimensions so far stand before the hull of those that are left
-abbrev pub invariant-loop-dimension : goal.invariant-loop-dimension
-invariant-loop-dimension l = l.all.items ++ definition.hull (drop l.dimension l.extents) (map (drop l.dimension) l.boxes) ≡ definition.hull l.extents l.boxes

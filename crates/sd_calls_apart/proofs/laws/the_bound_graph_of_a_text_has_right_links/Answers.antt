@@ -1,5 +1,0 @@
-use Rattle.sd_calls_apart.proofs.Graphs.{links_right}
-use Rattle.sd_calls_apart.proofs.laws.the_bound_graph_of_a_text_has_right_links.Goals as goal
-
-pub returns : goal.returns
-returns c = links_right

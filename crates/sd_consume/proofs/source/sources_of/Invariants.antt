@@ -1,8 +1,0 @@
-use Rattle.std.proofs.Common.{take}
-use Rattle.std.specs.List.{AllZip}
-use Rattle.sd_consume.specs.Own.{IsSource}
-use Rattle.sd_consume.proofs.source.sources_of.Given as goal
-
--- the sources so far
-abbrev pub invariant-loop-track : goal.invariant-loop-track
-invariant-loop-track l = AllZip (IsSource l.element) (take l.track-index l.reads) l.sources.items

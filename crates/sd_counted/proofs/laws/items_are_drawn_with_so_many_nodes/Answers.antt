@@ -1,5 +1,0 @@
-use Rattle.sd_counted.proofs.DrawnNodes.{items_drawn}
-use Rattle.sd_counted.proofs.laws.items_are_drawn_with_so_many_nodes.Goals as goal
-
-pub returns : goal.returns
-returns c = items_drawn

@@ -1,5 +1,0 @@
-use Rattle.sd_elab_laws.proofs.LoopsClosed.{program_enters_loops_at_begins}
-use Rattle.sd_elab_laws.proofs.entered.the_graph_of_a_program_enters_loops_at_their_begins.Goals as goal
-
-pub returns : goal.returns
-returns c = program_enters_loops_at_begins

@@ -1,5 +1,0 @@
-use Rattle.sd_elab_laws.proofs.StatesInForce.{program_names_in_force}
-use Rattle.sd_elab_laws.proofs.in_force.the_graph_of_a_program_names_what_is_in_force.Goals as goal
-
-pub returns : goal.returns
-returns c = program_names_in_force

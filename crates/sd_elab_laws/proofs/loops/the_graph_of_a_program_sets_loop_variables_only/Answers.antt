@@ -1,5 +1,0 @@
-use Rattle.sd_elab_laws.proofs.LoopShapes.{program_sets_loop_variables_only}
-use Rattle.sd_elab_laws.proofs.loops.the_graph_of_a_program_sets_loop_variables_only.Goals as goal
-
-pub returns : goal.returns
-returns c = program_sets_loop_variables_only

@@ -1,5 +1,0 @@
-use Rattle.sd_even.proofs.Scalar.{one_element, no_extents}
-use Rattle.sd_even.proofs.laws.a_scalar_subset_has_one_element.Goals as goal
-
-pub returns : goal.returns
-returns c = record { element = one_element; extents = no_extents }

@@ -1,5 +1,0 @@
-use Rattle.sd_even.proofs.Counted.{counted_at, counted_behind}
-use Rattle.sd_even.proofs.laws.numbers_of_a_range_are_at_equal_distances.Goals as goal
-
-pub returns : goal.returns
-returns c = record { number = counted_at; others = counted_behind }

@@ -1,0 +1,1 @@
+pub use Rattle.sd_fire.specs.advance.Right

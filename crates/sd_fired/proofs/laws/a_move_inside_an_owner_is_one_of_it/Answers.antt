@@ -1,5 +1,0 @@
-use Rattle.sd_fired.proofs.Owners.{inside-point, inside-element, inside-run}
-use Rattle.sd_fired.proofs.laws.a_move_inside_an_owner_is_one_of_it.Goals as goal
-
-pub returns : goal.returns
-returns c = record { point = inside-point; element = inside-element; run = inside-run }

@@ -1,8 +1,0 @@
-use Rattle.std.proofs.Common.{◌≡◌, ◌++◌, take, map, codes, string_bytes}
-use Rattle.std.specs.List.{flat_map}
-use Rattle.sd_graph_text.specs.SubsetText.{dim_text}
-use Rattle.sd_graph_text.proofs.subset.push_dims.Given as goal
-
--- what is added so far
-abbrev pub invariant-loop-other : goal.invariant-loop-other
-invariant-loop-other l = string_bytes l.text ≡ string_bytes l.initial.text ++ flat_map (λ other. codes ", " ++ dim_text (map string_bytes l.names) l.order other) (take l.other-index l.others)

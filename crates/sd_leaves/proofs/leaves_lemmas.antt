@@ -1,0 +1,11 @@
+pub mod CellLists
+pub mod Conditions
+pub mod Containers
+pub mod Depths
+pub mod Doing
+pub mod EffectSteps
+pub mod Ends
+pub mod Instances
+pub mod Lists
+pub mod Places
+pub mod ReadValues

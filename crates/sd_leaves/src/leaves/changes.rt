@@ -1,0 +1,59 @@
+//! Changes of elements, one by one: each gives the fault that it comes to, if any.
+ghost use Rattle.std.specs.Prelude.{[], ◌∷◌, map, option_map};
+ghost use Rattle.sd_work.specs.Leaf.{write_value};
+ghost use Rattle.sd_mem.specs.machine.Stack.{reference_of};
+ghost use Rattle.sd_leaves.specs.leaves.Done.{IsDone, performing};
+ghost use Rattle.sd_leaves.specs.leaves.Cells.{writing, transferring};
+
+use sd_graph::FaultKind;
+use sd_mem::{Cell, Machine};
+use sd_num::Resolution;
+
+/// Writes a value to an element, where that is inside.
+pub(crate) fn write(
+    value: i64,
+    to: Option<Cell>,
+    by: Option<Resolution>,
+    machine: &mut Machine,
+) -> Option<FaultKind>
+    ensures { IsDone (performing (write_value value (option_map reference_of to) by ∷ [])) machine.old result machine.new }
+{
+    let Some(to) = to else {
+        return Some(FaultKind::Subscript);
+    };
+    machine.write(to, by, value);
+    None
+}
+
+/// Reads an element and writes its value to another one, where both are inside.
+pub(crate) fn transfer(
+    from: Option<Cell>,
+    to: Option<Cell>,
+    by: Option<Resolution>,
+    machine: &mut Machine,
+) -> Option<FaultKind>
+    ensures { IsDone (performing (transferring by (from, to) ∷ [])) machine.old result machine.new }
+{
+    let Some(from) = from else {
+        return Some(FaultKind::Subscript);
+    };
+    let value = machine.look(from);
+    write(value, to, by, machine)
+}
+
+/// Writes a value to each of the elements, one after another.
+pub(crate) fn write_all(
+    value: i64,
+    targets: &[Option<Cell>],
+    machine: &mut Machine,
+) -> Option<FaultKind>
+    ensures { IsDone (performing (map (writing value) targets.now)) machine.old result machine.new }
+{
+    for target in targets {
+        match write(value, *target, None, machine) {
+            None => {}
+            Some(kind) => return Some(kind),
+        }
+    }
+    None
+}

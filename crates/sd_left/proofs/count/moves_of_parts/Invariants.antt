@@ -1,9 +1,0 @@
-use Rattle.std.proofs.Common.{map}
-use Rattle.sd_order.specs.Told.{told}
-use Rattle.sd_left.specs.Tells.{tells, flags_told, ready_moves}
-use Rattle.sd_left.proofs.Readiness.{CountedUpTo}
-use Rattle.sd_left.proofs.count.moves_of_parts.Given as goal
-
-abbrev pub invariant-loop-number : goal.invariant-loop-number
-invariant-loop-number l =
-    CountedUpTo tells l.parts (told l.order) (flags_told (map tells l.parts)) (ready_moves (told l.order) (flags_told (map tells l.parts)) 0 (map tells l.parts)) l.number l.moves.items

@@ -1,6 +1,0 @@
-use Rattle.std.proofs.Common.{◌≡◌, map, take}
-use Rattle.sd_left.specs.Tells.{body_tells, pools_told}
-use Rattle.sd_left.proofs.count.pools_of_each.Given as goal
-
-abbrev pub invariant-loop-body : goal.invariant-loop-body
-invariant-loop-body l = l.pools.items ≡ pools_told (map body_tells (take l.body-index l.bodies))

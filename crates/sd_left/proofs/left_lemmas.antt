@@ -1,0 +1,10 @@
+pub mod Rolls
+pub mod WaitRolls
+pub mod TellRolls
+pub mod Sameness
+pub mod Shows
+pub mod Layers
+pub mod Showing
+pub mod Readiness
+pub mod Recounted
+pub mod Changes

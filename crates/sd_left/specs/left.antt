@@ -1,0 +1,5 @@
+pub use Rattle.sd_left.specs.tree.Standing
+pub mod Kept
+pub mod Waits
+pub mod Tells
+pub mod Changed

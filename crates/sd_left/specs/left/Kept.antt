@@ -1,0 +1,63 @@
+-- What the code keeps of what is left, as a tree beside the graph.
+use Rattle.std.specs.Prelude.{List, Ok, []}
+use Rattle.sd_work.specs.Leaf.{Evaluation}
+use Rattle.sd_work.specs.Residual.{leaf, list, pool, Points}
+use Rattle.sd_graph.specs.PlainTree.{KindTree, task, map_scope, consume_scope, nested_graph, reduction, copy}
+use Rattle.sd_graph.specs.Context.{Context, place_at}
+use Rattle.sd_graph.specs.Unfold.{in_any_order}
+use Rattle.sd_leaves.specs.leaves.Done.{evaluation_of}
+use Rattle.sd_leaves.specs.moves.Left.{doing_left, instance_left}
+use Rattle.sd_order.specs.table.Told.{told}
+use Rattle.sd_left.specs.tree.Standing.{ItemLeft, BodyLeft, RunLeft, element_term, points_left, active_left, nested_left}
+use Rattle.sd_left.specs.declared.left.left.Left.{Left as LeftNow}
+use Rattle.sd_left.specs.declared.left.left.Bodies.{Bodies as BodiesNow}
+use Rattle.sd_left.specs.declared.left.left.Body.{Body as BodyNow}
+use Rattle.sd_left.specs.declared.left.left.Run.{Run as RunNow}
+use Rattle.sd_left.specs.declared.left.left.Left.TheOpen.{Left-F, Bodies-F, Body-F, Run-F, Instance, Doing, Points as At_points, Pool, Nested}
+use Rattle.sd_left.specs.declared.left.left.Left.TheFolds.{fold-Left, fold-Bodies, fold-Body, fold-Run}
+
+-- what the instance of an item makes of the values that it reads
+abbrev pub evaluation_in : KindTree → Context → Evaluation
+evaluation_in (task code ins outs) context = evaluation_of context code ins outs
+evaluation_in (map_scope params private body) context = λ values. Ok []
+evaluation_in (consume_scope stream element private body) context = λ values. Ok []
+evaluation_in (nested_graph inner links) context = λ values. Ok []
+evaluation_in (reduction resolution axis identity from to) context = λ values. Ok []
+evaluation_in (copy from to) context = λ values. Ok []
+
+-- one layer of what is left of an item
+abbrev pub left_step : Left-F ItemLeft (List BodyLeft) BodyLeft RunLeft → ItemLeft
+left_step (Instance instance) kind line context = leaf (place_at context line) (instance_left (evaluation_in kind context) instance)
+left_step (Doing doing) kind line context = leaf (place_at context line) (doing_left doing)
+left_step (At_points points) kind line context = list Points in_any_order (points_left points kind context)
+left_step (Pool stream active waiting closed) kind line context =
+    pool stream.level stream.container (element_term kind context) (active_left active kind context) closed
+left_step (Nested run) kind line context = nested_left run.value kind line context
+
+-- one layer of points or elements
+abbrev pub bodies_step : Bodies-F ItemLeft (List BodyLeft) BodyLeft RunLeft → List BodyLeft
+bodies_step bodies = bodies.bodies.items
+
+-- one layer of what is left of items
+abbrev pub body_step : Body-F ItemLeft (List BodyLeft) BodyLeft RunLeft → BodyLeft
+body_step body = record { at = body.at.items; own = body.own.contents; order = told body.order; parts = body.parts.items }
+
+-- one layer of what is left of a run
+abbrev pub run_step : Run-F ItemLeft (List BodyLeft) BodyLeft RunLeft → RunLeft
+run_step run = record { state = run.state; ended = run.ended; body = run.body }
+
+-- the work that is left of an item
+abbrev pub left_of : LeftNow → ItemLeft
+left_of = fold-Left ItemLeft (List BodyLeft) BodyLeft RunLeft left_step bodies_step body_step run_step
+
+-- what is left at points or in elements
+abbrev pub bodies_kept : BodiesNow → List BodyLeft
+bodies_kept = fold-Bodies ItemLeft (List BodyLeft) BodyLeft RunLeft left_step bodies_step body_step run_step
+
+-- what is left of items
+abbrev pub body_kept : BodyNow → BodyLeft
+body_kept = fold-Body ItemLeft (List BodyLeft) BodyLeft RunLeft left_step bodies_step body_step run_step
+
+-- what is left of a run
+abbrev pub run_kept : RunNow → RunLeft
+run_kept = fold-Run ItemLeft (List BodyLeft) BodyLeft RunLeft left_step bodies_step body_step run_step

@@ -1,8 +1,0 @@
-use Rattle.std.proofs.Common.{◌≡◌, drop}
-use Rattle.std.specs.List.{list_all}
-use Rattle.sd_validity.specs.WithinLimits as limits
-use Rattle.sd_limits.proofs.containers.are_small.Given as goal
-
--- those left are small where all are
-abbrev pub invariant-loop-extent : goal.invariant-loop-extent
-invariant-loop-extent l = list_all limits.is_small (drop l.extent-index l.extents) ≡ list_all limits.is_small l.extents

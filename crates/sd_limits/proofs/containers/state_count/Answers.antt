@@ -1,6 +1,0 @@
-use Rattle.std.proofs.Common.{sym}
-use Rattle.sd_limits.proofs.Among.{states_counted}
-use Rattle.sd_limits.proofs.containers.state_count.Goals as goal
-
-pub returns : goal.returns
-returns c = sym (states_counted c.args.states.now)

@@ -1,0 +1,13 @@
+pub mod Head
+pub mod HeadFold
+pub mod Condition
+pub mod Declaration
+pub mod ElementLine
+pub mod CallLine
+pub mod Repetition
+pub mod Reduction
+pub mod Consume
+pub mod BodyLine
+pub mod TaskletLine
+pub mod TopLine
+pub mod HeadReading

@@ -1,5 +1,0 @@
-use Rattle.sd_literals.proofs.LiftedMeaning.{meaning-lifted}
-use Rattle.sd_literals.proofs.laws.code_with_its_numbers_in_variables_means_the_same.Goals as goal
-
-pub returns : goal.returns
-returns c = λ numbers code inputs many. meaning-lifted numbers code inputs many

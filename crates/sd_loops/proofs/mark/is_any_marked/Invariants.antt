@@ -1,8 +1,0 @@
-use Rattle.std.proofs.Common.{◌≡◌, drop}
-use Rattle.sd_graph.specs.TreeFold.{state_trees}
-use Rattle.sd_loops.specs.Marks.{is_any_marked}
-use Rattle.sd_loops.proofs.mark.is_any_marked.Given as goal
-
--- a transition of those left is marked where one of all is
-abbrev pub invariant-loop-state : goal.invariant-loop-state
-invariant-loop-state l = is_any_marked (state_trees (drop l.state-index l.states)) ≡ is_any_marked (state_trees l.states)

@@ -1,0 +1,13 @@
+pub mod elab_lemmas
+pub mod loops_shown_lemmas
+pub mod counted_lemmas
+pub mod places_lemmas
+pub mod loops_lemmas
+pub mod names_lemmas
+pub mod limits_lemmas
+pub mod nodes_lemmas
+pub mod depths_lemmas
+pub mod links_lemmas
+pub mod writes_lemmas
+pub mod scopes_lemmas
+pub mod shapes_lemmas

@@ -1,5 +1,0 @@
-use Rattle.sd_made_code.proofs.Small.{code_small}
-use Rattle.sd_made_code.proofs.laws.code_of_the_bound_graph_of_a_text_is_small.Goals as goal
-
-pub returns : goal.returns
-returns c = code_small

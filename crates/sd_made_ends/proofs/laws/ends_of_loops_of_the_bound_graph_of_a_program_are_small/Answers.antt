@@ -1,5 +1,0 @@
-use Rattle.sd_made_ends.proofs.Ends.{ends_small}
-use Rattle.sd_made_ends.proofs.laws.ends_of_loops_of_the_bound_graph_of_a_program_are_small.Goals as goal
-
-pub returns : goal.returns
-returns c = ends_small

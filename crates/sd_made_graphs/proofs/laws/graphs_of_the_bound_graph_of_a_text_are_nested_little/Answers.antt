@@ -1,5 +1,0 @@
-use Rattle.sd_made_graphs.proofs.Places.{nested_little}
-use Rattle.sd_made_graphs.proofs.laws.graphs_of_the_bound_graph_of_a_text_are_nested_little.Goals as goal
-
-pub returns : goal.returns
-returns c = nested_little

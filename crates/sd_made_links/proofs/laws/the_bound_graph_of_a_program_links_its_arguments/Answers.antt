@@ -1,5 +1,0 @@
-use Rattle.sd_made_links.proofs.Linked.{bound_linked}
-use Rattle.sd_made_links.proofs.laws.the_bound_graph_of_a_program_links_its_arguments.Goals as goal
-
-pub returns : goal.returns
-returns c = bound_linked

@@ -1,5 +1,0 @@
-use Rattle.sd_made_loops.proofs.Transitions.{transitions_bound}
-use Rattle.sd_made_loops.proofs.laws.the_bound_graph_of_a_program_has_right_transitions.Goals as goal
-
-pub returns : goal.returns
-returns c = transitions_bound

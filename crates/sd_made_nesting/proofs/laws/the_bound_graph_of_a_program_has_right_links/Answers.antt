@@ -1,5 +1,0 @@
-use Rattle.sd_made_nesting.proofs.Nested.{nesting_holds}
-use Rattle.sd_made_nesting.proofs.laws.the_bound_graph_of_a_program_has_right_links.Goals as goal
-
-pub returns : goal.returns
-returns c = nesting_holds

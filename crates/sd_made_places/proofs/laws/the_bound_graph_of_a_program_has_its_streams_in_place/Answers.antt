@@ -1,5 +1,0 @@
-use Rattle.sd_made_places.proofs.Bound.{streams_bound}
-use Rattle.sd_made_places.proofs.laws.the_bound_graph_of_a_program_has_its_streams_in_place.Goals as goal
-
-pub returns : goal.returns
-returns c = streams_bound

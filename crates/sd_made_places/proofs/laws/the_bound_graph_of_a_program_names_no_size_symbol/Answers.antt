@@ -1,5 +1,0 @@
-use Rattle.sd_made_places.proofs.Sizes.{sizes_bound}
-use Rattle.sd_made_places.proofs.laws.the_bound_graph_of_a_program_names_no_size_symbol.Goals as goal
-
-pub returns : goal.returns
-returns c = sizes_bound

@@ -1,5 +1,0 @@
-use Rattle.sd_made_tasks.proofs.Tasks.{task_known}
-use Rattle.sd_made_tasks.proofs.laws.code_of_tasklets_names_what_is_there.Goals as goal
-
-pub returns : goal.returns
-returns c = task_known

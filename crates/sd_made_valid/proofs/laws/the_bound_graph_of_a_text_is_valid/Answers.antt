@@ -1,8 +1,0 @@
-use Rattle.sd_made_valid.proofs.Rules.{text_valid, text_none}
-use Rattle.sd_made_valid.proofs.laws.the_bound_graph_of_a_text_is_valid.Goals as goal
-
-pub returns-clause-valid : goal.returns-clause-valid
-returns-clause-valid c = text_valid
-
-pub returns-clause-none : goal.returns-clause-none
-returns-clause-none c = text_none

@@ -1,0 +1,12 @@
+pub mod read_shapes
+pub mod read_extents
+pub mod read_dimensions
+pub mod graphs
+pub mod maps
+pub mod code
+pub mod dimensions
+pub mod values
+pub mod tasks
+pub mod ends
+pub mod ranks
+pub mod nesting

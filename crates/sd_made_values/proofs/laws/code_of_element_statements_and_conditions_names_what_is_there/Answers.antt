@@ -1,8 +1,0 @@
-use Rattle.sd_made_values.proofs.Values.{statement_known, condition_known}
-use Rattle.sd_made_values.proofs.laws.code_of_element_statements_and_conditions_names_what_is_there.Goals as goal
-
-pub returns-clause-statements : goal.returns-clause-statements
-returns-clause-statements c = statement_known
-
-pub returns-clause-conditions : goal.returns-clause-conditions
-returns-clause-conditions c = condition_known

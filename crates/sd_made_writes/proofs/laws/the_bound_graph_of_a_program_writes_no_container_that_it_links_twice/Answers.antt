@@ -1,5 +1,0 @@
-use Rattle.sd_made_writes.proofs.Bound.{bound_apart}
-use Rattle.sd_made_writes.proofs.laws.the_bound_graph_of_a_program_writes_no_container_that_it_links_twice.Goals as goal
-
-pub returns : goal.returns
-returns c = bound_apart

@@ -1,0 +1,16 @@
+use Rattle.std.proofs.Common.{◌≡◌, ◌++◌, map, length}
+use Rattle.std.specs.List.{AllByRecursion}
+use Rattle.sd_graph.specs.Context.{memory_from, private_memory}
+use Rattle.sd_graph.specs.TreeFold.{named_container}
+use Rattle.sd_graph.specs.Wiring.{has_number}
+use Rattle.sd_mem.specs.mem.GraphContents.{shapes_from}
+use Rattle.sd_mem.specs.mem.Holding.{shape_held, contents_held, IsSized}
+use Rattle.sd_mem.proofs.mem.beginning.scope_holdings.Given as goal
+
+-- what the containers so far hold, and those left
+abbrev pub invariant-loop-container : goal.invariant-loop-container
+invariant-loop-container l = record {
+  shapes : map shape_held l.holdings.items ++ shapes_from (λ number kind. has_number (l.element ++ l.private) number) (length l.holdings.items) (map named_container l.container-iterator) ≡ shapes_from (λ number kind. has_number (l.element ++ l.private) number) 0 (map named_container l.containers.entries);
+  contents : map contents_held l.holdings.items ++ memory_from (λ number kind. has_number (l.element ++ l.private) number) (length l.holdings.items) (map named_container l.container-iterator) ≡ private_memory (map named_container l.containers.entries) (l.element ++ l.private);
+  sized : AllByRecursion IsSized l.holdings.items;
+}

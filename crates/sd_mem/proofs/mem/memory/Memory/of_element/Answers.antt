@@ -1,0 +1,13 @@
+use Rattle.std.specs.Int.{w64}
+use Rattle.std.proofs.lemmas.Int.{to_z-of_z}
+use Rattle.std.proofs.Common.{◌∙◌, FitsSigned}
+use Rattle.sd_work.specs.Memory.{array}
+use Rattle.sd_work.specs.Change.{changed_at}
+use Rattle.sd_mem.proofs.mem.memory.Memory.of_element.Goals as goal
+
+pub returns-clause-contents : goal.returns-clause-contents
+returns-clause-contents c =
+    let value_fits : FitsSigned w64 c.args.value = c.ranges.value in
+    let cells = simp to_z-of_z at c.in_ok-cells.ensures.items in
+    c.replaced.ensures.contents
+    ∙ (λ i. changed_at c.args.element (λ old. array (cells i)) (c.in_ok-holdings.ensures.contents i))

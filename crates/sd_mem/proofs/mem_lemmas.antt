@@ -1,0 +1,6 @@
+pub mod Held
+pub mod Streams
+pub mod Counts
+pub mod Places
+pub mod Wholes
+pub mod GraphWholes

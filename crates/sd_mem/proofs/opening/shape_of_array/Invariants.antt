@@ -1,6 +1,0 @@
-use Rattle.std.proofs.Common.{◌≡◌, map, take, unsigned_abs}
-use Rattle.sd_mem.proofs.opening.shape_of_array.Given as goal
-
--- the extents so far
-abbrev pub invariant-loop-extent : goal.invariant-loop-extent
-invariant-loop-extent l = l.shape.items ≡ map (λ extent. unsigned_abs extent.constant) (take l.extent-index l.extent-items)

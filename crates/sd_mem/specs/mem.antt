@@ -1,0 +1,4 @@
+pub mod Shaped
+pub mod GraphContents
+pub mod Holding
+pub mod Strides

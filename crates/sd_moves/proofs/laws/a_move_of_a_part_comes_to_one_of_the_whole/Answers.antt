@@ -1,5 +1,0 @@
-use Rattle.sd_moves.proofs.Comes.{gone-mapped, gone-owned, step-gone}
-use Rattle.sd_moves.proofs.laws.a_move_of_a_part_comes_to_one_of_the_whole.Goals as goal
-
-pub returns : goal.returns
-returns g c = record { mapped = gone-mapped; owned = gone-owned; stepped = step-gone }

@@ -1,6 +1,0 @@
-use Rattle.sd_moves.proofs.Counted.{counted, count-finished}
-use Rattle.sd_moves.proofs.Placed.{placed}
-use Rattle.sd_moves.proofs.laws.next_moves_are_counted.Goals as goal
-
-pub returns : goal.returns
-returns g c = record { count = counted; place = placed; finished = count-finished }

@@ -1,5 +1,0 @@
-use Rattle.sd_moves.proofs.Open.{settled-open}
-use Rattle.sd_moves.proofs.laws.work_without_open_pools_is_settled.Goals as goal
-
-pub returns : goal.returns
-returns g c = settled-open

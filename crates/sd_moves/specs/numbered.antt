@@ -1,0 +1,5 @@
+pub mod Counts
+pub mod Places
+pub mod PartsChanged
+pub mod Gone
+pub mod OpenPools

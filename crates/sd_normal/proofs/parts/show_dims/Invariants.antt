@@ -1,8 +1,0 @@
-use Rattle.std.proofs.Common.{drop}
-use Rattle.std.specs.List.{AllByRecursion}
-use Rattle.sd_normal.specs.NormalForm.{IsDimNormal}
-use Rattle.sd_normal.proofs.parts.show_dims.Given as goal
-
--- all are where those left are
-abbrev pub invariant-loop-dim : goal.invariant-loop-dim
-invariant-loop-dim l = AllByRecursion IsDimNormal (drop l.dim-index l.dims) → AllByRecursion IsDimNormal l.dims

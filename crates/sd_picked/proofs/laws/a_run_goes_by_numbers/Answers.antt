@@ -1,5 +1,0 @@
-use Rattle.sd_picked.proofs.Numbers.{run-numbered, trace-numbered}
-use Rattle.sd_picked.proofs.laws.a_run_goes_by_numbers.Goals as goal
-
-pub returns : goal.returns
-returns g c = record { run = run-numbered; trace = trace-numbered }

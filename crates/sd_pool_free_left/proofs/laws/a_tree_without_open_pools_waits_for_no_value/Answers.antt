@@ -1,5 +1,0 @@
-use Rattle.sd_pool_free_left.proofs.Waiting.{left-waits, body-waits, run-waits}
-use Rattle.sd_pool_free_left.proofs.laws.a_tree_without_open_pools_waits_for_no_value.Goals as goal
-
-pub returns : goal.returns
-returns c = record { item = left-waits; body = body-waits; run = run-waits }

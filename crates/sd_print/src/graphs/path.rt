@@ -1,0 +1,29 @@
+//! The texts of paths.
+ghost use Rattle.std.specs.Prelude.{◌≡◌, ◌++◌, ◌∷◌, [], string_bytes, IfOk, OnOk};
+ghost use Rattle.sd_print.specs.graphs.GraphText as definition;
+
+use sd_list::NoMemory;
+use std::alloc::Global;
+
+/// Adds a path.
+pub fn push_path(text: &mut String, path: &[u32]) -> Result<(), NoMemory>
+    ensures { OnOk result (string_bytes text.new ≡ string_bytes text.old ++ definition.path_text path.now) }
+{
+    let Some((step, others)) = path.split_first() else {
+        return Ok(());
+    };
+    write!(text, "{step}")?;
+    for other in others {
+        write!(text, ".{other}")?;
+    }
+    Ok(())
+}
+
+/// A path with one step more.
+pub(crate) fn with_step(alloc: Global, path: &[u32], step: u32) -> Result<Vec<u32>, NoMemory>
+    ensures { IfOk result (λ longer. longer.items ≡ path.now ++ step ∷ []) }
+{
+    let mut longer = path.to_vec(alloc)?;
+    longer.push(step)?;
+    Ok(longer)
+}

@@ -1,0 +1,4 @@
+pub mod ItemNodes
+pub mod Accesses
+pub mod Scopes
+pub mod Joined

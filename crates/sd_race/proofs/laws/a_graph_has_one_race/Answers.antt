@@ -1,5 +1,0 @@
-use Rattle.sd_race.proofs.FirstLaws.{one-race}
-use Rattle.sd_race.proofs.laws.a_graph_has_one_race.Goals as goal
-
-pub returns : goal.returns
-returns c = one-race

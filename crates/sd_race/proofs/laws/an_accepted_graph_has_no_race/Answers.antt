@@ -1,5 +1,0 @@
-use Rattle.sd_race.proofs.FirstLaws.{no-race}
-use Rattle.sd_race.proofs.laws.an_accepted_graph_has_no_race.Goals as goal
-
-pub returns : goal.returns
-returns c = no-race

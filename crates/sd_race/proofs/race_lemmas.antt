@@ -1,0 +1,5 @@
+pub mod Modes
+pub mod Symmetric
+pub mod Members
+pub mod FirstLaws
+pub mod examples

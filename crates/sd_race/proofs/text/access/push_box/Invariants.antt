@@ -1,0 +1,9 @@
+use Rattle.std.proofs.Common.{◌≡◌, ◌++◌, take, codes, map, string_bytes}
+use Rattle.std.specs.List.{flat_map}
+use Rattle.sd_race.specs.text.AccessText.{bounds_text}
+use Rattle.sd_race.proofs.text.access.push_box.Given as goal
+
+-- what is added so far
+abbrev pub invariant-loop-other : goal.invariant-loop-other
+invariant-loop-other l = string_bytes l.text
+    ≡ string_bytes l.initial.text ++ flat_map (λ other. codes ", " ++ bounds_text (map string_bytes l.names) l.order other) (take l.other-index l.others)

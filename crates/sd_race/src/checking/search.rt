@@ -1,0 +1,81 @@
+//! The search for the first pair that is not accepted.
+ghost use Rattle.std.specs.Prelude.{◌≡◌, ◌↔◌, Option, Some, None, map, option_map, IfOk, IfErr, IsTrue};
+ghost use Rattle.std.specs.List.{flat_map};
+ghost use Rattle.sd_graph.specs.TreeFold.{graph_tree};
+ghost use Rattle.sd_prop.specs.propagation.Scopes.{scope_at};
+ghost use Rattle.sd_race.specs.race.Pairs.{IsGraphAccepted, IsScopeAccepted, pair_of, pairs_of};
+ghost use Rattle.sd_race.specs.checking.Found.{IsFirstOf, TellsRaceOf, IsVerdict, race_of};
+
+use crate::checking::pair::is_accepted;
+use crate::checking::race::{Race, RaceError};
+use sd_graph::{Bound, Path};
+use sd_list::NoMemory;
+use sd_prop::{Access, Scope, scope_with, scopes};
+use std::alloc::Global;
+
+/// The first race of an access with one of these.
+fn race_with(
+    alloc: Global,
+    scope: &Scope<'_>,
+    access: &Access,
+    others: &[Access],
+) -> Result<Option<Race>, NoMemory>
+    ensures { IfOk result (λ found. IsFirstOf (map (pair_of scope.now access.now) others.now) (option_map race_of found)) }
+{
+    for other in others {
+        if !is_accepted(alloc, scope, access, other)? {
+            return Ok(Some(Race::of(alloc, scope.path(), access, other)?));
+        }
+    }
+    Ok(None)
+}
+
+/// The first race of a scope.
+fn race_in(alloc: Global, scope: &Scope<'_>) -> Result<Option<Race>, NoMemory>
+    ensures { IfOk result (λ found. IsFirstOf (pairs_of scope.now) (option_map race_of found)) }
+{
+    let mut left = scope.accesses();
+    while let Some((access, behind)) = left.split_first() {
+        if let Some(race) = race_with(alloc, scope, access, left)? {
+            return Ok(Some(race));
+        }
+        left = behind;
+    }
+    Ok(None)
+}
+
+/// The first race of scopes.
+fn race_among(alloc: Global, all: &[Scope<'_>]) -> Result<Option<Race>, NoMemory>
+    ensures { IfOk result (λ found. IsFirstOf (flat_map pairs_of all.now) (option_map race_of found)) }
+{
+    for scope in all {
+        if let Some(race) = race_in(alloc, scope)? {
+            return Ok(Some(race));
+        }
+    }
+    Ok(None)
+}
+
+/// The race check: refuses exactly where some two accesses of a scope are not accepted, with the first such
+/// pair, by scopes in the order of states and nodes, and in a scope by its accesses.
+pub fn check(alloc: Global, bound: &Bound) -> Result<(), RaceError>
+    ensures accepted { IfOk result (λ _. IsGraphAccepted (graph_tree bound.now.graph)) }
+    ensures refused { IfErr result (TellsRaceOf (graph_tree bound.now.graph)) }
+{
+    let all = scopes(alloc, &bound.graph)?;
+    match race_among(alloc, all.as_slice())? {
+        None => Ok(()),
+        Some(race) => Err(RaceError::At(race)),
+    }
+}
+
+/// Whether each two accesses of the scope with this path are accepted. `None` where no scope has the path.
+pub fn scope_accepted(alloc: Global, bound: &Bound, path: &Path) -> Result<Option<bool>, NoMemory>
+    ensures { IfOk result (λ verdict. IsVerdict verdict (scope_at (graph_tree bound.now.graph) path.now.steps)) }
+{
+    let all = scopes(alloc, &bound.graph)?;
+    let Some(scope) = scope_with(all.as_slice(), path.steps.as_slice()) else {
+        return Ok(None);
+    };
+    Ok(Some(race_in(alloc, scope)?.is_none()))
+}

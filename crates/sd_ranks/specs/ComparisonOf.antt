@@ -1,7 +1,0 @@
--- The code's comparisons, as plain ones.
-use Rattle.sd_graph.specs.TreeFold.{value_tree}
-use Rattle.sd_validity.specs.Compared as plain
-use Rattle.sd_ranks.specs.declared.comparison.Comparison.{Comparison}
-
-abbrev pub comparison_of : Comparison → plain.Comparison
-comparison_of comparison = record { place = comparison.place; bound = value_tree comparison.bound.now }

@@ -1,0 +1,4 @@
+pub mod decided
+pub mod readable
+pub mod told
+pub mod blocks

@@ -1,0 +1,15 @@
+use Rattle.std.proofs.Common.{ap}
+use Rattle.sd_mem.specs.mem.Shaped.{Shaped}
+use Rattle.sd_graph.specs.TreeFold.{graph_tree}
+use Rattle.sd_graph.specs.Unfold.{run_of}
+use Rattle.sd_seq.specs.RunEnd.{outcome_of}
+use Rattle.sd_report.specs.stepping.Step.{steps_of}
+use Rattle.sd_report.proofs.stepping_lemmas.Steps.{step_told}
+use Rattle.sd_report.proofs.stepping.telling.step.Goals as goal
+
+pub returns : goal.returns
+returns c =
+    let tree = graph_tree c.args.bound.now.graph in
+    let ran = c.in_ok-end.field-0 in
+    step_told (run_of tree c.args.memory.contents) (run_of tree c.in_ok-opening.opening.contents) c.args.turns c.args.picks.now c.args.traces (outcome_of ran.end) (outcome_of c.in_ok-end-2.end) (steps_of ran)
+    (ap (λ (m : Shaped). run_of tree m.contents) c.in_ok-opening.ensures) c.in_ok-end.ensures c.in_ok-end-2.ensures

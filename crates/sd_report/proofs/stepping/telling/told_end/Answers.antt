@@ -1,0 +1,24 @@
+use Rattle.std.proofs.Common.{refl, sym, subst}
+use Rattle.std.proofs.lemmas.Result.{IfOk-weaker}
+use Rattle.sd_work.specs.Run.{Run}
+use Rattle.sd_graph.specs.TreeFold.{graph_tree}
+use Rattle.sd_graph.specs.Unfold.{run_of}
+use Rattle.sd_validity.proofs.rules_lemmas.UpwardsLemmas.{leads_upwards}
+use Rattle.sd_seq.specs.RunEnd.{outcome_of}
+use Rattle.sd_report.specs.stepping.Step.{IsToldEnd}
+use Rattle.sd_report.proofs.stepping_lemmas.Ends.{sequential_end, done_end}
+use Rattle.sd_report.proofs.stepping.telling.told_end.Goals as goal
+
+pub returns-then-is_done : goal.returns-then-is_done
+returns-then-is_done c = λ picks run.
+    let tree = graph_tree c.args.bound.now.graph in
+    let memory = c.args.opening.contents in
+    let done = c.is_done.ensures c.if-is_done.true in
+    subst (IsToldEnd (run_of tree memory) c.args.turns) (sym done.1)
+    (done_end tree memory c.args.turns picks done.0 c.requires.valid c.show_normal_forms.ensures c.requires.accepted (subst (Run (run_of tree memory) c.args.turns picks) done.1 run))
+
+pub run_seq-requires : goal.run_seq-requires
+run_seq-requires c = record { upwards = leads_upwards (graph_tree c.args.bound.now.graph) c.requires.valid.transitions }
+
+pub returns : goal.returns
+returns c = λ picks run. IfOk-weaker c.run_seq.result _ _ (λ end ends. sequential_end (run_of (graph_tree c.args.bound.now.graph) c.args.opening.contents) c.args.turns (outcome_of end) ends) c.run_seq.ensures

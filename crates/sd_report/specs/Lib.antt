@@ -1,0 +1,3 @@
+pub mod same_end
+pub mod stepping
+pub mod write

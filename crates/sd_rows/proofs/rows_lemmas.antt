@@ -1,0 +1,12 @@
+pub mod Bands
+pub mod Free
+pub mod Fresh
+pub mod Gaps
+pub mod KeptSteps
+pub mod Matched
+pub mod RowBetween
+pub mod PlacesOfRange
+pub mod Points
+pub mod RowEnds
+pub mod RowsOfMap
+pub mod Tracks

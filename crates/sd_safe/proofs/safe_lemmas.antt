@@ -1,0 +1,11 @@
+pub mod Rows
+pub mod Views
+pub mod Edges
+pub mod Compatible
+pub mod Distinct
+pub mod Parts
+pub mod Accepting
+pub mod GraphSafe
+pub mod Whole
+pub mod Standing
+pub mod examples

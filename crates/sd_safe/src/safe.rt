@@ -1,0 +1,19 @@
+//! An accepted graph is safe: its work may be done in any order.
+//!
+//! The premise beside acceptance is `IsGraphFit`, what of a graph's validity its boxes rest on; a valid
+//! graph has it (`fit`). By `laws`, items without a path between them, points of an accepted map and
+//! elements of an accepted consume scope do not conflict; so the run of a valid, accepted graph by any
+//! picks is done where its sequential run is. `specs/safe/Reached.antt` has where work may stand so,
+//! `Standing.antt` where an item of a graph stands.
+mod laws;
+
+pub use laws::{
+    a_valid_accepted_graph_may_interleave, an_accepted_consume_scope_may_interleave,
+    an_accepted_graph_ends_alike, an_accepted_graph_may_interleave,
+    an_item_over_a_memory_of_its_graph_stands_alone,
+    each_interleaving_of_a_valid_accepted_graph_ends_as_the_sequential_run,
+    elements_of_an_accepted_consume_scope_do_not_conflict, items_without_a_path_do_not_conflict,
+    points_of_an_accepted_map_do_not_conflict,
+    the_order_of_taking_in_a_valid_accepted_graph_makes_no_difference,
+    the_order_of_taking_of_an_accepted_scope_makes_no_difference,
+};

@@ -1,0 +1,4 @@
+pub mod Ways
+pub mod Spans
+pub mod Compositions
+pub mod Insides

@@ -1,5 +1,0 @@
-use Rattle.sd_subset.proofs.Spans.{own_index}
-use Rattle.sd_subset.proofs.laws.an_index_of_a_subset_without_a_range_is_its_own.Goals as goal
-
-pub returns : goal.returns
-returns c = own_index

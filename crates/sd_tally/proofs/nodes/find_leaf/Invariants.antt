@@ -1,5 +1,0 @@
-use Rattle.sd_tally.proofs.Finding.{IsOnWay}
-use Rattle.sd_tally.proofs.nodes.find_leaf.Given as goal
-
-abbrev pub invariant-loop-level : goal.invariant-loop-level
-invariant-loop-level l = IsOnWay l.nodes l.unit l._level l.at l.rest

@@ -1,6 +1,0 @@
-use Rattle.std.proofs.Common.{◌≡◌, ◌+◌, drop}
-use Rattle.sd_in_force.specs.Subsets.{ranges_among}
-use Rattle.sd_task.proofs.link.ranges_among.Given as goal
-
-abbrev pub invariant-loop-dim : goal.invariant-loop-dim
-invariant-loop-dim l = l.ranges + ranges_among (drop l.dim-index l.dims) ≡ ranges_among l.dims

@@ -1,0 +1,10 @@
+use Rattle.std.proofs.Common.{◌≡◌, ◌<◌, ℕ, pos, length, slice_index_or}
+use Rattle.sd_graph.specs.TaskletMeaning as meaning
+use Rattle.sd_tcode.proofs.columns.filling.change.Given as goal
+
+-- the values so far
+abbrev pub invariant-loop-i : goal.invariant-loop-i
+invariant-loop-i l = record {
+  many : length l.column ≡ length l.fn.column;
+  values : (n : ℕ) → n < l.i → slice_index_or l.column n (pos 0) ≡ meaning.one_value l.sign (slice_index_or l.of n (pos 0));
+}

@@ -1,4 +1,0 @@
-use Rattle.sd_tcode.proofs.running.run_code.Given as goal
-
-abbrev pub ghost-run_ops : goal.ghost-run_ops
-ghost-run_ops g a = g.room

@@ -1,0 +1,9 @@
+pub mod elements_lemmas
+pub mod tasklets_lemmas
+pub mod items_lemmas
+pub mod states_lemmas
+pub mod made_lemmas
+pub mod programs_lemmas
+pub mod joined_lemmas
+pub mod plain_elements_lemmas
+pub mod meant_lemmas

@@ -1,5 +1,0 @@
-use Rattle.sd_tie_elements.proofs.Affines.{affine_exact}
-use Rattle.sd_tie_elements.proofs.laws.an_affine_expression_has_its_value.Goals as goal
-
-pub returns : goal.returns
-returns c = affine_exact

@@ -1,7 +1,0 @@
-use Rattle.sd_tie_items.specs.Called.{IsCalled}
-use Rattle.sd_tie_items.proofs.ItemsTied.{body_follows}
-use Rattle.sd_tie_items.proofs.laws.a_block_of_a_scope_does_what_it_says.Goals as goal
-
-pub returns : goal.returns
-returns c = λ sizes graphs above calls all follow body most place container variable table setting context around stands own fits names elements.
-    body_follows sizes graphs (IsCalled sizes graphs above) calls all follow body most place container variable table setting context around stands own names elements fits

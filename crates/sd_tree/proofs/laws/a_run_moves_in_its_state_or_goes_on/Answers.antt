@@ -1,5 +1,0 @@
-use Rattle.sd_tree.proofs.Runs.{state-moves, run-goes-on}
-use Rattle.sd_tree.proofs.laws.a_run_moves_in_its_state_or_goes_on.Goals as goal
-
-pub returns : goal.returns
-returns c = record { state = state-moves; transition = run-goes-on }

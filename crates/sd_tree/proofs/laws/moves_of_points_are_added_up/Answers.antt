@@ -1,6 +1,0 @@
-use Rattle.std.proofs.Common.{refl}
-use Rattle.sd_tree.proofs.Points.{points-added}
-use Rattle.sd_tree.proofs.laws.moves_of_points_are_added_up.Goals as goal
-
-pub returns : goal.returns
-returns c = record { none = λ kind context memories. refl; more = points-added }

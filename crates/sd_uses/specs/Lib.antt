@@ -1,0 +1,4 @@
+pub mod Uses
+pub mod UnknownName
+pub mod Twice
+pub mod ShapeMismatch

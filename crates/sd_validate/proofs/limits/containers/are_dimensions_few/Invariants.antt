@@ -1,0 +1,12 @@
+use Rattle.std.proofs.Common.{◌≡◌, map, ℕ, List}
+use Rattle.std.specs.List.{list_all}
+use Rattle.sd_graph.specs.TreeFold.{named_container}
+use Rattle.sd_graph.specs.declared.container.Container.{Container}
+use Rattle.sd_validity.specs.rules.WithinLimits as limits
+use Rattle.sd_validate.proofs.limits.containers.are_dimensions_few.Given as goal
+
+-- those left have so many dimensions where all have
+abbrev pub invariant-loop-container : goal.invariant-loop-container
+invariant-loop-container l =
+    list_all (λ (entry : List ℕ × Container). limits.is_container_small entry.1) (map named_container l.container-iterator)
+    ≡ list_all (λ (entry : List ℕ × Container). limits.is_container_small entry.1) (map named_container l.containers.entries)

@@ -1,6 +1,0 @@
-use Rattle.std.proofs.Common.{◌≡◌, take}
-use Rattle.sd_value_tests.proofs.expressions.built.Given as goal
-
--- the terms so far
-abbrev pub invariant-loop-variable : goal.invariant-loop-variable
-invariant-loop-variable l = l.all ≡ take l.variable-index l.terms

@@ -1,7 +1,0 @@
-use Rattle.std.proofs.Common.{◌≡◌}
-use Rattle.sd_wire.specs.Drawing.{with_edges_in}
-use Rattle.sd_wire.proofs.drawing.Drawing.push_edges_in.Given as goal
-
--- what is drawn so far, with what is left
-abbrev pub invariant-loop-passing : goal.invariant-loop-passing
-invariant-loop-passing l = with_edges_in l.scope l.own l.to l.self l.passing-iterator.rest.items ≡ with_edges_in l.scope l.own l.to l.initial.self l.initial.passing-iterator.rest.items

@@ -1,0 +1,5 @@
+pub mod Joined
+pub mod Owned
+pub mod ItemLists
+pub mod Listed
+pub mod StateItems
