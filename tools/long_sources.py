@@ -98,6 +98,10 @@ def many_lines():
     refused(8, 3, "2^15 elements in one another", body(["A[0] = " + "A[" * 2**15 + "0" + "]" * 2**15]))
     refused(4, 3, "2^18 values", body(["A[0] = " + "1," * 2**18 + "1"]))
     refused(4, 3, "2^18 subscripts", body(["A[" + "0," * 2**18 + "0] = 1"]))
+    refused(4, 4, "2^18 ranges of an input", tasklet(["c << A[" + "0," * 2**18 + "0]"]))
+    refused(4, 5, "2^18 subscripts of an output", tasklet(["c >> A", "c[" + "0," * 2**18 + "0] = 1"]))
+    refused(5, 3, "2^18 arguments of a call, by a program of itself", body(["f(" + "A," * 2**18 + "A)"]))
+    refused(4, 3, "2^18 names of a loop over a range", body(["for " + "i," * 2**18 + "i in range(1):"]))
 
 
 def containers():

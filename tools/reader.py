@@ -1,12 +1,10 @@
-"""What the program sd_parse_bench says of sources, for the scripts beside this one."""
+"""What the program sd_bench says of sources, for the scripts beside this one."""
 import subprocess
 import tempfile
 from pathlib import Path
 
 from timed_program import built
 
-READER = "sd_parse_bench"
-# The program reads each source ten times.
 SECONDS = 300
 
 
@@ -17,7 +15,7 @@ def answer(program, text, seconds=SECONDS):
         source.write_bytes(text)
         how = {"stdin": subprocess.DEVNULL, "capture_output": True, "timeout": seconds, "text": True}
         try:
-            ran = subprocess.run([program, source], **how)
+            ran = subprocess.run([program, "parse", source, "1"], **how)
         except subprocess.TimeoutExpired:
             return f"no answer in {seconds} seconds"
         return ran.stdout.rstrip("\n") if ran.returncode == 0 else f"an end with status {ran.returncode}"
@@ -26,7 +24,7 @@ def answer(program, text, seconds=SECONDS):
 def compare(cases):
     """Reads the source of each case, a place, what is wanted there and the text, and prints a line for each that is
     answered otherwise, then 'N passed, M failed'. Returns whether there were cases and none failed."""
-    program = built(READER) if cases else None
+    program = built() if cases else None
     if not cases or program is None:
         print("there is no source" if not cases else "the reader was not built")
         print(f"0 passed, {len(cases) or 1} failed")

@@ -52,9 +52,9 @@ def long_difference():
     with tempfile.TemporaryDirectory() as made:
         top = Path(made) / os.fsdecode(b"\xff")
         top.mkdir()
-        for name in ("sdfg", "crates.txt", "HANDLES"):
-            shutil.copy2(TOP / name, top)
-        (top / "crates").symlink_to(TOP / "crates")
+        shutil.copy2(TOP / "sdfg", top)
+        for name in ("crates", "crates.txt", "HANDLES", "tools", "release"):
+            (top / name).symlink_to(TOP / name)
         shutil.copy2(TOP / "examples/inc/inc.py", top)
         arrays = "long" * 50 + ".json"
         (top / arrays).write_text(json.dumps({"N": ELEMENTS, "A": first, "B": [0] * ELEMENTS}))

@@ -3,8 +3,7 @@
 each with what is written there.
 
 A table begins with what it shows. Each source stands behind a line '=== WANTED: RULE': what is wanted is a line that
-the reader prints, and the rule says in words what it shows. Empty lines at the end of a source are left out. `\\t`,
-`\\r`, `\\n`, `\\x00` and `\\\\` stand for one byte, and a backslash at the end of a line takes the newline away.
+the reader prints, and the rule says in words what it shows. The lines of a source are bytes as tools/table.py says.
 
 Each source whose answer differs has a line, and the last line is 'N passed, M failed'. The status is 0 where there are
 sources and none failed. A word on the command line picks the sources in whose place it stands.
@@ -15,15 +14,10 @@ from pathlib import Path
 
 from long_sources import LONG
 from reader import compare
+from table import text_of
 
 TABLES = Path(__file__).resolve().parent / "sources"
 HEAD = re.compile(r"=== (source error \d+ at line \d+|\d+ programs, \d+ symbols): (\S.*)")
-
-
-def source(lines):
-    """Returns the bytes of a source from its lines in a table."""
-    text = "\n".join(lines).rstrip("\n") + "\n"
-    return text.encode("latin-1").decode("unicode_escape").encode("latin-1")
 
 
 def table(path):
@@ -36,7 +30,7 @@ def table(path):
         if found is None:
             sys.exit(f"{path}:{head + 1} says nothing that could be wanted: {lines[head]}")
         place = f"tools/sources/{path.name}:{head + 1}: {found[2]}"
-        cases.append((place, found[1], source(lines[head + 1 : end])))
+        cases.append((place, found[1], text_of(lines[head + 1 : end])))
     return cases
 
 

@@ -1,0 +1,268 @@
+"""Unit tests of ./sdfg: which program it runs, as its sources and release/ change. They prove and build nothing: in a small
+repository of their own, programs are scripts that print a word, and so is rt, which writes down each call."""
+import hashlib
+import lzma
+import os
+import shutil
+import subprocess
+import tempfile
+import unittest
+from pathlib import Path
+
+TOP = Path(__file__).resolve().parent.parent
+PROGRAM = "crates/sdfg/out/sdfg"
+KIT = "kit 1"
+NOT_BUILT = 70
+RT = """#!/bin/sh
+[ "$1" = version ] && echo "kit 1" && exit
+echo "${PWD##*/} $1" >>"$CALLS"
+[ -f "$CALLS.edit" ] && echo edited >>../low/src/lib.rt
+[ -f "$CALLS.builds" ] || exit 1
+[ "$1" = run ] || exit 0
+mkdir -p out && rm -f out/sdfg && printf '#!/bin/sh\\necho built "$@"\\n' >out/sdfg && chmod +x out/sdfg
+echo "rt: running out/sdfg" >&2
+"""
+
+
+def script(word):
+    return f'#!/bin/sh\necho {word} "$@"\n'.encode()
+
+
+class Repository(unittest.TestCase):
+    def setUp(self):
+        made = tempfile.TemporaryDirectory()
+        self.addCleanup(made.cleanup)
+        self.top = Path(made.name) / "top"
+        self.calls = Path(made.name) / "calls"
+        self.write("crates.txt", "low: list\nsdfg: low\nother: low\n")
+        self.write("HANDLES", "Handles allowed: none.\n")
+        for name in ("low/src/lib.rt", "low/specs/Lib.antt", "low/proofs/Lib.antt", "sdfg/src/main.rt", "other/src/lib.rt"):
+            self.write(f"crates/{name}", f"text of {name}\n")
+        for name in ("sdfg", "tools/program.sh", "tools/run_release.sh"):
+            (self.top / name).parent.mkdir(exist_ok=True)
+            shutil.copy(TOP / name, self.top / name)
+        tools = Path(made.name) / "bin"
+        tools.mkdir()
+        (tools / "rt").write_text(RT)
+        (tools / "rt").chmod(0o755)
+        self.environment = {**os.environ, "PATH": f"{tools}:{os.environ['PATH']}", "CALLS": str(self.calls)}
+
+    def write(self, name, text):
+        (self.top / name).parent.mkdir(parents=True, exist_ok=True)
+        (self.top / name).write_text(text)
+
+    def put(self, word):
+        """Puts a program that prints this word where rt puts the one that it builds."""
+        program = self.top / PROGRAM
+        program.parent.mkdir(exist_ok=True)
+        program.unlink(missing_ok=True)
+        program.write_bytes(script(word))
+        program.chmod(0o755)
+
+    def release(self, word="released"):
+        """Puts a program into release/ that is that of the present sources."""
+        self.put(word)
+        self.assertEqual(self.run_release("--make").returncode, 0)
+        (self.top / PROGRAM).unlink()
+
+    def run_release(self, *words):
+        return subprocess.run([self.top / "tools/run_release.sh", *words], env=self.environment, capture_output=True, text=True)
+
+    def may_build(self):
+        Path(f"{self.calls}.builds").touch()
+
+    def sdfg(self, start=None):
+        """Returns the word that the program prints, or the status where there is none, and rt's calls."""
+        self.calls.write_text("")
+        start = start or self.top / "sdfg"
+        ran = subprocess.run([start, "a b"], cwd="/", env=self.environment, capture_output=True, text=True, timeout=60)
+        self.said = ran.stderr
+        calls = self.calls.read_text().splitlines()
+        return (ran.stdout.removesuffix(" a b\n") if ran.returncode == 0 else ran.returncode), calls
+
+    def taken(self):
+        """The program of release/ is there, and runs."""
+        self.release()
+        self.assertEqual(self.sdfg(), ("released", []))
+
+    def refused(self):
+        """No program is run, and rt is asked to prove the lowest crate."""
+        self.assertEqual(self.sdfg(), (NOT_BUILT, ["low lib"]))
+
+    def edit(self, name, text="other text\n"):
+        """Edits a file in its place and sets its time back."""
+        path = self.top / name
+        before = path.stat()
+        path.write_text(text)
+        os.utime(path, ns=(before.st_atime_ns, before.st_mtime_ns))
+
+
+class Programs(Repository):
+    def test_it_is_taken_from_release_once(self):
+        self.taken()
+        (self.top / "release/sdfg.xz").unlink()
+        self.assertEqual(self.sdfg(), ("released", []))
+
+    def test_it_is_built_where_release_has_none(self):
+        self.may_build()
+        self.assertEqual(self.sdfg(), ("built", ["low lib", "sdfg run"]))
+        self.assertEqual(self.sdfg(), ("built", []))
+
+    def test_it_is_found_from_everywhere(self):
+        self.taken()
+        link = self.top.parent / "link"
+        link.symlink_to(self.top / "sdfg")
+        self.assertEqual(self.sdfg(link), ("released", []))
+        ran = subprocess.run(["bash", "sdfg", "a"], cwd=self.top, env=self.environment, capture_output=True, text=True)
+        self.assertEqual((ran.stdout, ran.returncode), ("released a\n", 0))
+
+    def test_an_edit_of_each_source_is_seen(self):
+        for name in ("crates/low/src/lib.rt", "crates/low/specs/Lib.antt", "crates/sdfg/src/main.rt", "crates.txt", "HANDLES"):
+            with self.subTest(name):
+                self.taken()
+                old = (self.top / name).read_text()
+                self.edit(name, old.replace("low", "lo2") + "more\n" if name == "crates.txt" else old.upper())
+                self.refused() if name != "crates.txt" else self.assertEqual(self.sdfg()[0], NOT_BUILT)
+                (self.top / name).write_text(old)
+                self.assertEqual(self.sdfg(), ("released", []))
+
+    def test_an_edited_source_is_built_anew(self):
+        self.taken()
+        self.edit("crates/low/src/lib.rt")
+        self.may_build()
+        self.assertEqual(self.sdfg(), ("built", ["low lib", "sdfg run"]))
+        self.assertEqual(self.sdfg(), ("built", []))
+
+    def test_a_removed_file_is_seen(self):
+        self.write("crates/low/specs/more/Text.antt", "text\n")
+        self.taken()
+        (self.top / "crates/low/specs/more/Text.antt").unlink()
+        self.refused()
+
+    def test_a_removed_folder_is_seen(self):
+        self.taken()
+        shutil.rmtree(self.top / "crates/low/specs")
+        self.refused()
+
+    def test_an_added_file_is_seen(self):
+        self.taken()
+        self.write("crates/low/src/more.rt", "text\n")
+        os.utime(self.top / "crates/low/src/more.rt", (1, 1))
+        os.utime(self.top / "crates/low/src", (1, 1))
+        self.refused()
+
+    def test_an_added_folder_is_seen(self):
+        self.taken()
+        self.write("crates/sdfg/specs/Lib.antt", "text\n")
+        self.refused()
+
+    def test_a_source_put_in_the_place_of_another_is_seen(self):
+        other = self.top.parent / "other"
+        other.write_text("other text\n")
+        os.utime(other, (1, 1))
+        self.taken()
+        os.replace(other, self.top / "crates/low/src/lib.rt")
+        self.refused()
+
+    def test_without_a_list_of_files_nothing_is_taken_for_seen(self):
+        find = self.calls.parent / "bin/find"
+        find.write_text("#!/bin/sh\nexit 1\n")
+        find.chmod(0o755)
+        self.put("other")
+        self.refused()
+        find.unlink()
+        self.release()
+        find.write_text('#!/bin/sh\ncase "$*" in *printf*) exit 1 ;; esac\nexec /usr/bin/find "$@"\n')
+        find.chmod(0o755)
+        self.assertEqual(self.sdfg(), ("released", []))
+        self.edit("crates/low/src/lib.rt")
+        self.refused()
+
+    def test_a_touched_source_is_the_same(self):
+        self.may_build()
+        self.sdfg()
+        os.utime(self.top / "crates/low/src/lib.rt")
+        self.assertEqual(self.sdfg(), ("built", []))
+        self.assertEqual(self.sdfg(), ("built", []))
+
+    def test_other_crates_and_proofs_change_no_program(self):
+        self.taken()
+        self.edit("crates/other/src/lib.rt")
+        self.edit("crates/low/proofs/Lib.antt")
+        self.assertEqual(self.sdfg(), ("released", []))
+
+    def test_other_proofs_take_no_program_from_release(self):
+        self.release()
+        self.edit("crates/low/proofs/Lib.antt")
+        self.refused()
+
+    def test_a_changed_release_is_refused(self):
+        self.release()
+        (self.top / "release/sdfg.xz").write_bytes(lzma.compress(script("changed")))
+        self.refused()
+        self.assertIn("does not hold the program", self.said)
+        self.assertFalse((self.top / PROGRAM).exists())
+
+    def test_a_broken_release_is_refused(self):
+        self.release()
+        packed = self.top / "release/sdfg.xz"
+        packed.write_bytes(packed.read_bytes()[:-40])
+        self.refused()
+
+    def test_a_release_without_its_sums_is_refused(self):
+        for lines in (0, 1):
+            with self.subTest(lines):
+                self.release()
+                sums = self.top / "release/sources"
+                sums.write_text("".join(sums.read_text().splitlines(True)[:lines]))
+                self.refused()
+
+    def test_what_the_gate_has_built_is_run(self):
+        self.taken()
+        self.put("gate")
+        self.assertEqual(self.sdfg(), ("gate", []))
+        self.edit("crates/low/src/lib.rt")
+        self.refused()
+
+    def test_an_older_program_is_not_run(self):
+        self.put("older")
+        os.utime(self.top / PROGRAM, (1, 1))
+        self.refused()
+
+    def test_what_a_build_leaves_that_was_cut_off_is_not_run(self):
+        self.refused()
+        self.put("half")
+        self.refused()
+
+    def test_an_edit_during_the_build_is_seen(self):
+        self.may_build()
+        edit = Path(f"{self.calls}.edit")
+        edit.touch()
+        self.assertEqual(self.sdfg()[0], NOT_BUILT)
+        self.assertIn("edited during the build", self.said)
+        edit.unlink()
+        self.assertEqual(self.sdfg(), ("built", ["low lib", "sdfg run"]))
+
+
+class Releases(Repository):
+    def test_release_is_compared_where_this_kit_built_it(self):
+        self.release()
+        self.put("released")
+        self.assertEqual(self.run_release().stdout, "1 passed, 0 failed\n")
+        sums = (self.top / "release/sources").read_text().splitlines()
+        self.assertEqual(sums[1], hashlib.sha256(script("released")).hexdigest())
+        self.put("other")
+        done = self.run_release()
+        self.assertEqual((done.stdout.splitlines()[-1], done.returncode), ("0 passed, 1 failed", 1))
+
+    def test_another_kit_is_told_and_fails_nothing(self):
+        self.release()
+        self.put("other")
+        self.write("release/kit", "kit 2\n")
+        done = self.run_release()
+        self.assertEqual(done.stdout, "release/ has the program that another kit has built: kit 2\n0 passed, 0 failed\n")
+        self.assertEqual(done.returncode, 0)
+
+
+if __name__ == "__main__":
+    unittest.main()
