@@ -3,14 +3,15 @@
 program=crates/sdfg/out/sdfg
 release=release/sdfg.xz
 
-# Puts into `order` the crate and the repository's libraries below it, the lowest first, and into `uses` what each one uses.
+# Puts into `order` the crate and the repository's libraries below it, the lowest first, into `uses` what each one uses, and into
+# `rows` its whole line of crates.txt, which may have options.
 order_of() {
-    declare -gA uses=() reached=()
+    declare -gA uses=() rows=() reached=()
     declare -ga order=()
     local head libraries name
     while IFS=: read -r head libraries; do
         read -r name _ <<<"$head"
-        [[ $name ]] && uses[$name]=${libraries//,/ }
+        [[ $name ]] && rows[$name]=$head:$libraries && uses[$name]=${libraries//,/ }
     done < <(sed 's/#.*//' crates.txt)
     visit "$1"
 }
@@ -41,7 +42,7 @@ sources() (
     folders_of src specs proofs
     {
         for name in "${order[@]}"; do
-            echo "$name: ${uses[$name]}"
+            echo "${rows[$name]-$name}"
         done
         sha256sum HANDLES
         find "${folders[@]}" -type f -print0 2>/dev/null | LC_ALL=C sort -z | xargs -0 sha256sum
@@ -64,12 +65,50 @@ is_newest() (
     [[ -x $program && $(find --version 2>/dev/null) == *GNU* && ! $(find "${folders[@]}" crates.txt HANDLES -cnewer "$program" -print -quit 2>/dev/null) ]]
 )
 
-# Prints a line of release/sources: 1 has the sum of the sources, 2 that of the program's bytes.
+# Prints a line of release/sources: 1 has a sum that binds the rest, 2 the sum of the program's bytes, 3 the kit that built it.
 told() {
     sed -n "$1p" release/sources 2>/dev/null
 }
 
-# Whether release/ has the program of these very sources, and this machine can run it.
+# Prints the sum of a program of the present sources with this sum of its bytes, built by this kit.
+bound() {
+    { sources && echo "$1" && echo "$2"; } | bytes_sum
+}
+
+# Whether release/ has the program of these very sources.
 is_released() {
-    [[ -f $release && $(uname -sm) == "Linux x86_64" ]] && is_sum "$(told 1)"
+    [[ -f $release && $(told 3) && $(told 1) == "$(bound "$(told 2)" "$(told 3)")" ]]
+}
+
+# Prints the program in release/; a Python does it where there is no xz.
+unpack() {
+    if command -v xz >/dev/null; then
+        xz -dc "$release"
+    else
+        python3 -c 'import lzma, shutil, sys; shutil.copyfileobj(lzma.open(sys.argv[1]), sys.stdout.buffer)' "$release"
+    fi
+}
+
+# Whether a program starts on this machine: without words its status is 2.
+starts() {
+    "$1" </dev/null &>/dev/null
+    (($? == 2))
+}
+
+# Where a program was proved and built here, the sum of its sources and that of its bytes.
+proved=$program.proved
+
+# Keeps that the program was proved and built of the sources with this sum, which it was made from.
+keep_proved() {
+    { echo "$1" && bytes_sum <"$program"; } >"$proved"
+}
+
+# Whether the program is one that was kept so, and of the present sources.
+is_proved() {
+    [[ -f $proved && $(<"$proved") == "$(sources && bytes_sum <"$program")" ]]
+}
+
+# Whether rt can have built the program: where release/ has that of these sources and this kit, it is that one.
+is_of_kit() {
+    command -v rt >/dev/null && { ! is_released || [[ $(rt version) != "$(told 3)" || $(bytes_sum <"$program") == "$(told 2)" ]]; }
 }

@@ -18,19 +18,21 @@ TOP = Path(__file__).resolve().parent.parent
 PROGRAM = "crates/sdfg/out/sdfg"
 KIT = "kit 1"
 NOT_BUILT = 70
+TOOLS = "bash cat chmod cmp cp cut find flock grep mkdir mv realpath rm sed sh sha256sum sleep sort tail xargs".split()
 RT = """#!/bin/sh
 [ "$1" = version ] && echo "kit 1" && exit
 echo "${PWD##*/} $1" >>"$CALLS"
 [ -f "$CALLS.edit" ] && echo edited >>../low/src/lib.rt
 [ -f "$CALLS.builds" ] || exit 1
 [ "$1" = run ] || exit 0
-mkdir -p out && rm -f out/sdfg && printf '#!/bin/sh\\necho built "$@"\\n' >out/sdfg && chmod +x out/sdfg
+mkdir -p out && rm -f out/sdfg && cp "$CALLS.built" out/sdfg && chmod +x out/sdfg
 echo "rt: running out/sdfg" >&2
 """
 
 
 def script(word):
-    return f'#!/bin/sh\necho {word} "$@"\n'.encode()
+    """Returns a program that prints this word, and what it is given; without that its status is 2."""
+    return f'#!/bin/sh\n[ $# = 0 ] && exit 2\necho {word} "$@"\n'.encode()
 
 
 class Repository(unittest.TestCase):
@@ -49,6 +51,7 @@ class Repository(unittest.TestCase):
         tools = Path(made.name) / "bin"
         tools.mkdir()
         (tools / "rt").write_text(RT)
+        Path(f"{self.calls}.built").write_bytes(script("built"))
         (tools / "rt").chmod(0o755)
         self.environment = {**os.environ, "PATH": f"{tools}:{os.environ['PATH']}", "CALLS": str(self.calls)}
 
@@ -66,15 +69,38 @@ class Repository(unittest.TestCase):
 
     def release(self, word="released"):
         """Puts a program into release/ that is that of the present sources."""
-        self.put(word)
+        self.gate(word)
         self.assertEqual(self.run_release("--make").returncode, 0)
         (self.top / PROGRAM).unlink()
+
+    def gate(self, word="gate"):
+        """Puts a program in its place as the gate does, and keeps that it was proved."""
+        self.put(word)
+        done = self.run_release("--proved", self.run_release("--sum").stdout.strip())
+        self.assertEqual(done.returncode, 0)
 
     def run_release(self, *words):
         return subprocess.run([self.top / "tools/run_release.sh", *words], env=self.environment, capture_output=True, text=True)
 
+    def tell(self, line, text):
+        """Has a line of release/sources tell something else, and binds it anew."""
+        file = self.top / "release/sources"
+        lines = file.read_text().splitlines()
+        lines[line - 1] = text
+        sums = "\n".join([self.run_release("--sum").stdout.strip(), *lines[1:]]) + "\n"
+        file.write_text("\n".join([hashlib.sha256(sums.encode()).hexdigest(), *lines[1:]]) + "\n")
+
+    def set_kit(self, kit):
+        self.tell(3, kit)
+
     def may_build(self):
         Path(f"{self.calls}.builds").touch()
+
+    def only_tools(self):
+        """Leaves the tools alone that each system has, and rt."""
+        self.environment["PATH"] = str(self.calls.parent / "bin")
+        for name in TOOLS:
+            (self.calls.parent / "bin" / name).symlink_to(shutil.which(name))
 
     def sdfg(self, start=None):
         """Returns the word that the program prints, or the status where there is none, and rt's calls."""
@@ -215,7 +241,7 @@ class Programs(Repository):
         self.refused()
 
     def test_a_release_without_its_sums_is_refused(self):
-        for lines in (0, 1):
+        for lines in (0, 1, 2):
             with self.subTest(lines):
                 self.release()
                 sums = self.top / "release/sources"
@@ -223,11 +249,59 @@ class Programs(Repository):
                 self.refused()
 
     def test_what_the_gate_has_built_is_run(self):
-        self.taken()
         self.put("gate")
         self.assertEqual(self.sdfg(), ("gate", []))
         self.edit("crates/low/src/lib.rt")
         self.refused()
+
+    def test_where_release_has_the_program_no_other_one_of_this_kit_is_run(self):
+        self.taken()
+        self.put("other")
+        self.assertEqual(self.sdfg(), ("released", []))
+        self.put("other")
+        self.set_kit("kit 2")
+        self.assertEqual(self.sdfg(), ("other", []))
+
+    def test_without_rt_what_is_there_is_not_taken_for_built(self):
+        self.only_tools()
+        (self.calls.parent / "bin/rt").unlink()
+        self.put("other")
+        self.assertEqual(self.sdfg(), (NOT_BUILT, []))
+        self.assertIn("no rt that builds one", self.said)
+
+    def test_a_program_that_does_not_start_is_not_taken(self):
+        self.release()
+        for text in (b"no program", b"#!/bin/sh\nexit 127\n", b"#!/none\n"):
+            with self.subTest(text):
+                (self.top / "release/sdfg.xz").write_bytes(lzma.compress(text))
+                self.tell(2, hashlib.sha256(text).hexdigest())
+                self.refused()
+                self.assertIn("does not start on this machine", self.said)
+                self.assertFalse(list((self.top / PROGRAM).parent.glob("sdfg*new")))
+
+    def test_a_release_is_unpacked_without_xz(self):
+        self.release()
+        self.only_tools()
+        self.assertEqual(self.sdfg(), (NOT_BUILT, ["low lib"]))
+        self.assertIn("cannot be unpacked", self.said)
+        (self.calls.parent / "bin/python3").symlink_to(sys.executable)
+        self.assertEqual(self.sdfg(), ("released", []))
+
+    def test_an_option_of_a_crate_is_seen(self):
+        crates = (self.top / "crates.txt").read_text()
+        for edited in ("sdfg opt_level=0: low", "sdfg: low opt_level=0"):
+            with self.subTest(edited):
+                self.release()
+                self.edit("crates.txt", crates.replace("sdfg: low", edited))
+                self.assertEqual(self.sdfg()[0], NOT_BUILT)
+                self.write("crates.txt", crates)
+
+    def test_an_edit_that_is_older_than_the_program_is_seen(self):
+        self.may_build()
+        self.sdfg()
+        self.write("crates/low/src/lib.rt", "text of an older day\n")
+        os.utime(self.top / "crates/low/src/lib.rt", (1, 1))
+        self.assertEqual(self.sdfg(), ("built", ["low lib", "sdfg run"]))
 
     def test_an_older_program_is_not_run(self):
         self.put("older")
@@ -381,23 +455,96 @@ class Explanations(Repository):
 
 
 class Releases(Repository):
+    def compared(self):
+        """Returns the last line of a comparison, and its status."""
+        done = self.run_release()
+        return done.stdout.splitlines()[-1], done.returncode
+
     def test_release_is_compared_where_this_kit_built_it(self):
         self.release()
         self.put("released")
         self.assertEqual(self.run_release().stdout, "1 passed, 0 failed\n")
         sums = (self.top / "release/sources").read_text().splitlines()
-        self.assertEqual(sums[1], hashlib.sha256(script("released")).hexdigest())
+        self.assertEqual(sums[1:], [hashlib.sha256(script("released")).hexdigest(), KIT])
         self.put("other")
-        done = self.run_release()
-        self.assertEqual((done.stdout.splitlines()[-1], done.returncode), ("0 passed, 1 failed", 1))
+        self.assertEqual(self.compared(), ("0 passed, 1 failed", 1))
 
     def test_another_kit_is_told_and_fails_nothing(self):
         self.release()
         self.put("other")
-        self.write("release/kit", "kit 2\n")
+        self.set_kit("kit 2")
         done = self.run_release()
         self.assertEqual(done.stdout, "release/ has the program that another kit has built: kit 2\n0 passed, 0 failed\n")
         self.assertEqual(done.returncode, 0)
+
+    def test_a_sum_of_other_sources_is_told_and_fails_nothing(self):
+        self.release()
+        self.edit("crates/low/proofs/Lib.antt")
+        self.assertEqual(self.compared(), ("0 passed, 0 failed", 0))
+
+    def test_another_program_beside_a_sum_fails_with_each_sum(self):
+        self.release()
+        (self.top / "release/sdfg.xz").write_bytes(lzma.compress(script("other")))
+        self.assertEqual(self.compared(), ("0 passed, 1 failed", 1))
+        self.set_kit("kit 2")
+        self.assertEqual(self.compared(), ("0 passed, 1 failed", 1))
+        self.edit("crates/low/src/lib.rt")
+        self.assertEqual(self.compared(), ("0 passed, 1 failed", 1))
+
+    def test_a_line_of_the_sums_alone_cannot_be_changed(self):
+        self.release()
+        sums = (self.top / "release/sources").read_text().splitlines()
+        for line, text in ((0, "0" * 64), (1, hashlib.sha256(script("other")).hexdigest()), (2, "kit 2")):
+            with self.subTest(line):
+                (self.top / "release/sdfg.xz").write_bytes(lzma.compress(script("other" if line == 1 else "released")))
+                (self.top / "release/sources").write_text("\n".join([*sums[:line], text, *sums[line + 1 :]]) + "\n")
+                self.refused()
+
+    def test_a_program_of_other_sources_is_not_put_there(self):
+        self.gate()
+        self.edit("crates/low/src/lib.rt")
+        done = self.run_release("--make")
+        self.assertEqual((done.returncode, done.stderr), (1, "the built program is missing or older than its sources\n"))
+        self.assertFalse((self.top / "release").exists())
+
+    def test_a_program_that_is_not_known_is_not_put_there(self):
+        self.put("other")
+        self.calls.write_text("")
+        done = self.run_release("--make")
+        self.assertEqual(done.returncode, 1)
+        self.assertIn("not known to be that of these sources", done.stderr)
+        self.gate()
+        self.put("other")
+        self.assertEqual(self.run_release("--make").returncode, 1)
+        self.assertFalse((self.top / "release").exists())
+
+    def test_rt_is_asked_for_a_program_that_is_not_known(self):
+        self.put("other")
+        self.may_build()
+        self.assertEqual(self.run_release("--make").returncode, 0)
+        (self.top / PROGRAM).unlink()
+        self.assertEqual(self.sdfg(), ("built", []))
+
+    def test_what_was_built_by_a_call_is_put_there_without_asking(self):
+        self.may_build()
+        self.sdfg()
+        self.calls.write_text("")
+        self.assertEqual(self.run_release("--make").returncode, 0)
+        self.assertEqual(self.calls.read_text(), "")
+
+    def test_a_program_that_does_not_start_is_not_put_there(self):
+        self.gate()
+        (self.top / PROGRAM).write_text("#!/bin/sh\nexit 1\n")
+        self.run_release("--proved", self.run_release("--sum").stdout.strip())
+        self.assertEqual(self.run_release("--make").returncode, 1)
+
+    def test_what_was_edited_since_the_gate_began_is_not_kept_as_proved(self):
+        sum_before = self.run_release("--sum").stdout.strip()
+        self.edit("crates/low/src/lib.rt")
+        self.put("gate")
+        self.assertEqual(self.run_release("--proved", sum_before).returncode, 1)
+        self.assertEqual(self.run_release("--proved", "").returncode, 1)
+        self.assertEqual(self.run_release("--make").returncode, 1)
 
 
 if __name__ == "__main__":
