@@ -1,26 +1,31 @@
 """Programs of `sdfg`, called on the arrays of a Python program.
 
-`run(program, turns=None, **sizes_and_arrays)` gives the arrays after the run: NumPy arrays where such were given, else
-lists. `graph(program, **sizes_and_arrays)` gives the graph that is run, which a notebook draws, and
-`check(program, **sizes_and_arrays)` makes its race check. `step(program, picks=(), turns=None, trace=False, ..)` runs it
-in an order that is picked, to the same end. The program is a path, a text, or a function under `@dace.program` of the
-stand-in `luthkemb.dace`. Sizes that follow from the shapes of arrays need not be given. What the
+A function under `@dace.program` of the stand-in `luthkemb.dace` is called as in DaCe: `inc(A, B)` changes its arrays in place, and
+`inc.to_sdfg(N=5)` gives its graph. `run(program, turns=2**40, **sizes_and_arrays)` gives the arrays after the run instead, of such a
+function, a path or a text: NumPy arrays where such were given, else lists. `graph(program, **sizes_and_arrays)` gives the graph
+that is run, which a notebook draws, and `check(program, **sizes_and_arrays)` makes its race check. `step(program, picks=(), ..)`
+runs it in an order that is picked, to the same end. Sizes that follow from the shapes of arrays need not be given. What the
 program refuses is raised, by a class for each status.
 """
 from . import dace
 from .accesses import ScopeAccess
 from .commands import CALLS
+from .graphs import SDFG
 from .moves import After, Move
 from .picture import Picture
 from .refusals import (
     Access,
     ArraysRefused,
+    ArraysTooLong,
     BadWords,
     DoesNotFit,
     Fault,
     Frame,
+    FunctionRefused,
     LuthkembError,
     NotBuilt,
+    NotInLanguage,
+    NotThereYet,
     OutOfMemory,
     PicksRefused,
     ProgramFailed,
@@ -39,13 +44,17 @@ __all__ = [
     "Access",
     "After",
     "ArraysRefused",
+    "ArraysTooLong",
     "BadWords",
     "DoesNotFit",
     "Fault",
     "Frame",
+    "FunctionRefused",
     "LuthkembError",
     "Move",
     "NotBuilt",
+    "NotInLanguage",
+    "NotThereYet",
     "OutOfMemory",
     "PicksRefused",
     "Picture",
@@ -54,6 +63,7 @@ __all__ = [
     "Race",
     "ReadFault",
     "Refused",
+    "SDFG",
     "ScopeAccess",
     "SourceRefused",
     "TooLong",

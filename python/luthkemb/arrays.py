@@ -9,15 +9,23 @@ import math
 import operator
 import re
 import sys
+from dataclasses import dataclass
 from itertools import islice
 from pathlib import Path
-from typing import Any, Iterator, Mapping
+from typing import Any, BinaryIO, Iterator, Mapping
 
-from .refusals import DoesNotFit
+from .refusals import ArraysTooLong, DoesNotFit
 
 Shape = tuple[int, ...]
-ARRAY = re.compile(rb"(\w+)\[(\d+(?:,\d+)*)\]")
+HEAD = re.compile(rb"(\w+)\[(\d+(?:,\d+)*)\] =")
 LEAST, MOST = -(2**63), 2**63 - 1
+MOST_BYTES = 2**26
+"""The greatest arrays file."""
+BLOCK = 2**15
+"""How many elements of a NumPy array become text at a time."""
+COMMA = ord(",")
+ENDS = range(COMMA + 100, 256)
+"""Stand for the ends of one list, of two lists and so on, until these are put in their places."""
 
 
 def is_numpy(value: object) -> bool:
@@ -37,7 +45,7 @@ def is_size(value: object) -> bool:
 
 def shape_of(value: Any) -> Shape:
     """Gives the shape of an array, by the first items where it is lists; a number has an empty one."""
-    if is_numpy(value):
+    if is_numpy(value) or isinstance(value, Zeros):
         return tuple(value.shape)
     shape = []
     while isinstance(value, (list, tuple)):
@@ -46,76 +54,183 @@ def shape_of(value: Any) -> Shape:
     return tuple(shape)
 
 
-def plain(name: str, value: Any) -> Any:
-    """Gives what JSON has for a size or an array, or raises `DoesNotFit`."""
-    return _whole(name, value).tolist() if is_numpy(value) else value
-
-
-def _whole(name: str, array: Any) -> Any:
-    """Gives a NumPy array of whole numbers of 64 bits with the elements of this one."""
-    import numpy
-
-    if array.dtype.kind not in "iuf":
-        raise DoesNotFit(name, f"its elements are {array.dtype}, and not whole numbers")
-    if numpy.ma.is_masked(array):
-        raise DoesNotFit(name, "some of its elements are masked")
-    if array.dtype.kind == "f":
-        wide = array.astype(numpy.result_type(array.dtype, numpy.float64))
-        with numpy.errstate(invalid="ignore"):
-            bad = (wide != numpy.floor(wide)) | ~((wide >= float(LEAST)) & (wide < -float(LEAST)))
-    else:
-        bad = array > MOST if array.dtype.kind == "u" else numpy.zeros(array.shape, bool)
-    if bad.any():
-        place = tuple(int(it) for it in numpy.argwhere(bad)[0])
-        why = f"its element {list(place)}, {array[place]}, is no whole number from -2^63 to 2^63-1"
-        raise DoesNotFit(name, why)
-    return array.astype(numpy.int64)
+def in_lists(value: Any, dimensions: int) -> Any:
+    """Gives a number, or a NumPy array that is one, in lists of so many dimensions; anything else as it is."""
+    numpy = sys.modules.get("numpy")
+    if numpy is not None and isinstance(value, (numpy.ndarray, numpy.generic)):
+        return value if numpy.ndim(value) else numpy.reshape(value, (1,) * dimensions)
+    if not isinstance(value, (int, float)):
+        return value
+    for _ in range(dimensions):
+        value = [value]
+    return value
 
 
 def write_entries(file: Path, entries: Mapping[str, Any]) -> None:
-    """Writes the arrays file of these sizes and arrays, or raises `DoesNotFit`."""
-    values = {name: plain(name, value) for name, value in entries.items()}
-    with file.open("w", encoding="ascii") as out:
-        out.write("{")
-        for at, (name, value) in enumerate(values.items()):
-            out.write(f"{',' if at else ''}{json.dumps(name)}:{_json_of(name, value)}")
-        out.write("}")
+    """Writes the arrays file of these sizes and arrays, or raises `DoesNotFit` or `ArraysTooLong` and writes nothing."""
+    text = _Text()
+    for at, (name, value) in enumerate(entries.items()):
+        text.begin(name, f"{',' if at else '{'}{json.dumps(name)}:".encode())
+        for piece in _pieces(name, value):
+            text.add(piece)
+    text.pieces.append(b"}" if entries else b"{}")
+    with file.open("wb") as out:
+        out.writelines(text.pieces)
 
 
-def _json_of(name: str, value: Any) -> str:
+@dataclass(frozen=True)
+class Zeros:
+    """An array of zeros of some shape."""
+
+    shape: Shape
+
+    def text(self) -> bytes:
+        text = b"0"
+        for extent in reversed(self.shape):
+            text = b"[" + b",".join([text] * extent) + b"]"
+        return text
+
+
+class _Text:
+    """The text of an arrays file, which is kept until it is known that it is not too long."""
+
+    def __init__(self) -> None:
+        self.pieces: list[bytes] = []
+        # A brace closes the text.
+        self.room = MOST_BYTES - 1
+        self.first = 0
+
+    def begin(self, name: str, head: bytes) -> None:
+        """Begins an entry."""
+        self.name = name
+        self.add(head)
+        self.first = len(self.pieces)
+
+    def add(self, piece: bytes) -> None:
+        """Adds a piece of the entry; each comma in one stands behind an element."""
+        self.room -= len(piece)
+        if self.room < 0:
+            whole = [*self.pieces[self.first :], piece[: self.room]]
+            raise ArraysTooLong(self.name, sum(it.count(b",") for it in whole))
+        self.pieces.append(piece)
+
+
+def _pieces(name: str, value: Any) -> Iterator[bytes]:
+    """Gives the JSON of a size or an array in pieces, or raises `DoesNotFit`."""
+    if isinstance(value, Zeros):
+        yield value.text()
+    elif not is_numpy(value):
+        yield _json_of(name, value)
+    elif value.size == 0:
+        yield json.dumps(value.tolist()).encode()
+    else:
+        yield b"[" * value.ndim
+        yield from _elements(name, value)
+        yield b"]" * value.ndim
+
+
+def _json_of(name: str, value: Any) -> bytes:
     try:
-        return json.dumps(value, allow_nan=False, default=operator.index, separators=(",", ":"))
+        text = json.dumps(value, allow_nan=False, default=operator.index, separators=(",", ":"))
     except (TypeError, ValueError, RecursionError) as wrong:
         raise DoesNotFit(name, f"it is not made of numbers and lists: {wrong}") from None
+    return text.replace("true", "1").replace("false", "0").encode()
 
 
-def read_arrays(output: bytes, given: Mapping[str, Any]) -> dict[str, Any]:
-    """Gives the arrays that were printed: NumPy arrays where such were given, else lists. Raises `ValueError`."""
-    return dict(_read_line(it, given) for it in output.split(b"\n")[:-1])
-
-
-def _read_line(line: bytes, given: Mapping[str, Any]) -> tuple[str, Any]:
-    head, _, elements = line.partition(b" =")
-    found = ARRAY.fullmatch(head)
-    if found is None:
-        raise ValueError(f"this is no line of an array: {line[:80]!r}")
-    name = found[1].decode()
-    shape = tuple(int(it) for it in found[2].split(b","))
-    return name, (_numpy_of if is_numpy(given.get(name)) else _lists_of)(elements, shape)
-
-
-def _numpy_of(elements: bytes, shape: Shape) -> Any:
+def _elements(name: str, array: Any) -> Iterator[bytes]:
+    """Gives the elements of a NumPy array that has some, with what stands between them."""
     import numpy
 
-    values = elements.split()
-    return numpy.fromiter(map(int, values), numpy.int64, len(values)).reshape(shape)
+    from .digits import text_of
+
+    if array.dtype.kind not in "biuf":
+        raise DoesNotFit(name, f"its elements are {array.dtype}, and not whole numbers")
+    if numpy.ma.is_masked(array):
+        raise DoesNotFit(name, "some of its elements are masked")
+    # The numbers of elements in lists of each depth, the innermost first.
+    lengths = [math.prod(array.shape[-it:]) for it in range(1, array.ndim)]
+    blocks = numpy.nditer(
+        array, ["external_loop", "buffered"], [["readonly"]], [array.dtype.newbyteorder("=")], "C", "equiv", buffersize=BLOCK
+    )
+    begin = 0
+    for block in blocks:
+        end = begin + len(block)
+        ends = _ends(begin, end, lengths)
+        if end == array.size:
+            ends[-1] = COMMA
+        text = text_of(_whole(name, block, array, begin), ends)
+        for depth, length in enumerate(lengths, 1):
+            if end // length > begin // length:
+                text = text.replace(bytes([ENDS[depth]]), b"]" * depth + b"," + b"[" * depth)
+        yield text if end < array.size else text[:-1]
+        begin = end
 
 
-def _lists_of(elements: bytes, shape: Shape) -> list[Any]:
-    values = elements.split()
-    if len(values) != math.prod(shape):
+def _ends(begin: int, end: int, lengths: list[int]) -> Any:
+    """Gives what stands behind each of the elements of these numbers, where lists of each depth have so many elements."""
+    import numpy
+
+    ends = numpy.full(end - begin, COMMA, numpy.uint8)
+    for depth, length in enumerate(lengths, 1):
+        ends[(-begin - 1) % length :: length] = ENDS[depth]
+    return ends
+
+
+def _whole(name: str, block: Any, array: Any, begin: int) -> Any:
+    """Gives some elements of an array, from the number `begin` on, as numbers of 64 bits, or raises `DoesNotFit`."""
+    import numpy
+
+    if block.dtype.kind == "f":
+        wide = block.astype(numpy.result_type(block.dtype, numpy.float64))
+        with numpy.errstate(invalid="ignore"):
+            bad = (wide != numpy.floor(wide)) | ~((wide >= float(LEAST)) & (wide < -float(LEAST)))
+    elif block.dtype.kind == "u":
+        bad = block > MOST
+    else:
+        return block.astype(numpy.int64, copy=False)
+    if bad.any():
+        place = tuple(int(it) for it in numpy.unravel_index(begin + int(bad.argmax()), array.shape))
+        why = f"its element {list(place)}, {array[place]}, is no whole number from -2^63 to 2^63-1"
+        raise DoesNotFit(name, why)
+    return block.astype(numpy.int64)
+
+
+def read_arrays(output: BinaryIO, given: Mapping[str, Any]) -> dict[str, Any]:
+    """Reads the arrays that were printed: what was given tells whether each is a NumPy array, a number or lists.
+
+    Raises `ValueError`.
+    """
+    found = {}
+    while head := _head(output):
+        told = HEAD.fullmatch(head)
+        if told is None:
+            raise ValueError(f"this begins no line of an array: {head[:80]!r}")
+        name = told[1].decode()
+        found[name] = _array_like(given.get(name), output, tuple(int(it) for it in told[2].split(b",")))
+    return found
+
+
+def _head(output: BinaryIO) -> bytes:
+    """Reads a line up to its equals sign."""
+    head = b""
+    while (byte := output.read(1)) not in (b"", b"\n", b"="):
+        head += byte
+    return head + byte
+
+
+def _array_like(given: Any, output: BinaryIO, shape: Shape) -> Any:
+    """Reads the elements of an array, as what was given for it."""
+    if is_numpy(given):
+        from .digits import read_numbers
+
+        return read_numbers(output, math.prod(shape)).reshape(shape if given.ndim else given.shape)
+    line = output.readline()
+    values = [int(it) for it in line.split()]
+    if len(values) != math.prod(shape) or not line.endswith(b"\n"):
         raise ValueError(f"an array of shape {shape} has {len(values)} elements")
-    return _nested((int(it) for it in values), shape)
+    if not isinstance(given, (list, tuple)) and len(values) == 1:
+        return values[0]
+    return _nested(iter(values), shape)
 
 
 def _nested(values: Iterator[int], shape: Shape) -> list[Any]:

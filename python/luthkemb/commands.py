@@ -6,15 +6,15 @@ import operator
 import tempfile
 from dataclasses import dataclass, field
 from pathlib import Path
-from typing import Any, Callable, Mapping, Optional
+from typing import Any, BinaryIO, Callable, Mapping, Optional
 
 from .accesses import ScopeAccess, read_accesses
-from .arrays import is_size, read_arrays, shape_of, write_entries
-from .moves import After, picks_file, split_moves
+from .arrays import in_lists, is_size, read_arrays, shape_of, write_entries
+from .moves import After, picks_file, read_moves
 from .picture import Picture
 from .programs import ended
-from .refusals import ProgramFailed, refusal
-from .sizes import inferred
+from .refusals import MOST_BYTES, ProgramFailed, refusal
+from .sizes import Signature
 from .sources import Given, Source, source_of
 
 Entries = Mapping[str, Any]
@@ -22,22 +22,24 @@ Entries = Mapping[str, Any]
 
 @dataclass(frozen=True)
 class Option:
-    """An option: its word, and how its value is written as the word behind it; a file of it may go to the folder.
+    """An option: its word, how its value is written as the word behind it, and its default; a file of it may go to the folder.
 
     A flag has no value, and is there or not.
     """
 
     word: str
     written: Optional[Callable[[Any, Path], str]] = None
+    value: Any = None
 
     @property
     def default(self) -> Any:
-        return None if self.written else False
+        return self.value if self.written else False
 
     def words(self, value: Any, folder: Path) -> list[str]:
-        """Gives the words of this value, which are none for its default."""
+        """Gives the words of this value; where it is none those of the default, which may be none too."""
         if self.written is None:
             return [self.word] * bool(value)
+        value = self.value if value is None else value
         return [] if value is None else [self.word, self.written(value, folder)]
 
 
@@ -54,7 +56,7 @@ class Command:
     """A command of the program: its word, what its answer gives, and its files and options by their keywords."""
 
     word: str
-    answer: Callable[[bytes, Entries], Any]
+    answer: Callable[[BinaryIO, Entries], Any]
     about: str
     options: Mapping[str, Option] = field(default_factory=dict)
     files: Mapping[str, File] = field(default_factory=dict)
@@ -66,15 +68,17 @@ class Command:
     def called(self, program: Given, keywords: Entries, given: Entries) -> Any:
         """Runs the command, and gives its answer or raises what it refused."""
         source = source_of(program)
-        entries = with_sizes(source, given)
-        with tempfile.TemporaryDirectory(prefix="luthkemb-") as made:
-            status, output = ended(self._words(source, keywords, entries, Path(made)))
-        if status != 0:
-            raise refusal(status, output, source)
-        try:
-            return self.answer(output, entries)
-        except ValueError as wrong:
-            raise ProgramFailed(status, output.decode(errors="replace")) from wrong
+        entries = entries_of(source, given)
+        with tempfile.TemporaryDirectory(prefix="luthkemb-") as made, open(Path(made) / "output", "w+b") as output:
+            status = ended(self._words(source, keywords, entries, Path(made)), output)
+            output.seek(0)
+            if status != 0:
+                raise refusal(status, output, source)
+            try:
+                return self.answer(output, given)
+            except ValueError as wrong:
+                output.seek(0)
+                raise ProgramFailed(status, output.read(MOST_BYTES).decode(errors="replace")) from wrong
 
     def _words(self, source: Source, keywords: Entries, entries: Entries, folder: Path) -> list[str]:
         """Gives the words of a call; what has no file yet is written to the folder."""
@@ -103,27 +107,32 @@ def call_of(name: str, command: Command) -> Callable[..., Any]:
     return call
 
 
-def with_sizes(source: Source, entries: Entries) -> dict[str, Any]:
-    """Gives the entries, and with them each size that is not given and follows from the shapes of arrays."""
+def entries_of(source: Source, given: Entries) -> dict[str, Any]:
+    """Gives the entries of the arrays file: what is given, and each size that is not and follows from the shapes of arrays.
+
+    A number for an argument of one element is put in lists.
+    """
+    signature = Signature.of(source.text())
+    entries = {name: in_lists(value, signature.dimensions_of_one_element(name)) for name, value in given.items()}
     shapes = {name: shape_of(value) for name, value in entries.items()}
     sizes = {name: operator.index(value) for name, value in entries.items() if is_size(value)}
-    return {**inferred(source.text(), shapes, sizes), **entries}
+    return {**signature.sizes(shapes, sizes), **entries}
 
 
-def read_picture(output: bytes, _: Entries) -> Picture:
+def read_picture(output: BinaryIO, _: Entries) -> Picture:
     """Gives the picture of a graph that was printed, or raises `ValueError`."""
-    return Picture(output.decode())
+    return Picture(output.read().decode())
 
 
-def read_check(output: bytes, _: Entries) -> list[ScopeAccess]:
+def read_check(output: BinaryIO, _: Entries) -> list[ScopeAccess]:
     """Gives what the race check tells of an accepted program, or raises `ValueError`."""
-    return read_accesses(output.decode())
+    return read_accesses(output.read().decode())
 
 
-def read_step(output: bytes, given: Entries) -> After:
+def read_step(output: BinaryIO, given: Entries) -> After:
     """Gives the arrays after a run by picks, with its moves, or raises `ValueError`."""
-    moves, arrays = split_moves(output)
-    return After(read_arrays(arrays, given), moves)
+    moves = read_moves(output)
+    return After(read_arrays(output, given), moves)
 
 
 def number(value: Any, _: Path) -> str:
@@ -131,7 +140,8 @@ def number(value: Any, _: Path) -> str:
     return str(operator.index(value))
 
 
-TURNS = Option("--turns", number)
+MOST_TURNS = 2**40
+TURNS = Option("--turns", number, MOST_TURNS)
 COMMANDS: dict[str, Command] = {
     "run": Command(
         "run",

@@ -6,10 +6,11 @@ import os
 import re
 from dataclasses import dataclass
 from pathlib import Path
-from typing import Any, Iterable, Mapping, Union
+from typing import Any, BinaryIO, Iterable, Mapping, Union
 
 Picks = Union[str, "os.PathLike[str]", Iterable[int]]
 MOVE = re.compile(rb"move (\d+) of (\d+)\n")
+MOST_BYTES_OF_A_MOVE = 64
 
 
 @dataclass(frozen=True)
@@ -40,10 +41,10 @@ def picks_file(picks: Picks, folder: Path) -> str:
     return str(file)
 
 
-def split_moves(output: bytes) -> tuple[tuple[Move, ...], bytes]:
-    """Gives the moves with which an output begins, and what stands behind them."""
-    moves, at = [], 0
-    while found := MOVE.match(output, at):
+def read_moves(output: BinaryIO) -> tuple[Move, ...]:
+    """Reads the moves with which an output begins, and stands behind them in the end."""
+    moves: list[Move] = []
+    while found := MOVE.fullmatch(line := output.readline(MOST_BYTES_OF_A_MOVE)):
         moves.append(Move(int(found[1]), int(found[2])))
-        at = found.end()
-    return tuple(moves), output[at:]
+    output.seek(-len(line), os.SEEK_CUR)
+    return tuple(moves)

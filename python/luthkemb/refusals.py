@@ -6,10 +6,12 @@ from __future__ import annotations
 
 import re
 from dataclasses import dataclass, field
-from typing import ClassVar, Optional
+from typing import TYPE_CHECKING, BinaryIO, ClassVar, Optional
 
-from .moves import Move, split_moves
-from .sources import Source
+from .moves import Move, read_moves
+
+if TYPE_CHECKING:
+    from .sources import Source
 
 SOURCE_ERRORS = {
     1: "a byte begins no token, a string is not closed, or a letter, digit or '_' follows a number",
@@ -34,6 +36,10 @@ ARRAYS_ERRORS = {
     18: "it is neither a size nor an argument of the program",
     19: "its shape is not that of the argument",
 }
+
+
+MOST_BYTES = 2**20
+"""How much of an output is told."""
 
 
 class LuthkembError(Exception):
@@ -73,6 +79,31 @@ class DoesNotFit(LuthkembError, ValueError):
 
     def __str__(self) -> str:
         return f"{self.name}: {self.why}"
+
+
+@dataclass(eq=False)
+class FunctionRefused(LuthkembError, ValueError):
+    """The source of a function is not there, or has what the package cannot put into a source; nothing was run.
+
+    `line` is counted in `file`, where there is one.
+    """
+
+    function: str
+    why: str
+    line: Optional[int] = None
+    file: Optional[str] = None
+
+    def __str__(self) -> str:
+        place = f" at line {self.line} of {self.file}" if self.line is not None else ""
+        return f"{self.function}{place}: {self.why}"
+
+
+class NotInLanguage(LuthkembError, AttributeError):
+    """What DaCe has and this language has not, or not here; the text names what there is in its place."""
+
+
+class NotThereYet(LuthkembError, NotImplementedError):
+    """What the program cannot do yet."""
 
 
 class Refused(LuthkembError):
@@ -146,7 +177,7 @@ class ArraysRefused(Refused, ValueError):
     meaning: str
 
     status = 4
-    form = r"arrays error (\d+)(?: (\w+))?"
+    form = r"arrays error (\d+)(?: (.*))?"
 
     @classmethod
     def of(cls, found: re.Match[str], source: Source) -> Refused:
@@ -299,6 +330,22 @@ class TooLong(Refused):
         return f"too long {self.name}"
 
 
+@dataclass(eq=False)
+class ArraysTooLong(TooLong):
+    """The arrays file would be longer than 2^26 bytes: of the array `name` only the first `fits` elements have room.
+
+    Nothing was run.
+    """
+
+    fits: int
+
+    def __str__(self) -> str:
+        return (
+            f"the arrays are too long: of {self.name} only {self.fits:,} elements fit into the arrays file, "
+            f"which has at most 2^26 bytes"
+        )
+
+
 KINDS: tuple[type[Refused], ...] = (
     OutOfMemory,
     BadWords,
@@ -322,13 +369,13 @@ def _frame(text: str, source: Source) -> Frame:
     return Frame(place.line, {name: int(value) for name, value in pairs}, place.file)
 
 
-def refusal(status: int, output: bytes, source: Source) -> LuthkembError:
-    """Gives what is raised for an end with this status, which is not 0."""
-    moves, text = split_moves(output)
-    said = text.decode(errors="replace")
-    kind = REFUSALS.get(status)
+def refusal(status: int, output: BinaryIO, source: Source) -> LuthkembError:
+    """Gives what is raised for an end with this status, which is not 0, and this output, which is read."""
     if status == NotBuilt.status:
         return NotBuilt()
+    moves = read_moves(output)
+    said = output.read(MOST_BYTES).decode(errors="replace")
+    kind = REFUSALS.get(status)
     # What was written before memory or the output was wanting is left.
     last = "" if kind in (OutOfMemory, WriteFault) else said.removesuffix("\n")
     found = re.fullmatch(kind.form, last, re.DOTALL) if kind else None

@@ -4,6 +4,7 @@ from __future__ import annotations
 import ast
 from dataclasses import dataclass, field
 from fractions import Fraction
+from functools import lru_cache
 from typing import Iterator, Mapping, Optional, Sequence
 
 from .arrays import Shape
@@ -13,24 +14,53 @@ ONE = ""
 """Stands for the constant among the terms of an affine expression."""
 
 
-def inferred(source: bytes, shapes: Mapping[str, Shape], sizes: Mapping[str, int]) -> dict[str, int]:
-    """Gives each symbol of the last program that is not among the sizes, where the shapes leave one whole number.
+@dataclass(frozen=True)
+class Signature:
+    """The size symbols of a source, and the arguments of its last program, each with its extents as far as they are affine."""
 
-    An equation that those before it contradict is passed over: the program refuses that shape. A source that Python
-    cannot read has no sizes.
-    """
-    try:
-        return dict(_inferred(ast.parse(source), shapes, sizes))
-    except (SyntaxError, ValueError, RecursionError, MemoryError):
-        return {}
+    symbols: frozenset[str] = frozenset()
+    arguments: Mapping[str, Sequence[Optional[Terms]]] = field(default_factory=dict)
 
+    @staticmethod
+    @lru_cache(maxsize=64)
+    def of(source: bytes) -> Signature:
+        """Gives the signature of a source; one that Python cannot read has none."""
+        try:
+            module = ast.parse(source)
+            programs = [it for it in module.body if isinstance(it, ast.FunctionDef)]
+            arguments = programs[-1].args.args if programs else []
+            extents = {it.arg: [_affine(extent) for extent in _extents_of_type(it.annotation)] for it in arguments}
+            return Signature(frozenset(_symbols(module)), extents)
+        except (SyntaxError, ValueError, RecursionError, MemoryError):
+            return Signature()
 
-def _inferred(module: ast.Module, shapes: Mapping[str, Shape], sizes: Mapping[str, int]) -> Iterator[tuple[str, int]]:
-    equations = _Equations()
-    for extent, length in _extents(module, shapes):
-        equations.add(extent, length, sizes)
-    symbols = _symbols(module)
-    return ((name, value) for name, value in equations.solved() if name in symbols)
+    def sizes(self, shapes: Mapping[str, Shape], known: Mapping[str, int]) -> dict[str, int]:
+        """Gives each symbol that is not among the known sizes, where the shapes of arguments leave one whole number.
+
+        An equation that those before it contradict is passed over: the program refuses that shape.
+        """
+        equations = _Equations()
+        for name, extents in self.arguments.items():
+            for extent, length in zip(extents, shapes.get(name, ())):
+                if extent is not None:
+                    equations.add(extent, length, known)
+        return {name: value for name, value in equations.solved() if name in self.symbols}
+
+    def dimensions_of_one_element(self, name: str) -> int:
+        """Gives how many dimensions an argument of one element has; 0 where it has more elements, or is no argument."""
+        extents = self.arguments.get(name)
+        if extents is None or any(it != {ONE: 1} for it in extents):
+            return 0
+        return max(len(extents), 1)
+
+    def shape(self, name: str, known: Mapping[str, int]) -> Optional[Shape]:
+        """Gives the shape of an argument with these sizes, where they leave one of whole numbers."""
+        extents = self.arguments[name] or [{ONE: Fraction(1)}]
+        values = {it: {ONE: Fraction(value)} for it, value in known.items()}
+        found = [None if it is None else _put_in(it, values) for it in extents]
+        if any(it is None or set(it) - {ONE} for it in found):
+            return None
+        return tuple(int(it.get(ONE, 0)) for it in found if it is not None)
 
 
 def _symbols(module: ast.Module) -> set[str]:
@@ -40,16 +70,6 @@ def _symbols(module: ast.Module) -> set[str]:
         for it in module.body
         if isinstance(it, ast.Assign) and isinstance(it.targets[0], ast.Name) and isinstance(it.value, ast.Call)
     }
-
-
-def _extents(module: ast.Module, shapes: Mapping[str, Shape]) -> Iterator[tuple[Terms, int]]:
-    """Gives the affine extents of the last program's arguments, each with the length that it should have."""
-    programs = [it for it in module.body if isinstance(it, ast.FunctionDef)]
-    for argument in programs[-1].args.args if programs else ():
-        for extent, length in zip(_extents_of_type(argument.annotation), shapes.get(argument.arg, ())):
-            terms = _affine(extent)
-            if terms is not None:
-                yield terms, length
 
 
 def _extents_of_type(annotation: Optional[ast.expr]) -> Sequence[ast.expr]:

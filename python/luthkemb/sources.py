@@ -5,14 +5,21 @@ import ast
 import inspect
 import os
 from dataclasses import dataclass
+from functools import lru_cache
 from pathlib import Path
-from typing import Any, Iterator, Optional, Union
+from typing import Any, Callable, Optional, Union
 
 from .dace import Program, Symbol
+from .functions import Text
+from .refusals import FunctionRefused, ReadFault
 
 NEWLINE = "\n"
 MOST_BYTES = 2**20
-Given = Union[str, bytes, "os.PathLike[str]", Program]
+NO_SOURCE = (
+    "the source is not there: Python keeps none of what is typed at its prompt or read from standard input. "
+    "Put the program in a file, or give its text to luthkemb.run; notebooks and IPython keep it"
+)
+EDITED = "the file was edited or removed after its import: import it again, by importlib.reload or in a new Python"
 
 
 @dataclass(frozen=True)
@@ -61,8 +68,13 @@ class Source:
         return self.origins[min(max(line, 1), len(self.origins)) - 1]
 
 
+Given = Union[str, bytes, "os.PathLike[str]", Program, Source]
+
+
 def source_of(program: Given) -> Source:
     """Gives the source that stands for a path, a text (with a newline, or bytes) or a decorated function."""
+    if isinstance(program, Source):
+        return program
     if isinstance(program, Program):
         return _source_of_function(program)
     if isinstance(program, bytes):
@@ -70,15 +82,22 @@ def source_of(program: Given) -> Source:
     if isinstance(program, str) and NEWLINE in program:
         return Source(None, program.encode(errors="surrogateescape"))
     if isinstance(program, (str, os.PathLike)):
-        return Source(os.path.abspath(os.fspath(program)))
+        return Source(_absolute(os.fspath(program)))
     raise TypeError(f"a program is a path, a text or a function under @dace.program, and not {program!r}")
+
+
+def _absolute(name: str) -> str:
+    try:
+        return os.path.abspath(name)
+    except FileNotFoundError:
+        # The working folder is gone, and with it what has a name in it.
+        raise ReadFault(name) from None
 
 
 @dataclass(frozen=True)
 class _Function:
-    """A decorated function in its file: its lines, from the decorator on, and what it names."""
+    """A decorated function in its file: its lines, from the decorator on, as a source has them, and what it names."""
 
-    program: Program
     lines: tuple[str, ...]
     origins: tuple[Origin, ...]
     named: tuple[object, ...]
@@ -86,43 +105,50 @@ class _Function:
     @classmethod
     def of(cls, program: Program) -> _Function:
         function = program.function
-        try:
-            found, first = inspect.getsourcelines(function)
-        except (OSError, TypeError) as wrong:
-            name = function.__qualname__
-            raise ValueError(f"the source of {name} is not there; its file or its text can be given") from wrong
-        width = len(found[0]) - len(found[0].lstrip())
-        lines = tuple(_without_margin(it.rstrip("\n"), width) for it in found)
-        file = inspect.getsourcefile(function)
-        origins = tuple(Origin(file, first + at) for at in range(len(lines)))
-        return cls(program, lines, origins, tuple(_named(program, NEWLINE.join(lines))))
+        block = block_of(program)
+        width = len(block[0]) - len(block[0].lstrip())
+        lines = [_without_margin(it.rstrip(NEWLINE), width) for it in block]
+        first = function.__code__.co_firstlineno
+        text = Text(program, lines)
+        return cls(tuple(text.edited()), tuple(Origin(program.file, first + at) for at in range(len(lines))), tuple(text.named))
+
+
+def block_of(program: Program) -> list[str]:
+    """Gives the lines of a function, as they were when it was defined, or raises `FunctionRefused`."""
+    function = program.function
+    first = function.__code__.co_firstlineno - 1
+    name = function.__qualname__
+    if first >= len(program.lines):
+        raise FunctionRefused(name, NO_SOURCE)
+    block, is_its_own = _block_of(program, first)
+    if not is_its_own or program.lines_now()[first : first + len(block)] != block:
+        raise FunctionRefused(name, EDITED, first + 1, program.file)
+    return block
+
+
+@lru_cache(maxsize=128)
+def _block_of(program: Program, first: int) -> tuple[list[str], bool]:
+    """Gives the lines of a function that begin with this one, and whether they are those of the function that Python has."""
+    block = inspect.getblock(program.lines[first:])
+    return block, _is_of(program.function, block)
+
+
+def _is_of(function: Callable[..., Any], block: list[str]) -> bool:
+    """Tells whether these lines define a function of this name with these arguments."""
+    width = len(block[0]) - len(block[0].lstrip())
+    try:
+        found = ast.parse("".join(_without_margin(it, width) for it in block)).body[0]
+    except SyntaxError:
+        return False
+    names = [it.arg for it in found.args.args] if isinstance(found, ast.FunctionDef) else []
+    code = function.__code__
+    return isinstance(found, ast.FunctionDef) and (found.name, names) == (code.co_name, list(code.co_varnames[: code.co_argcount]))
 
 
 def _without_margin(line: str, width: int) -> str:
     """Takes the margin of a function off a line, or what there is of it."""
     margin = len(line[:width]) - len(line[:width].lstrip())
     return line[margin:]
-
-
-def _named(program: Program, text: str) -> Iterator[object]:
-    """Gives what stands for the names of a function's text where it was defined, as far as that is there."""
-    function = program.function
-    cells = zip(function.__code__.co_freevars, function.__closure__ or ())
-    closure = {name: cell.cell_contents for name, cell in cells if _is_filled(cell)}
-    for node in ast.walk(ast.parse(text)):
-        if isinstance(node, ast.Name):
-            for names in (closure, program.around, function.__globals__):
-                if node.id in names:
-                    yield names[node.id]
-                    break
-
-
-def _is_filled(cell: Any) -> bool:
-    try:
-        cell.cell_contents
-    except ValueError:
-        return False
-    return True
 
 
 def _called(program: Program, before: dict[Program, _Function], above: tuple[Program, ...] = ()) -> None:
@@ -140,10 +166,11 @@ def _source_of_function(program: Program) -> Source:
     """Gives a source of the symbols that a function and those it calls name, and of these functions."""
     functions: dict[Program, _Function] = {}
     _called(program, functions)
-    symbols = {it for function in functions.values() for it in function.named if isinstance(it, Symbol)}
+    symbols = [it for function in functions.values() for it in function.named if isinstance(it, Symbol)]
+    # Symbols of one name are one size.
+    names = dict.fromkeys(it.name for it in sorted(symbols, key=lambda it: it.order))
     begin = functions[program].origins[0]
-    lines = ["import dace"]
-    lines += [f"{it.name} = dace.symbol('{it.name}')" for it in sorted(symbols, key=lambda it: it.order)]
+    lines = ["import dace", *(f"{it} = dace.symbol('{it}')" for it in names)]
     origins = [begin] * len(lines)
     for function in functions.values():
         lines += function.lines

@@ -106,14 +106,14 @@ def answer(words: list[str]) -> str:
     if found:
         text = re.sub(r"\{(\w+)\}", lambda it: str(line_of(source, it[1])), found[2])
         raise Ended(int(found[1]), moves + text)
-    names = {**json.loads(arrays), "signal": signal, "time": time, "Path": Path}
-    for symbol in SYMBOL.findall(source):
+    entries = json.loads(arrays)
+    names = {**entries, "signal": signal, "time": time, "Path": Path}
+    symbols, arguments = SYMBOL.findall(source), ARGUMENT.findall(FUNCTION.findall(source)[-1])
+    for extra in sorted(set(entries) - set(symbols) - {name for name, _ in arguments}):
+        raise Ended(4, f"arrays error 18 {extra}")
+    for symbol in symbols:
         if symbol not in names:
             raise Ended(4, f"arrays error 11 {symbol}")
-    arguments = ARGUMENT.findall(FUNCTION.findall(source)[-1])
-    for extra in ("turns", "picks"):
-        if extra in names:
-            raise Ended(4, f"arrays error 18 {extra}")
     for argument in arguments:
         array_line(*argument, names)
     if words[0] == "step":

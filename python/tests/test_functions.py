@@ -164,7 +164,7 @@ class Sources(unittest.TestCase):
     def test_a_function_without_a_source(self) -> None:
         names = {"dace": dace}
         exec("@dace.program\ndef f(A: dace.int64[1]):\n    A[0] = 1\n", names)
-        with self.assertRaisesRegex(ValueError, "the source of f is not there"):
+        with self.assertRaisesRegex(ValueError, "f: the source is not there: .* Put the program in a file, or give its text"):
             luthkemb.run(names["f"], A=[0])
 
     def test_a_file_may_ask_for_late_annotations_or_not(self) -> None:

@@ -74,7 +74,6 @@ class Arrays(Calls):
             (numpy.array([-numpy.inf]), "element [0], -inf"),
             (numpy.array([2.0**63]), "element [0], 9.22"),
             (numpy.array([1, 2**63], numpy.uint64), "element [1], 9223372036854775808"),
-            (numpy.array([True]), "bool"),
             (numpy.array([1j]), "complex128"),
             (numpy.array([1], object), "object"),
             (numpy.array([1], "M8[s]"), "datetime64"),

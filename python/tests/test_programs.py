@@ -12,7 +12,7 @@ from pathlib import Path
 from typing import Callable
 from unittest import mock
 
-from support import FAKE, INC, TOP, Calls, source
+from support import FAKE, INC, TOP, TRUE, Calls, source
 
 import luthkemb
 from luthkemb import programs
@@ -67,32 +67,120 @@ class Places(Calls):
 
     def test_the_repository_of_the_package(self) -> None:
         with mock.patch.dict(os.environ, LUTHKEMB_SDFG="", PATH=""):
-            self.assertEqual(programs.program(), str(TOP / "sdfg"))
+            for built in ("", "/built"):
+                with mock.patch.object(programs, "built_program", return_value=built) as asked:
+                    self.assertEqual(programs.program(), built or str(TOP / "sdfg"))
+                asked.assert_called_once_with(TOP)
 
-    def test_the_repository_of_the_working_folder(self) -> None:
-        program = self.repository("repository")
-        below = self.folder / "repository/below/it"
-        below.mkdir(parents=True)
+    def test_the_repository_of_the_package_goes_before_that_of_the_working_folder(self) -> None:
+        self.go_to(self.repository("repository").parent)
+        with mock.patch.dict(os.environ, LUTHKEMB_SDFG="", PATH=""):
+            self.assertEqual(Path(programs.program()).relative_to(TOP).name, "sdfg")
+
+    def test_the_packed_program_goes_before_the_path(self) -> None:
         self.elsewhere(PATH=str(self.copied("path").parent))
-        self.go_to(below)
+        packed = Path(shutil.copy(self.started(), self.folder / "elsewhere/sdfg"))
+        self.assertEqual(programs.program(), str(packed))
+        packed.write_text("#!/bin/sh\necho too old >&2\nexit 1\n")
+        os.utime(packed, ns=(0, 0))
+        with self.assertRaisesRegex(luthkemb.ProgramNotFound, "does not start on this machine: too old. Set LUTHKEMB_SDFG"):
+            programs.program()
+
+    def test_a_repository_is_only_the_folder_that_the_package_stands_in(self) -> None:
+        top = self.repository("above").parent
+        below = top / "environment/site-packages/luthkemb"
+        below.mkdir(parents=True)
+        self.elsewhere()
+        with mock.patch.object(programs, "__file__", str(below / "programs.py")):
+            with self.assertRaises(luthkemb.ProgramNotFound):
+                programs.program()
+            beside = top / "python/luthkemb"
+            beside.mkdir(parents=True)
+        with mock.patch.object(programs, "__file__", str(beside / "programs.py")):
+            self.assertEqual(programs.program(), str(top / "sdfg"))
+
+    def test_the_path_goes_before_the_working_folder(self) -> None:
+        self.copied("elsewhere_without_crates")
+        self.elsewhere(PATH=str(self.copied("path").parent))
+        self.go_to(self.repository("repository").parent)
+        self.assertEqual(programs.program(), str(self.folder / "path/sdfg"))
+
+    def test_the_repository_of_the_working_folder_comes_last(self) -> None:
+        self.elsewhere()
+        program = self.repository("repository")
+        self.go_to(program.parent)
         self.assertEqual(programs.program(), str(program))
 
-    def test_the_path_comes_last(self) -> None:
-        program = self.copied("path")
-        self.copied("elsewhere_without_crates")
-        self.elsewhere(PATH=str(program.parent))
-        self.assertEqual(programs.program(), str(program))
+    def test_the_parents_of_the_working_folder_are_not_searched(self) -> None:
+        program = self.repository("repository")
+        below = program.parent / "below/it"
+        below.mkdir(parents=True)
+        self.elsewhere()
+        for folder in (below, below.parent):
+            self.go_to(folder)
+            with self.assertRaises(luthkemb.ProgramNotFound):
+                programs.program()
+
+    def test_a_working_folder_that_is_gone(self) -> None:
+        gone = self.folder / "gone"
+        gone.mkdir()
+        self.go_to(gone)
+        gone.rmdir()
+        self.assertEqual(luthkemb.run(INC, A=[1], B=[1])["B"], [2])
+        with self.assertRaises(luthkemb.ReadFault) as fault:
+            luthkemb.run("inc.py", A=[1], B=[1])
+        self.assertEqual(fault.exception.name, "inc.py")
+        with mock.patch.dict(os.environ, LUTHKEMB_SDFG="sdfg"), self.assertRaises(luthkemb.ProgramNotFound):
+            luthkemb.run(INC, A=[1], B=[1])
+        environment = {"LUTHKEMB_SDFG": "", "PATH": ""}
+        with mock.patch.dict(os.environ, environment), mock.patch.object(programs, "__file__", str(gone / "programs.py")):
+            with self.assertRaises(luthkemb.ProgramNotFound):
+                luthkemb.run(INC, A=[1], B=[1])
 
     def test_no_program(self) -> None:
         self.elsewhere()
-        with self.assertRaises(luthkemb.ProgramNotFound):
+        with self.assertRaisesRegex(luthkemb.ProgramNotFound, "set LUTHKEMB_SDFG .* `pip install ./python`"):
             luthkemb.run(INC, A=[1], B=[1])
+
+
+class Children(Calls):
+    """What a child is given."""
+
+    def test_standard_input_is_not_its(self) -> None:
+        reader = self.folder / "reader"
+        reader.write_text('#!/bin/sh\necho "A[1] = $(wc -c)"\n')
+        reader.chmod(0o755)
+        script = "import sys, luthkemb; print(luthkemb.run(sys.argv[1], A=[7]), sys.stdin.read())"
+        ran = subprocess.run(
+            [sys.executable, "-c", script, source("A: dace.int64[1]", "A[0] = 1")],
+            cwd=TOP / "python",
+            env={**os.environ, "LUTHKEMB_SDFG": str(reader)},
+            input="told",
+            capture_output=True,
+            text=True,
+        )
+        self.assertEqual((ran.stdout, ran.stderr), ("{'A': [0]} told\n", ""))
+
+    def test_its_name_is_plain(self) -> None:
+        program = Path(os.fsdecode(os.fsencode(self.folder) + b"/\xff"))
+        program.mkdir()
+        with mock.patch.dict(os.environ, LUTHKEMB_SDFG=str(Path(shutil.copy(self.started(), program / "sdfg")))):
+            self.assertEqual(luthkemb.run(INC, A=[1], B=[1])["B"], [2])
+
+
+class ChildrenOnTheProgram(Children):
+    program = TRUE
 
 
 class Interruptions(Calls):
     """A run that is interrupted ends its child, one that does not listen too."""
 
-    CALLER = "import sys, luthkemb.programs as it; it.SECONDS_TO_END = float(sys.argv[1]); it.ended(sys.argv[2:])"
+    CALLER = (
+        "import sys, tempfile, luthkemb.programs as it; it.SECONDS_TO_END = float(sys.argv[1])\n"
+        "with tempfile.TemporaryFile() as output: it.ended(sys.argv[2:], output)"
+    )
+    # What waits does so while the folder of the test is there: so nothing is left of a test that fails.
+    WAITING = "while Path({!r}).exists(): time.sleep(0.05)"
 
     def interrupted(self, statements: str, seconds: float = 0.5) -> tuple[int, int]:
         """Interrupts a call whose child does these statements, and has so many seconds to end.
@@ -105,7 +193,7 @@ class Interruptions(Calls):
             "A: dace.int64[1]",
             f"# fake: {statements}",
             f"# fake: Path({str(mark)!r}).write_text(str(__import__('os').getpid()))",
-            "# fake: time.sleep(600)",
+            f"# fake: {self.WAITING.format(str(self.folder))}",
         )
         files = [self.folder / "source.py", self.folder / "arrays.json"]
         files[0].write_text(text)
@@ -142,8 +230,8 @@ class Interruptions(Calls):
 
     def test_what_a_child_started_is_ended(self) -> None:
         mark = self.folder / "grandchild"
-        child = f"Path({str(mark)!r}).write_text(str(__import__('subprocess').Popen(['sleep', '600']).pid))"
-        self.interrupted(child)
+        waiting = ["sh", "-c", 'while [ -e "$0" ]; do sleep 0.1; done', str(self.folder)]
+        self.interrupted(f"Path({str(mark)!r}).write_text(str(__import__('subprocess').Popen({waiting}).pid))")
         self.wait_for(lambda: not self.is_running(int(mark.read_text())))
 
     @staticmethod
@@ -153,6 +241,26 @@ class Interruptions(Calls):
             return Path(f"/proc/{process}/stat").read_text().rpartition(") ")[2][0] not in "ZX"
         except OSError:
             return False
+
+    def test_a_child_that_is_being_started_is_ended(self) -> None:
+        """An interruption that comes when there is a child, and before its number is known."""
+        started: list[subprocess.Popen[bytes]] = []
+
+        class Interrupted(subprocess.Popen):  # type: ignore[type-arg]
+            def __init__(self, *words: object, **options: object) -> None:
+                super().__init__(*words, **options)
+                started.append(self)
+                signal.raise_signal(signal.SIGINT)
+
+        sleeper = self.folder / "sleeper"
+        sleeper.write_text('#!/bin/sh\nwhile [ -e "$0" ]; do sleep 0.1; done\n')
+        sleeper.chmod(0o755)
+        handler = signal.getsignal(signal.SIGINT)
+        with mock.patch.dict(os.environ, LUTHKEMB_SDFG=str(sleeper)), mock.patch.object(subprocess, "Popen", Interrupted):
+            with self.assertRaises(KeyboardInterrupt):
+                luthkemb.run(INC, A=[1], B=[1])
+        self.assertEqual([it.returncode for it in started], [-signal.SIGTERM])
+        self.assertIs(signal.getsignal(signal.SIGINT), handler)
 
     def test_the_folder_of_an_interrupted_call_is_removed(self) -> None:
         with mock.patch("luthkemb.commands.ended", side_effect=KeyboardInterrupt) as ended:
@@ -173,7 +281,7 @@ class Table(Calls):
             return str(file)
 
         options = {"workers": Option("--workers", number), "chain": Option("--chain", lines)}
-        check = call_of("check", Command("check", lambda output, _: output.decode(), "Checks.", options))
+        check = call_of("check", Command("check", lambda output, _: output.read().decode(), "Checks.", options))
         with mock.patch.dict(os.environ, LUTHKEMB_SDFG=str(echo)):
             first, *others = check(INC, chain=["StateFusion 0 1"], workers=2, A=[1], B=[2]).splitlines()
         self.assertRegex(first, r"^check --workers 2 --chain /.*/lines$")

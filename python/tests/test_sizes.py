@@ -5,12 +5,12 @@ import unittest
 
 from support import source
 
-from luthkemb.sizes import inferred
+from luthkemb.sizes import Signature
 
 
 class Sizes(unittest.TestCase):
     def sizes(self, arguments: str, symbols: str, shapes: dict[str, tuple[int, ...]], **known: int) -> dict[str, int]:
-        return inferred(source(arguments, "A[0] = 1", symbols=symbols).encode(), shapes, known)
+        return Signature.of(source(arguments, "A[0] = 1", symbols=symbols).encode()).sizes(shapes, known)
 
     def test_extents_that_leave_one_number(self) -> None:
         for extents, shape, sizes in (
@@ -58,12 +58,12 @@ class Sizes(unittest.TestCase):
     def test_the_last_program_counts(self) -> None:
         text = source("A: dace.int64[N]", "A[0] = 1", symbols="N M")
         both = text + source("A: dace.int64[M]", "A[0] = 1")
-        self.assertEqual(inferred(both.encode(), {"A": (3,)}, {}), {"M": 3})
+        self.assertEqual(Signature.of(both.encode()).sizes({"A": (3,)}, {}), {"M": 3})
 
     def test_what_python_does_not_read_has_no_sizes(self) -> None:
         for text in (b"", b"def f(", b"\x00", b"# \xff\n", b"x = " + b"-" * 100_000 + b"1", b"if"):
             with self.subTest(text[:10]):
-                self.assertEqual(inferred(text, {"A": (3,)}, {}), {})
+                self.assertEqual(Signature.of(text).sizes({"A": (3,)}, {}), {})
 
     def test_a_long_extent(self) -> None:
         for terms in (300, 100_000):
