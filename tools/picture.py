@@ -1,28 +1,33 @@
 #!/usr/bin/env python3
 """Draws a printed graph, as an SVG or PNG picture by Graphviz, or as the text that Graphviz or Mermaid draws.
 
-  picture.py [--svg | --png | --dot | --mermaid] [-o FILE] [TEXT]
+  picture.py [--svg | --png | --dot | --mermaid] [--source SOURCE] [--fold] [--no-empty] [-o FILE] [TEXT]
 
 TEXT is a file with the text of a graph; without it the text is read from standard input. The picture goes to FILE, or
 to standard output. Its form is the one that is asked for, else that of FILE's ending, else SVG:
 
   tools/picture.py -o inc.svg tools/graphs/inc.txt
 
+With the SOURCE of the graph, tasklets show their code, exits their conditions and empty states their statements.
+--fold draws each nested graph as one node, and --no-empty leaves out empty states; where ways part or meet a point stays.
+
 The status is 0 where the picture was made; 1 where a file cannot be read or written, or Graphviz failed; 2 for other
-words; 3 where the text is no graph; 4 where Graphviz is not there. `--dot` and `--mermaid` do not need it.
+words; 3 where the text is no graph, or the source is another one; 4 where Graphviz is not there. `--dot` and `--mermaid`
+do not need it.
 """
 from __future__ import annotations
 
 import argparse
 import sys
 from pathlib import Path
-from typing import Optional
+from typing import Any, Optional
 
 TOP = Path(__file__).resolve().parent.parent
 sys.path.insert(0, str(TOP / "python"))
 
 from luthkemb.graph_text import NotAGraph  # noqa: E402
 from luthkemb.picture import FORMATS, DrawingFailed, NoGraphviz, Picture  # noqa: E402
+from luthkemb.views import OtherSource  # noqa: E402
 
 DOT, MERMAID = "dot", "mermaid"
 TEXTS = {DOT: Picture.dot, MERMAID: Picture.mermaid}
@@ -39,6 +44,9 @@ def words_of(arguments: list[str]) -> argparse.Namespace:
     forms = parser.add_mutually_exclusive_group()
     for form in FORMS:
         forms.add_argument(f"--{form}", dest="form", action="store_const", const=form)
+    parser.add_argument("--source", metavar="SOURCE", type=Path)
+    parser.add_argument("--fold", action="store_true")
+    parser.add_argument("--no-empty", dest="empty", action="store_false")
     parser.add_argument("-o", dest="output", metavar="FILE", type=Path)
     parser.add_argument("text", metavar="TEXT", nargs="?", type=Path)
     words = parser.parse_args(arguments)
@@ -52,14 +60,15 @@ def form_of(output: Optional[Path]) -> str:
     return ending if ending in FORMS else FORMATS[0]
 
 
-def drawn(text: bytes, form: str) -> bytes:
-    picture = Picture(text.decode(errors="replace"))
+def drawn(text: bytes, form: str, **how: Any) -> bytes:
+    picture = Picture(text.decode(errors="replace"), **how)
     return TEXTS[form](picture).encode() if form in TEXTS else picture.drawn(form)
 
 
 def draw(words: argparse.Namespace) -> None:
     text = words.text.read_bytes() if words.text else sys.stdin.buffer.read()
-    picture = drawn(text, words.form)
+    source = words.source.read_bytes() if words.source else None
+    picture = drawn(text, words.form, source=source, fold=words.fold, empty=words.empty)
     if words.output:
         words.output.write_bytes(picture)
     else:
@@ -72,7 +81,7 @@ def main(arguments: list[str]) -> int:
     try:
         draw(words)
         return 0
-    except NotAGraph as wrong:
+    except (NotAGraph, OtherSource) as wrong:
         said, status = str(wrong), NO_GRAPH
     except NoGraphviz as wrong:
         said, status = f"{wrong} Without it, --{DOT} gives the text that it would draw, and --{MERMAID} that of Mermaid.", NO_GRAPHVIZ

@@ -19,6 +19,7 @@ sys.path.insert(0, str(TOP / "python"))
 
 from luthkemb.graph_text import NotAGraph, graphs_in, read_graph  # noqa: E402
 from luthkemb.picture import Picture  # noqa: E402
+from luthkemb.views import OtherSource  # noqa: E402
 
 HAS_GRAPHVIZ = shutil.which("dot") is not None
 INC = (TOOLS / "graphs/inc.txt").read_text()
@@ -139,18 +140,20 @@ class TheTextThatIsDrawn(unittest.TestCase):
     def test_order_edges_are_dashed(self) -> None:
         lines = Picture(text_of("reduction")).dot().splitlines()
         self.assertIn("      g_s0_1 -> g_s0_3 [style=dashed]", lines)
-        self.assertIn(r'      g_s0_3 -> g_s0_4 [label="A3(1, min)[0]\no7"]', lines)
+        mark = 'color="#d95f02" fontcolor="#d95f02" arrowhead=dot'
+        self.assertIn(rf'      g_s0_3 -> g_s0_4 [label="  A3(1, min)[0] \l  o7 \l" {mark}]', lines)
 
     def test_transitions_tell_what_they_ask_and_set(self) -> None:
         text = Picture(text_of("loops_and_call")).dot()
         ends = "color=blue fontcolor=blue ltail=cluster_g_s3 lhead=cluster_g_s1"
-        self.assertIn(f'g_s3_out -> g_s1_in [{ends} constraint=false penwidth=2 label="set k22=k22+1"]', text)
-        self.assertIn('lhead=cluster_g_s2 label="if line 25"]', text)
+        self.assertIn(f'g_s3_out -> g_s1_in [{ends} constraint=false penwidth=2 label="  set k22=k22+1 \\l"]', text)
+        self.assertIn('lhead=cluster_g_s2 label="  if line 25 \\l"]', text)
+        self.assertIn('lhead=cluster_g_s4 label="  else \\l"]', text)
 
     def test_a_nested_graph_is_a_box_that_edges_lead_to(self) -> None:
         lines = [it.strip() for it in Picture(text_of("loops_and_call")).dot().splitlines()]
         self.assertIn("subgraph cluster_g_11_1 {", lines)
-        self.assertIn(r'g_s11_0 -> g_11_1_in [lhead=cluster_g_11_1 label="A20[2, 1:4]\nA2"]', lines)
+        self.assertIn(r'g_s11_0 -> g_11_1_in [lhead=cluster_g_11_1 label="  A20[2, 1:4] \l  A2 \l"]', lines)
 
     def test_names_are_drawn_once_and_used_after(self) -> None:
         for file in GRAPHS:
@@ -193,12 +196,13 @@ class TheTextOfMermaid(unittest.TestCase):
     def test_order_edges_are_dashed(self) -> None:
         lines = self.lines("reduction")
         self.assertIn("g_s0_1 -.-> g_s0_3", lines)
-        self.assertIn('g_s0_3 -->|"A3(1, min)[0]<br>o7"| g_s0_4', lines)
+        self.assertIn('g_s0_3 --o|"A3(1, min)[0]<br>o7"| g_s0_4', lines)
 
     def test_transitions_tell_what_they_ask_and_set(self) -> None:
         lines = self.lines("loops_and_call")
         self.assertIn('g_s3 ==>|"back<br>set k22=k22+1"| g_s1', lines)
         self.assertTrue(any(it.endswith('==>|"if line 25"| g_s2') for it in lines))
+        self.assertTrue(any(it.endswith('==>|"else"| g_s4') for it in lines))
         self.assertIn("g_s0 ==> g_s1", self.lines("inc"))
 
     def test_a_nested_graph_is_a_box_that_edges_lead_to(self) -> None:
@@ -213,8 +217,8 @@ class TheTextOfMermaid(unittest.TestCase):
                 boxes = [it.split()[1] for it in lines if it.startswith("subgraph ")]
                 made = [*boxes, *re.findall(r"^(g_\w+)[(\[{]", "\n".join(lines), re.MULTILINE)]
                 self.assertEqual(len(made), len(set(made)))
-                ends = re.findall(r"^(g_\w+) (?:==>|-->|-\.->)(?:\|.*\|)? (g_\w+)$", "\n".join(lines), re.MULTILINE)
-                self.assertEqual(len(ends), sum(re.search(r"(==|--|-\.-)>", it) is not None for it in lines))
+                ends = re.findall(r"^(g_\w+) (?:==>|-->|--o|-\.->)(?:\|.*\|)? (g_\w+)$", "\n".join(lines), re.MULTILINE)
+                self.assertEqual(len(ends), sum(re.search(r" (==>|-->|--o|-\.->)", it) is not None for it in lines))
                 self.assertLessEqual({it for pair in ends for it in pair}, set(made))
                 self.assertEqual(lines.count("end"), len(boxes))
 
@@ -225,20 +229,101 @@ class TheTextOfMermaid(unittest.TestCase):
         self.assertIn('|"B[i]<br>_out#95;"|', text)
 
 
+class TheWordsOfTheSource(unittest.TestCase):
+    SOURCE = (TOOLS / "graphs/words.py").read_bytes()
+
+    def mermaid(self, **how: bool) -> list[str]:
+        return [it.strip() for it in Picture(text_of("words"), self.SOURCE, **how).mermaid().splitlines()]
+
+    def test_tasklets_show_their_code(self) -> None:
+        lines = self.mermaid()
+        margin = "\u00a0" * 4
+        self.assertIn(f'g_4_0_s1_2{{{{"if a #62; 9:<br>{margin}x = a // 2<br>else:<br>{margin}x = 9<br>line 6"}}}}', lines)
+        self.assertIn('g_s8_1{{"A[1] = A[1] + 1<br>line 19"}}', lines)
+        text = Picture(text_of("words"), self.SOURCE).dot()
+        self.assertIn('label="if a > 9:\\l    x = a // 2\\lelse:\\l    x = 9\\lline 6\\l"', text)
+
+    def test_exits_and_states_show_their_conditions(self) -> None:
+        lines = self.mermaid()
+        for drawn in (
+            'g_s1 ==>|"if t #60; 5"| g_s2',
+            'g_s1 ==>|"else"| g_s10',
+            'g_s2 ==>|"if A[0] #62; t and 1"| g_s3',
+            'g_s6 ==>|"if A[1] #60; 0"| g_s7',
+            'g_s1["state 1: for t in range(1, 5)"]:::state',
+            'g_s3["state 3: if A[0] #62; t and 1"]:::state',
+            'g_s5["state 5: end of if"]:::state',
+            'g_s6["state 6: while A[1] #60; 0"]:::state',
+            'subgraph g_s8 ["state 8"]',
+        ):
+            with self.subTest(drawn):
+                self.assertIn(drawn, lines)
+
+    def test_nested_graphs_fold(self) -> None:
+        lines = self.mermaid(fold=True)
+        self.assertIn('g_s4_0[["nested<br>half"]]', lines)
+        self.assertFalse([it for it in lines if "g_4_0" in it])
+        text = Picture(text_of("words"), self.SOURCE, fold=True).dot()
+        self.assertIn('g_s4_0 [shape=box3d style="filled" label="nested\\nhalf"', text)
+        self.assertIn("g_s4_0 -> g_s4_1", text)
+
+    def test_empty_states_are_left_out(self) -> None:
+        lines = self.mermaid(empty=False)
+        drawn = [it for it in lines if "==>" in it]
+        self.assertEqual(
+            drawn,
+            [
+                'g_s0 ==>|"set t=1"| g_s1',
+                'g_s1 ==>|"if t #60; 5<br>if A[0] #62; t and 1"| g_s4',
+                'g_s1 ==>|"if t #60; 5<br>else"| g_s6',
+                'g_s1 ==>|"else"| g_s11',
+                "g_s4 ==> g_s6",
+                'g_s6 ==>|"if A[1] #60; 0"| g_s8',
+                'g_s6 ==>|"back<br>else<br>set t=t+1"| g_s1',
+                'g_s8 ==>|"back"| g_s6',
+            ],
+        )
+        self.assertEqual([it.split("(")[0] for it in lines if it.endswith(":::point")], ["g_s0", "g_s1", "g_s6"])
+        self.assertFalse([it for it in lines if it.startswith("g_4_0_s0")])
+
+    def test_what_is_drawn_is_named_without_empty_states_too(self) -> None:
+        for file in GRAPHS:
+            for fold in (False, True):
+                with self.subTest(file.name, fold=fold):
+                    text = Picture(file.read_text(), fold=fold, empty=False).dot()
+                    made = re.findall(r"^ *(\w+) \[shape=", text, re.MULTILINE)
+                    named = re.findall(r"^ *(\w+) -> (\w+) ", text, re.MULTILINE)
+                    self.assertLessEqual({it for ends in named for it in ends}, set(made))
+                    self.assertLessEqual(set(re.findall(r"l(?:head|tail)=(\w+)", text)), set(re.findall(r"subgraph (\w+) ", text)))
+
+    def test_long_code_is_cut(self) -> None:
+        lines = [f"            x = a + {'1 + ' * 20}{it}" for it in range(20)]
+        source = self.SOURCE.decode().replace("            if a > 9:\n                x = a // 2\n            else:\n                x = 9\n", "\n".join(lines) + "\n")
+        moved = re.sub(r"line (\d+)", lambda it: f"line {int(it[1]) + 16 * (int(it[1]) > 6)}", text_of("words"))
+        text = next(it for it in Picture(moved, source.encode()).mermaid().splitlines() if "g_4_0_s1_2{{" in it)
+        self.assertEqual((text.count("<br>"), text.count("…")), (12, 12))
+
+    def test_another_source_is_refused(self) -> None:
+        for source in (b"", b"(", self.SOURCE.replace(b"        half(A)\n", b"        A[0] = 2\n"), b"\n" + self.SOURCE):
+            with self.subTest(source[:9]), self.assertRaises(OtherSource):
+                Picture(text_of("words"), source)
+
+
 class ThePicturesOfTheDocuments(unittest.TestCase):
-    PICTURE = re.compile(r"^    \./sdfg ([^|\n]*) \| tools/picture\.py --mermaid\n\n```mermaid\n(.*?)```$", re.MULTILINE | re.DOTALL)
+    PICTURE = re.compile(r"^    \./sdfg ([^|\n]*) \| tools/picture\.py --mermaid --source (\S+)\n\n```mermaid\n(.*?)```$", re.MULTILINE | re.DOTALL)
 
     def test_they_are_made_by_the_commands_above_them(self) -> None:
         text = (TOP / "docs/GRAPH.md").read_text()
         pictures = self.PICTURE.findall(text)
         self.assertEqual((len(pictures), text.count("```mermaid")), (3, 3))
-        for words, drawn in pictures:
+        for words, given, drawn in pictures:
             with self.subTest(words):
                 command, source, arrays = words.split()
+                self.assertEqual(given, source)
                 folder = TOP / Path(source).parent
                 case = (folder / "graph.words").read_text().split()
                 self.assertEqual([command, source, arrays], [case[0], *(str((folder / it).relative_to(TOP)) for it in case[1:])])
-                ran = run("--mermaid", str(folder / "graph.expected"))
+                ran = run("--mermaid", "--source", str(TOP / source), str(folder / "graph.expected"))
                 self.assertEqual((ran.returncode, ran.stdout.decode(), ran.stderr), (0, drawn, b""))
 
 
@@ -282,6 +367,9 @@ class TheCommand(unittest.TestCase):
             (2, ["--svg", "--dot"], INC),
             (2, ["--dot", "--mermaid"], INC),
             (3, ["--dot"], "arrays error 14\n"),
+            (3, ["--dot", "--source", str(TOP / "examples/fibonacci/fib.py")], INC),
+            (3, ["--dot", "--source", str(TOP / "README.md")], INC),
+            (1, ["--dot", "--source", str(self.folder / "none")], INC),
         ):
             with self.subTest(words):
                 ran = run(*words, text=text)
@@ -294,7 +382,7 @@ class TheCommand(unittest.TestCase):
             with self.subTest(file.name):
                 ran = run(str(file))
                 self.assertEqual((ran.returncode, ran.stderr), (0, b""))
-                shown = set(xml.etree.ElementTree.fromstring(ran.stdout).itertext())
+                shown = {it.strip() for it in xml.etree.ElementTree.fromstring(ran.stdout).itertext()}
                 for graph in graphs_in(read_graph(file.read_text())):
                     self.assertIn(graph.name, shown)
                     containers = {f"{it.kind} {it.name}{it.extents}" for it in graph.containers.values()}

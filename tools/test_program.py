@@ -35,6 +35,11 @@ def script(word):
     return f'#!/bin/sh\n[ $# = 0 ] && exit 2\necho {word} "$@"\n'.encode()
 
 
+def interruptible():
+    """Has a child take interrupts, which one started in the background ignores."""
+    signal.signal(signal.SIGINT, signal.SIG_DFL)
+
+
 class Repository(unittest.TestCase):
     def setUp(self):
         made = tempfile.TemporaryDirectory()
@@ -341,12 +346,18 @@ class Explanations(Repository):
         self.put("other")
         (self.top / PROGRAM).write_text(f"#!/bin/bash\n{text}\n")
 
-    def run_at(self, terminal, *words, redirected=">&1", **how):
+    def run_at(self, terminal, *words, redirected=">&1"):
         """Returns the status, standard output and standard error of a call, of which the last is a terminal or not."""
         ends = pty.openpty() if terminal else os.pipe()
         command = ["bash", "-c", f'exec "$@" {redirected}', "bash", self.top / "sdfg", *words]
         ran = subprocess.Popen(
-            command, stdin=subprocess.DEVNULL, stdout=subprocess.PIPE, stderr=ends[1], cwd=self.top, env=self.environment, **how
+            command,
+            stdin=subprocess.DEVNULL,
+            stdout=subprocess.PIPE,
+            stderr=ends[1],
+            cwd=self.top,
+            env=self.environment,
+            preexec_fn=interruptible,
         )
         os.close(ends[1])
         output = ran.communicate(timeout=60)[0]
@@ -419,7 +430,8 @@ class Explanations(Repository):
         self.program("echo $$ >number; exec sleep 60")
         for name in ("KILL", "INT", "TERM", "HUP"):
             ends = pty.openpty()
-            ran = subprocess.Popen([self.top / "sdfg"], stdout=subprocess.DEVNULL, stderr=ends[1], cwd=self.top, env=self.environment)
+            how = {"cwd": self.top, "env": self.environment, "preexec_fn": interruptible}
+            ran = subprocess.Popen([self.top / "sdfg"], stdout=subprocess.DEVNULL, stderr=ends[1], **how)
             self.until(lambda: (self.top / "number").exists() and (self.top / "number").read_text())
             number = (self.top / "number").read_text().strip()
             ran.send_signal(signal.Signals[f"SIG{name}"])

@@ -37,7 +37,8 @@ class Container:
 class Node:
     """`what` is the first word behind its number and scope, and `rest` what stands behind that.
 
-    An exit has the number of its entry in `rest`, and a nested graph's node has that graph in `graph`.
+    An exit has the number of its entry in `rest`, and a nested graph's node has that graph in `graph`. `code` has lines of
+    the source, where they are known.
     """
 
     number: int
@@ -45,6 +46,7 @@ class Node:
     what: str
     rest: str
     graph: Optional[Graph] = None
+    code: tuple[str, ...] = ()
 
     def is_entry(self) -> bool:
         return self.what in ("map", "consume")
@@ -58,6 +60,15 @@ class Edge:
     target: int
     text: str
 
+    def container(self) -> str:
+        """Gives the container of what it moves, or nothing."""
+        found = re.match(r"[\w$]*", self.text)
+        return found[0] if found else ""
+
+    def is_resolved(self) -> bool:
+        """Tells whether the memlet has a resolution."""
+        return re.match(r"[\w$]+\(-?\d+, \w+\)", self.text) is not None
+
 
 @dataclass
 class Transition:
@@ -70,9 +81,13 @@ class Transition:
 
 @dataclass
 class State:
+    """`words` are what an empty state stands for in the source, where that is known, and `drawn` how it is drawn."""
+
     nodes: list[Node] = field(default_factory=list)
     edges: list[Edge] = field(default_factory=list)
     transitions: list[Transition] = field(default_factory=list)
+    words: str = ""
+    drawn: str = "box"
 
 
 @dataclass

@@ -33,10 +33,25 @@ def label_of_node(node: Node, entry: Node) -> str:
         return node.rest
     if node.what == "exit":
         return f"exit {entry.what}"
+    if node.code:
+        return "\n".join((*node.code, node.rest))
     rest = node.rest
     if node.what == "reduce":
         rest = rest.replace(" axis", "\naxis").replace(" identity", "\nidentity")
     return f"{node.what}\n{rest}".strip()
+
+
+def label_of_state(number: int, state: State) -> str:
+    """Gives what a state shows: its number, and what it stands for where it is empty."""
+    return f"state {number}: {state.words}" if state.words else f"state {number}"
+
+
+def is_resolved(state: State, edge: Edge) -> bool:
+    """Tells whether what an edge moves is resolved; what leaves a scope is where it was resolved in it."""
+    if edge.is_resolved() or state.nodes[edge.source].what != "exit" or not edge.text:
+        return edge.is_resolved()
+    inner = (it for it in state.edges if it.target == edge.source and it.container() == edge.container())
+    return any(is_resolved(state, it) for it in inner)
 
 
 def label_of_edge(edge: Edge) -> str:

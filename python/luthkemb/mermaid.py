@@ -4,7 +4,8 @@ They have what the pictures of Graphviz have. A graph is a box with its states a
 with its nodes; transitions are thick arrows. Scopes are boxes with dashed borders, nested graphs boxes with states of their
 own. Access nodes are rounded, those of arguments with a thick border, of streams with a dashed one; tasklets are hexagons,
 entries and exits of maps trapezia, those of consume scopes dashed, reductions rhombi, copies boxes with round corners. Edges
-that only order are dashed.
+that only order are dashed, and those whose values are resolved end in a circle. A folded graph is a box with double sides; an
+empty state that is left out is a small circle where ways part or meet.
 """
 from __future__ import annotations
 
@@ -12,7 +13,8 @@ import re
 from typing import Iterator, Optional
 
 from .graph_text import Edge, Graph, Node, State, Transition
-from .labels import exits_of, id_of, label_of_edge, label_of_node, lines_of_containers
+from .labels import exits_of, id_of, is_resolved, label_of_edge, label_of_node, label_of_state, lines_of_containers
+from .views import NOTHING, POINT
 
 SHAPES = {
     "access": ("([", "])"),
@@ -22,6 +24,7 @@ SHAPES = {
     "exit": ("[\\", "/]"),
     "reduce": ("{", "}"),
     "copy": ("(", ")"),
+    "nested": ("[[", "]]"),
 }
 STYLES = (
     "classDef argument stroke-width:3px",
@@ -29,10 +32,12 @@ STYLES = (
     "classDef state fill:#deebf7,stroke:#9ecae1,color:#000",
     "classDef scope fill:none,stroke-dasharray:2 4",
     "classDef containers fill:none,stroke:none",
+    "classDef point fill:#2171b5,stroke:#2171b5,color:#2171b5",
 )
 BREAK = "<br>"
-# A star makes text slanted, and so may an underscore behind a word.
-MARKS = re.compile(r'[*"#<>&]|_(?!\w)')
+NO_BREAK = "\u00a0"
+# A star makes text slanted, and so may an underscore behind a word; a backtick begins text of Markdown.
+MARKS = re.compile(r'[*"#<>&`]|_(?!\w)')
 Lines = Iterator[str]
 
 
@@ -47,8 +52,14 @@ def _indented(lines: Lines) -> Lines:
 
 def _quoted(text: str) -> str:
     """Gives a label; what Mermaid or Markdown would take for more than a letter is written by its number."""
-    lines = (MARKS.sub(lambda it: f"#{ord(it[0])};", line) for line in text.split("\n"))
+    lines = (MARKS.sub(lambda it: f"#{ord(it[0])};", _margin(line)) for line in text.split("\n"))
     return f'"{BREAK.join(lines)}"'
+
+
+def _margin(line: str) -> str:
+    """Keeps the spaces that a line begins with."""
+    text = line.lstrip(" ")
+    return NO_BREAK * (len(line) - len(text)) + text if text else line
 
 
 def _box(name: str, label: str, body: Lines, look: str = "") -> Lines:
@@ -68,15 +79,18 @@ def _body_of_graph(graph: Graph) -> Lines:
         label = "\n".join(lines_of_containers(graph))
         yield f"{id_of(graph)}_containers[{_quoted(label)}]:::containers"
     for number, state in enumerate(graph.states):
-        yield from _state(graph, number, state)
+        if state.drawn != NOTHING:
+            yield from _state(graph, number, state)
     for number, state in enumerate(graph.states):
         for transition in state.transitions:
             yield _transition(graph, number, transition)
 
 
 def _state(graph: Graph, number: int, state: State) -> Lines:
-    name, label = id_of(graph, number), f"state {number}"
-    if state.nodes:
+    name, label = id_of(graph, number), label_of_state(number, state)
+    if state.drawn == POINT:
+        yield f'{name}((" ")):::point'
+    elif state.nodes:
         yield from _box(name, label, _body_of_state(graph, number, state), "state")
     else:
         yield f"{name}[{_quoted(label)}]:::state"
@@ -136,7 +150,8 @@ def _look(graph: Graph, node: Node, entry: Node) -> str:
 
 def _edge(graph: Graph, number: int, state: State, edge: Edge) -> str:
     source, target = (_end_of(graph, number, state.nodes[it]) for it in (edge.source, edge.target))
-    return _arrow(source, "-->" if edge.text else "-.->", label_of_edge(edge), target)
+    arrow = "--o" if is_resolved(state, edge) else "-->" if edge.text else "-.->"
+    return _arrow(source, arrow, label_of_edge(edge), target)
 
 
 def _end_of(graph: Graph, number: int, node: Node) -> str:

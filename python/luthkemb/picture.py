@@ -3,7 +3,10 @@
 States are boxes with their transitions between them, scopes dotted boxes in them, nested graphs boxes with states of
 their own. Access nodes are ellipses, those of arguments bold, of streams dashed; tasklets are octagons, the entries
 and exits of maps trapezia, those of consume scopes dashed, reductions triangles, copies rounded boxes. Edges that only
-order are dashed.
+order are dashed, those whose values are resolved are orange and end in a dot.
+
+With the source of a graph, tasklets show their code, exits their conditions and empty states their statements in its words.
+Nested graphs may be folded, each to a box with a lid, and empty states left out: where ways part or meet, a point stays.
 """
 from __future__ import annotations
 
@@ -12,8 +15,9 @@ import subprocess
 from typing import Iterator, Optional
 
 from .graph_text import Edge, Graph, Node, State, Transition, read_graph
-from .labels import exits_of, id_of, label_of_edge, label_of_node, lines_of_containers
+from .labels import exits_of, id_of, is_resolved, label_of_edge, label_of_node, label_of_state, lines_of_containers
 from .mermaid import mermaid
+from .views import BOX, NOTHING, POINT, add_words, leave_out_empty, name_exits
 
 GRAPHVIZ = "dot"
 FORMATS = ("svg", "png")
@@ -26,14 +30,17 @@ SHAPES = {
     "exit": "invtrapezium",
     "reduce": "invtriangle",
     "copy": "box",
+    "nested": "box3d",
 }
 STATE_COLOR = "#deebf7"
+RESOLVED = 'color="#d95f02" fontcolor="#d95f02" arrowhead=dot'
 BLANK = "style=invis"
 HEAD = (
     "compound=true",
     "newrank=true",
     # Without a limit Graphviz takes minutes to straighten states of more than a hundred nodes.
     "nslimit=2",
+    "ranksep=0.25",
     'fontname="Helvetica"',
     'node [fontname="Helvetica" style=filled fillcolor=white]',
     'edge [fontname="Helvetica" fontsize=10]',
@@ -55,20 +62,37 @@ class DrawingFailed(RuntimeError):
 
 
 class Picture:
-    """A printed graph. `text` is what the program printed; a notebook shows the picture."""
+    """A printed graph. `text` is what the program printed; a notebook shows the picture.
 
-    def __init__(self, text: str) -> None:
+    With the `source` of the graph the picture has its words, or `OtherSource` is raised. `fold` draws each nested graph as one
+    node, and `empty` tells whether empty states are drawn.
+    """
+
+    def __init__(self, text: str, source: Optional[bytes] = None, fold: bool = False, empty: bool = True) -> None:
         self.text = text
         self.graph = read_graph(text)
+        self.source, self.fold, self.empty = source, fold, empty
+        self._drawn()
+
+    def _drawn(self) -> Graph:
+        """Gives the graph as it is drawn."""
+        graph = read_graph(self.text)
+        if self.source is not None:
+            add_words(graph, self.source)
+        name_exits(graph)
+        if not self.empty:
+            leave_out_empty(graph)
+        return _folded(graph) if self.fold else graph
 
     def dot(self) -> str:
         """Gives the text that Graphviz draws."""
-        body = [*HEAD, *_whole_graph(self.graph, id_of(self.graph))]
+        graph = self._drawn()
+        body = [*HEAD, *_whole_graph(graph, id_of(graph))]
         return "digraph {\n" + "".join(f"  {line}\n" for line in body) + "}\n"
 
     def mermaid(self) -> str:
         """Gives the text that Mermaid draws."""
-        return mermaid(self.graph)
+        return mermaid(self._drawn())
 
     def drawn(self, form: str) -> bytes:
         """Gives the picture in a form of `FORMATS`, or raises `NoGraphviz` or `DrawingFailed`."""
@@ -94,8 +118,21 @@ class Picture:
         return self.text
 
 
+def _folded(graph: Graph) -> Graph:
+    """Takes the nested graphs out of their nodes."""
+    for state in graph.states:
+        for node in state.nodes:
+            node.graph = None
+    return graph
+
+
 def _quoted(text: str) -> str:
     return '"' + text.replace("\\", "\\\\").replace('"', '\\"').replace("\n", "\\n") + '"'
+
+
+def _beside(text: str) -> Iterator[str]:
+    """Gives the lines of an edge's label, with a space between them and the edge."""
+    return (f"  {it} " for it in text.split("\n"))
 
 
 def _lines_of_label(*lines: str) -> str:
@@ -123,10 +160,11 @@ def _whole_graph(graph: Graph, name: str) -> Lines:
 
 def _body_of_graph(graph: Graph, name: str) -> Lines:
     yield from (_anchor(f"{name}_in"), _anchor(f"{name}_out"))
-    for number, state in enumerate(graph.states):
+    states = [(number, it) for number, it in enumerate(graph.states) if it.drawn != NOTHING]
+    for number, state in states:
         yield from _state(graph, number, state)
-    yield f"{name}_in -> {id_of(graph, 0, 'in')} [{BLANK}]"
-    for number, state in enumerate(graph.states):
+    yield f"{name}_in -> {id_of(graph, states[0][0], 'in')} [{BLANK}]"
+    for number, state in states:
         for transition in state.transitions:
             yield _transition(graph, number, transition)
         if not state.transitions:
@@ -134,12 +172,13 @@ def _body_of_graph(graph: Graph, name: str) -> Lines:
 
 
 def _transition(graph: Graph, source: int, transition: Transition) -> str:
-    there = [f"ltail=cluster_{id_of(graph, source)}", f"lhead=cluster_{id_of(graph, transition.to)}"]
-    settings = ["color=blue", "fontcolor=blue", *(there if source != transition.to else [])]
+    ends = [("ltail", source), ("lhead", transition.to)] if source != transition.to else []
+    there = [f"{end}=cluster_{id_of(graph, it)}" for end, it in ends if graph.states[it].drawn == BOX]
+    settings = ["color=blue", "fontcolor=blue", *there]
     if transition.back:
         settings += ["constraint=false", "penwidth=2"]
     if transition.text:
-        settings.append(f"label={_quoted(transition.text)}")
+        settings.append(f"label={_lines_of_label(*_beside(transition.text))}")
     return f"{_out_of_state(graph, source)} -> {id_of(graph, transition.to, 'in')} [{' '.join(settings)}]"
 
 
@@ -149,8 +188,11 @@ def _out_of_state(graph: Graph, number: int) -> str:
 
 
 def _state(graph: Graph, number: int, state: State) -> Lines:
+    if state.drawn == POINT:
+        yield f'{id_of(graph, number, "in")} [shape=circle style=filled fillcolor=blue color=blue width=0.12 label="" tooltip="state {number}"]'
+        return
     colors = [f'fillcolor="{STATE_COLOR}"', f'color="{STATE_COLOR}"']
-    settings = ["labeljust=l", "style=filled", *colors, f'label="state {number}"']
+    settings = ["labeljust=l", "style=filled", *colors, f"label={_quoted(label_of_state(number, state))}"]
     yield from _cluster(id_of(graph, number), settings, _body_of_state(graph, number, state))
 
 
@@ -210,7 +252,9 @@ def _node(graph: Graph, number: int, node: Node, entry: Node) -> str:
         styles.append("dashed")
     if node.what == "copy":
         styles.append("rounded")
-    settings = [f"shape={SHAPES[node.what]}", f'style="{",".join(styles)}"', f"label={_quoted(label_of_node(node, entry))}"]
+    label = label_of_node(node, entry)
+    written = _lines_of_label(*label.split("\n")) if node.code else _quoted(label)
+    settings = [f"shape={SHAPES[node.what]}", f'style="{",".join(styles)}"', f"label={written}"]
     return f"{id_of(graph, number, node.number)} [{' '.join(settings)} tooltip=\"node {node.number}\"]"
 
 
@@ -223,7 +267,8 @@ def _edge(graph: Graph, number: int, state: State, edge: Edge) -> str:
     source, target = state.nodes[edge.source], state.nodes[edge.target]
     settings = [f"ltail=cluster_{id_of(source.graph)}"] if source.graph else []
     settings += [f"lhead=cluster_{id_of(target.graph)}"] if target.graph else []
-    settings.append(f"label={_quoted(label_of_edge(edge))}" if edge.text else "style=dashed")
+    settings.append(f"label={_lines_of_label(*_beside(label_of_edge(edge)))}" if edge.text else "style=dashed")
+    settings += [RESOLVED] if is_resolved(state, edge) else []
     ends = f"{_end_of(graph, number, source, 'out')} -> {_end_of(graph, number, target, 'in')}"
     return f"{ends} [{' '.join(settings)}]"
 
