@@ -96,7 +96,10 @@ def call_of(name: str, command: Command) -> Callable[..., Any]:
 
     def call(program: Given, /, **given: Any) -> Any:
         keywords = {it: given.pop(it, default) for it, default in command.keywords().items()}
-        return command.called(program, keywords, given)
+        answer = command.called(program, keywords, given)
+        if isinstance(answer, Picture):
+            answer.take_words(source_of(program).text())
+        return answer
 
     one = inspect.Parameter
     options = [one(it, one.KEYWORD_ONLY, default=default) for it, default in command.keywords().items()]

@@ -3,7 +3,7 @@ from __future__ import annotations
 
 import difflib
 import re
-from typing import Iterator, Mapping, Optional, Sequence
+from typing import Callable, Iterator, Mapping, Optional, Sequence
 
 from .causes import Cause, cause_of
 from .statements import statements_of
@@ -53,7 +53,7 @@ HELP: Mapping[int, str] = {
     1: "Fewer elements, or a higher limit of memory.",
     4: "An argument of one element is given as `[7]`, a size as `7`.",
     6: "Give each point elements of its own, or resolve alike, or write two maps with an array between them: docs/RACES.md.",
-    8: "`--turns B` gives a run up to 2^40 (1099511627776) turns. A turn is an instance of a tasklet or a round of a loop.",
+    8: "`--turns B`, from Python `turns=B`, gives a run up to 2^40 turns. A turn is an instance of a tasklet or a round of a loop.",
     9: "Names of files are looked up in the folder of the call.",
     10: "The disk is full, or the reader of the output has ended.",
     11: "A source has at most 2^20 bytes, an arrays file 2^26, a picks file 2^24.",
@@ -68,6 +68,7 @@ USAGE: Sequence[str] = (
 )
 FILES = {"run": 2, "step": 3, "print": 2, "check": 2}
 MOST_TURNS = 2**40
+Line = Callable[[int], int]
 # Text of a file that a terminal would take for more than text.
 CONTROL = re.compile(r"[\x00-\x08\x0b-\x1f\x7f-\x9f]")
 
@@ -83,24 +84,29 @@ def line_of(source: bytes, line: int) -> Optional[str]:
     return CONTROL.sub("?", lines[line - 1].rstrip("\r")).replace("\t", " ")
 
 
-def excerpt(source: bytes, line: int, parts: Sequence[tuple[int, int]] = (), number: Optional[int] = None) -> Iterator[str]:
-    """Gives a line with its number, or with another, and below it marks for parts of it, each a column and a width."""
+def same(line: int) -> int:
+    """Gives the number of a line that is counted in its source."""
+    return line
+
+
+def excerpt(source: bytes, line: int, parts: Sequence[tuple[int, int]] = (), shown: Line = same) -> Iterator[str]:
+    """Gives a line with the number that is shown for it, and below it marks for parts of it, each a column and a width."""
     text = line_of(source, line)
     if text is None:
         return
-    head = f"{line if number is None else number} | "
+    head = f"{shown(line)} | "
     yield f"  {head}{text.rstrip()}"
     marks = "".join("^" if any(at <= column < at + width for at, width in parts) else " " for column in range(len(text)))
     if marks.strip():
         yield f"  {' ' * (len(head) - 2)}| {marks.rstrip()}"
 
 
-def of_source(number: int, line: int, source: bytes, shown: Optional[int] = None) -> Iterator[str]:
+def of_source(number: int, line: int, source: bytes, shown: Line = same) -> Iterator[str]:
     """Gives the line that is refused, with its cause, and what to do."""
     cause: Cause = cause_of(number, line, source)
     yield from excerpt(source, line, [(cause.at, cause.width)], shown)
     if cause.said:
-        yield cause.said
+        yield re.sub(r"\bline (\d+)", lambda it: f"line {shown(int(it[1]))}", cause.said)
 
 
 def _parts(text: str, container: str) -> list[tuple[int, int]]:
@@ -122,19 +128,19 @@ def lines_of_race(source: bytes, scope: str, accesses: Sequence[tuple[str, str, 
         return [None] * (1 + len(accesses))
 
 
-def of_race(source: bytes, scope: str, accesses: Sequence[tuple[str, str, int]]) -> Iterator[str]:
+def of_race(source: bytes, scope: str, accesses: Sequence[tuple[str, str, int]], shown: Line = same) -> Iterator[str]:
     """Gives the lines of a scope and of two accesses in it."""
     first, *lines = lines_of_race(source, scope, accesses)
     if first is not None:
-        yield f"The scope at line {first}:"
-        yield from excerpt(source, first)
+        yield f"The scope at line {shown(first)}:"
+        yield from excerpt(source, first, (), shown)
     places: dict[tuple[int, str], list[str]] = {}
     for (mode, container, _), line in zip(accesses, lines):
         if line is not None:
             places.setdefault((line, container), []).append(f"{mode} {container}")
     for (line, container), said in places.items():
-        yield f"{', '.join(said)} at line {line}:"
-        yield from excerpt(source, line, _parts(line_of(source, line) or "", container))
+        yield f"{', '.join(said)} at line {shown(line)}:"
+        yield from excerpt(source, line, _parts(line_of(source, line) or "", container), shown)
 
 
 # Words of a call.
@@ -198,12 +204,17 @@ def explained(status: int, said: str, words: Sequence[str], source: Optional[byt
         return []
     if status == 2:
         return list(of_words(words))
-    place = [] if source is None else _place(status, said, source)
-    lines = [f"sdfg: {_meaning(status, said)}", *place]
-    return [*lines, HELP[status]] if status in HELP else lines
+    return [f"sdfg: {meaning_of(status, said)}", *lines_below(status, said, source)]
 
 
-def _meaning(status: int, said: str) -> str:
+def lines_below(status: int, said: str, source: Optional[bytes], shown: Line = same) -> list[str]:
+    """Gives the lines of the source that a refusal means, with their causes, and what helps."""
+    place = [] if source is None else _place(status, said, source, shown)
+    return [*place, *([HELP[status]] if status in HELP else [])]
+
+
+def meaning_of(status: int, said: str) -> str:
+    """Gives what a status means with the line that was written."""
     found = re.match(r"(source|arrays) error (\d+)|fault (\w+)", said)
     if found and found[3]:
         return FAULTS.get(found[3], STATUSES[status])
@@ -213,11 +224,12 @@ def _meaning(status: int, said: str) -> str:
     return STATUSES[status]
 
 
-def _place(status: int, said: str, source: bytes) -> Iterator[str]:
+def _place(status: int, said: str, source: bytes, shown: Line) -> Iterator[str]:
     if status == 3 and (found := re.fullmatch(r"source error (\d+) at line (\d+)", said)):
-        yield from of_source(int(found[1]), int(found[2]), source)
+        yield from of_source(int(found[1]), int(found[2]), source, shown)
     elif status == 6 and (found := re.fullmatch(r"race at ([\d.]+): (\w+) (\S+) by (\d+), (\w+) (\S+) by (\d+)", said)):
-        yield from of_race(source, found[1], [(found[2], found[3], int(found[4])), (found[5], found[6], int(found[7]))])
+        accesses = [(found[2], found[3], int(found[4])), (found[5], found[6], int(found[7]))]
+        yield from of_race(source, found[1], accesses, shown)
     elif status == 7:
         for line in re.findall(r"(?:at|>) line (\d+)", said):
-            yield from excerpt(source, int(line))
+            yield from excerpt(source, int(line), (), shown)

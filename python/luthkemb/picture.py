@@ -17,7 +17,7 @@ from typing import Iterator, Optional
 from .graph_text import Edge, Graph, Node, State, Transition, read_graph
 from .labels import exits_of, id_of, is_resolved, label_of_edge, label_of_node, label_of_state, lines_of_containers
 from .mermaid import mermaid
-from .views import BOX, NOTHING, POINT, add_words, leave_out_empty, name_exits
+from .views import BOX, NOTHING, POINT, OtherSource, add_words, leave_out_empty, name_exits
 
 GRAPHVIZ = "dot"
 FORMATS = ("svg", "png")
@@ -65,7 +65,7 @@ class Picture:
     """A printed graph. `text` is what the program printed; a notebook shows the picture.
 
     With the `source` of the graph the picture has its words, or `OtherSource` is raised. `fold` draws each nested graph as one
-    node, and `empty` tells whether empty states are drawn.
+    node, and `empty` tells whether empty states are drawn. All three may be set later.
     """
 
     def __init__(self, text: str, source: Optional[bytes] = None, fold: bool = False, empty: bool = True) -> None:
@@ -73,6 +73,14 @@ class Picture:
         self.graph = read_graph(text)
         self.source, self.fold, self.empty = source, fold, empty
         self._drawn()
+
+    def take_words(self, source: bytes) -> None:
+        """Takes the words of a source from now on, where that is the source of the graph."""
+        before, self.source = self.source, source
+        try:
+            self._drawn()
+        except OtherSource:
+            self.source = before
 
     def _drawn(self) -> Graph:
         """Gives the graph as it is drawn."""

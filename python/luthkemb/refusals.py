@@ -6,36 +6,13 @@ from __future__ import annotations
 
 import re
 from dataclasses import dataclass, field
-from typing import TYPE_CHECKING, BinaryIO, ClassVar, Optional
+from typing import TYPE_CHECKING, BinaryIO, ClassVar, Iterator, Optional
 
+from .explanations import ARRAYS_ERRORS, SOURCE_ERRORS, STATUSES, lines_below, lines_of_race, meaning_of
 from .moves import Move, read_moves
 
 if TYPE_CHECKING:
     from .sources import Source
-
-SOURCE_ERRORS = {
-    1: "a byte begins no token, a string is not closed, or a letter, digit or '_' follows a number",
-    2: "a tab stands in an indentation, or a line closes to a width that no open block has",
-    3: "a number is 2^63 or more",
-    4: "the line is none of the forms, or stands where its form may not",
-    5: "a name is not in force for its use",
-    6: "an extent, subscript, range or bound is not affine, or an extent names a variable",
-    7: "a name is declared twice, or is reserved",
-    8: "a limit is passed",
-    9: "a lambda is none of the resolutions",
-    10: "the sides of a copy, a reduction or the arguments of a call do not fit",
-}
-ARRAYS_ERRORS = {
-    11: "the size has no value",
-    12: "the size is not from 0 to 2^24",
-    13: "the container has a negative extent, or there are too many elements",
-    14: "the arrays are no JSON object",
-    15: "it has something else than whole numbers from -2^63 to 2^63-1",
-    16: "its lists have no common shape",
-    17: "the argument is missing",
-    18: "it is neither a size nor an argument of the program",
-    19: "its shape is not that of the argument",
-}
 
 
 MOST_BYTES = 2**20
@@ -107,11 +84,22 @@ class NotThereYet(LuthkembError, NotImplementedError):
 
 
 class Refused(LuthkembError):
-    """The program refused, with the status of the class. `moves` are those that a traced run had made."""
+    """The program refused, with the status of the class. `moves` are those that a traced run had made.
+
+    Its text is `said`, and below it `explanation`: lines of the source that are meant, and what helps.
+    """
 
     status: ClassVar[int]
     form: ClassVar[str] = ""
     moves: tuple[Move, ...] = ()
+    explanation: tuple[str, ...] = ()
+
+    def said(self) -> str:
+        """Gives what the program said, with all fields."""
+        return STATUSES[self.status]
+
+    def __str__(self) -> str:
+        return "\n".join((self.said(), *self.explanation))
 
     @classmethod
     def of(cls, found: re.Match[str], source: Source) -> Refused:
@@ -125,9 +113,6 @@ class OutOfMemory(Refused, MemoryError):
 
     status = 1
 
-    def __str__(self) -> str:
-        return "the program found no memory"
-
 
 @dataclass(eq=False)
 class BadWords(Refused, ValueError):
@@ -135,9 +120,6 @@ class BadWords(Refused, ValueError):
 
     status = 2
     form = "bad words"
-
-    def __str__(self) -> str:
-        return "the words of the call are not those of the command"
 
 
 @dataclass(eq=False)
@@ -163,9 +145,9 @@ class SourceRefused(Refused):
         place = source.origin(line)
         return cls(number, place.line, source.text_of(line), SOURCE_ERRORS.get(number, ""), place.file)
 
-    def __str__(self) -> str:
+    def said(self) -> str:
         file = f" of {self.file}" if self.file else ""
-        return f"source error {self.number} at line {self.line}{file}: {self.meaning}\n{self.text}"
+        return f"source error {self.number} at line {self.line}{file}: {self.meaning}"
 
 
 @dataclass(eq=False)
@@ -183,7 +165,7 @@ class ArraysRefused(Refused, ValueError):
     def of(cls, found: re.Match[str], source: Source) -> Refused:
         return cls(int(found[1]), found[2], ARRAYS_ERRORS.get(int(found[1]), ""))
 
-    def __str__(self) -> str:
+    def said(self) -> str:
         name = f" {self.name}" if self.name else ""
         return f"arrays error {self.number}{name}: {self.meaning}"
 
@@ -201,7 +183,7 @@ class PicksRefused(Refused, ValueError):
     def of(cls, found: re.Match[str], source: Source) -> Refused:
         return cls(int(found[1]))
 
-    def __str__(self) -> str:
+    def said(self) -> str:
         return f"picks refused at word {self.word}"
 
 
@@ -225,21 +207,27 @@ class Race(Refused):
     """The race check refuses the program: points or elements of a scope may touch the same in any order.
 
     `scope` is the path of the scope, of states and nodes, and `first` and `second` are its first two accesses that the
-    check does not accept together. Nothing was run.
+    check does not accept together. `lines` are those of the scope and of the two accesses, counted in `file`, or in the text
+    where there is none; a line that is not known is none. Nothing was run.
     """
 
     scope: str
     first: Access
     second: Access
+    lines: tuple[Optional[int], ...] = ()
+    file: Optional[str] = None
 
     status = 6
     form = r"race at ([\d.]+): (\w+) (\S+) by (\d+), (\w+) (\S+) by (\d+)"
 
     @classmethod
     def of(cls, found: re.Match[str], source: Source) -> Refused:
-        return cls(found[1], Access(found[2], found[3], int(found[4])), Access(found[5], found[6], int(found[7])))
+        pair = [(found[2], found[3], int(found[4])), (found[5], found[6], int(found[7]))]
+        places = [line and source.origin(line) for line in lines_of_race(source.text(), found[1], pair)]
+        lines = tuple(it and it.line for it in places)
+        return cls(found[1], Access(*pair[0]), Access(*pair[1]), lines, source.origin(1).file)
 
-    def __str__(self) -> str:
+    def said(self) -> str:
         return f"race at {self.scope}: {self.first}, {self.second}"
 
 
@@ -273,7 +261,7 @@ class Fault(Refused):
     def of(cls, found: re.Match[str], source: Source) -> Refused:
         return cls(found[1], [_frame(it, source) for it in found[2].split(" > ")])
 
-    def __str__(self) -> str:
+    def said(self) -> str:
         return f"fault {self.kind} at {' > '.join(str(it) for it in self.place)}"
 
 
@@ -290,7 +278,7 @@ class TurnsSpent(Refused):
     def of(cls, found: re.Match[str], source: Source) -> Refused:
         return cls(int(found[1]))
 
-    def __str__(self) -> str:
+    def said(self) -> str:
         return f"turns spent {self.turns}"
 
 
@@ -303,7 +291,7 @@ class ReadFault(Refused):
     status = 9
     form = r"read fault (.*)"
 
-    def __str__(self) -> str:
+    def said(self) -> str:
         return f"read fault {self.name}"
 
 
@@ -312,9 +300,6 @@ class WriteFault(Refused):
     """The program could not write its answer."""
 
     status = 10
-
-    def __str__(self) -> str:
-        return "the program could not write its answer"
 
 
 @dataclass(eq=False)
@@ -326,7 +311,7 @@ class TooLong(Refused):
     status = 11
     form = r"too long (.*)"
 
-    def __str__(self) -> str:
+    def said(self) -> str:
         return f"too long {self.name}"
 
 
@@ -339,7 +324,7 @@ class ArraysTooLong(TooLong):
 
     fits: int
 
-    def __str__(self) -> str:
+    def said(self) -> str:
         return (
             f"the arrays are too long: of {self.name} only {self.fits:,} elements fit into the arrays file, "
             f"which has at most 2^26 bytes"
@@ -360,6 +345,8 @@ KINDS: tuple[type[Refused], ...] = (
     TooLong,
 )
 REFUSALS = {it.status: it for it in KINDS}
+# The texts of these have their meaning.
+SAYING = (OutOfMemory, BadWords, SourceRefused, ArraysRefused, WriteFault)
 
 
 def _frame(text: str, source: Source) -> Frame:
@@ -386,4 +373,12 @@ def refusal(status: int, output: BinaryIO, source: Source) -> LuthkembError:
     except ValueError:
         return ProgramFailed(status, said)
     refused.moves = moves
+    refused.explanation = tuple(_explanation(kind, last, source))
     return refused
+
+
+def _explanation(kind: type[Refused], said: str, source: Source) -> Iterator[str]:
+    """Gives what a line of the program means, where its text does not say that itself, and what stands below it."""
+    if kind not in SAYING:
+        yield meaning_of(kind.status, said)
+    yield from lines_below(kind.status, said, source.text(), lambda line: source.origin(line).line)

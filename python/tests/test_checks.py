@@ -9,6 +9,7 @@ from support import INC, TRUE, Calls, source
 
 import luthkemb
 from luthkemb import Access, ScopeAccess
+from luthkemb.explanations import STATUSES
 
 CHECKED = INC + "# fake check scope 1.1: read A[0:2]/scope 1.1: write B[0:2]/accepted\n"
 RACE = source(
@@ -57,7 +58,11 @@ class Checks(Calls):
                 found = self.race(call)
                 self.assertEqual((found.status, found.scope), (6, "1.1"))
                 self.assertEqual((found.first, found.second), (Access("read", "A", 2), Access("write", "A", 2)))
-                self.assertEqual(str(found), "race at 1.1: read A by 2, write A by 2")
+                self.assertEqual(found.said(), "race at 1.1: read A by 2, write A by 2")
+                self.assertEqual(str(found).splitlines()[:3], [found.said(), STATUSES[6], f"The scope at line {found.lines[0]}:"])
+                written = [RACE.splitlines()[it - 1].strip() for it in found.lines if it is not None]
+                self.assertEqual((written[0][:3], written[1:]), ("for", [written[1]] * 2))
+                self.assertIn(f"read A, write A at line {found.lines[1]}:", found.explanation)
 
     def test_a_race_can_be_copied_and_sent(self) -> None:
         found = self.race("check")

@@ -39,6 +39,17 @@ class Graphs(Calls):
     def test_a_graph_has_its_parts(self) -> None:
         self.assertEqual([it.what for it in self.graph().graph.states[1].nodes], ["access", "map", "tasklet", "exit", "access"])
 
+    def test_a_picture_has_the_words_of_the_source(self) -> None:
+        found = self.graph()
+        self.assertIn("B[i] = A[i] + 1", found.mermaid())
+        self.assertIn("B[i] = A[i] + 1", found.dot())
+        found.empty = False
+        self.assertNotIn("state 0", found.mermaid())
+        found.take_words(b"another source")
+        self.assertIn("B[i] = A[i] + 1", found.mermaid())
+        found.source = None
+        self.assertIn("tasklet", found.mermaid())
+
     def test_what_is_refused_is_raised(self) -> None:
         with self.assertRaises(luthkemb.ArraysRefused) as refused:
             luthkemb.graph(SOURCE, A=[1, 2], B=[0])

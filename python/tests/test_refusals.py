@@ -10,7 +10,8 @@ from typing import Any
 from support import INC, TOP, TRUE, Calls, source
 
 import luthkemb
-from luthkemb.refusals import ARRAYS_ERRORS, REFUSALS, SOURCE_ERRORS, Refused
+from luthkemb.explanations import ARRAYS_ERRORS, FAULTS, HELP, SOURCE_ERRORS, STATUSES
+from luthkemb.refusals import REFUSALS, Refused
 
 TWO = "A: dace.int64[2], B: dace.int64[2]"
 
@@ -27,7 +28,14 @@ class Refusals(Calls):
         found = self.refused(luthkemb.SourceRefused, text, A=[0, 0], B=[0, 0])
         self.assertEqual((found.number, found.line, found.file), (6, 5, None))
         self.assertEqual((found.text, found.meaning), ("    A[B[0]] = 1  # <bad>", SOURCE_ERRORS[6]))
-        self.assertEqual(str(found), f"source error 6 at line 5: {SOURCE_ERRORS[6]}\n    A[B[0]] = 1  # <bad>")
+        lines = (
+            f"source error 6 at line 5: {SOURCE_ERRORS[6]}",
+            "  5 |     A[B[0]] = 1  # <bad>",
+            "    |       ^^^^",
+            "No element is read here: give a tasklet the array as an input, and use the element as a place there.",
+        )
+        self.assertEqual((found.said(), found.explanation), (lines[0], lines[1:]))
+        self.assertEqual(str(found), "\n".join(lines))
 
     def test_a_source_in_a_file(self) -> None:
         file = self.folder / "none.py"
@@ -39,7 +47,7 @@ class Refusals(Calls):
     def test_arrays(self) -> None:
         found = self.refused(luthkemb.ArraysRefused, INC, N=2, A=[1, 2], B=[[1], [2]])
         self.assertEqual((found.status, found.number, found.name), (4, 19, "B"))
-        self.assertEqual(str(found), f"arrays error 19 B: {ARRAYS_ERRORS[19]}")
+        self.assertEqual(str(found), f"arrays error 19 B: {ARRAYS_ERRORS[19]}\n{HELP[4]}")
 
     def test_a_fault(self) -> None:
         text = source(
@@ -51,7 +59,8 @@ class Refusals(Calls):
         )
         found = self.refused(luthkemb.Fault, text, A=[0, 0], B=[1, 0])
         self.assertEqual((found.kind, found.place), ("division", [luthkemb.Frame(7, {"t": 1, "i": 1})]))
-        self.assertEqual(str(found), "fault division at line 7: t=1, i=1")
+        lines = ("fault division at line 7: t=1, i=1", FAULTS["division"], "  7 |             A[i] = t // B[i]  # <here>")
+        self.assertEqual(str(found), "\n".join(lines))
 
     def test_a_fault_without_variables(self) -> None:
         text = source(TWO, "# fake 7 fault subscript at line {here}", "A[0] = B[2]  # <here>")
@@ -61,7 +70,7 @@ class Refusals(Calls):
     def test_turns(self) -> None:
         text = source(TWO, "while A[0] > 0:", "    A[0] = 1", "# fake 8 turns spent 5")
         found = self.refused(luthkemb.TurnsSpent, text, turns=5, A=[1, 0], B=[1, 0])
-        self.assertEqual((found.turns, str(found)), (5, "turns spent 5"))
+        self.assertEqual((found.turns, str(found)), (5, f"turns spent 5\n{STATUSES[8]}\n{HELP[8]}"))
 
     def test_words(self) -> None:
         for turns in (0, -1, 2**40 + 1):
@@ -73,12 +82,12 @@ class Refusals(Calls):
     def test_files(self) -> None:
         missing = self.folder / "none" / "inc.py"
         found = self.refused(luthkemb.ReadFault, missing)
-        self.assertEqual((found.name, str(found)), (str(missing), f"read fault {missing}"))
+        self.assertEqual((found.name, str(found)), (str(missing), f"read fault {missing}\n{STATUSES[9]}\n{HELP[9]}"))
         self.refused(luthkemb.ReadFault, self.folder)
         long = self.folder / "long.py"
         long.write_text(INC + "#" * 2**20)
         found = self.refused(luthkemb.TooLong, long, A=[1], B=[1])
-        self.assertEqual((found.name, str(found)), (str(long), f"too long {long}"))
+        self.assertEqual((found.name, found.said()), (str(long), f"too long {long}"))
 
     def test_each_can_be_caught_as_one(self) -> None:
         self.assertTrue(issubclass(luthkemb.Refused, luthkemb.LuthkembError))
@@ -110,7 +119,7 @@ class Answers(Calls):
     def test_places_with_frames(self) -> None:
         found = self.raised("7 fault division at line 15: t=0, row=-1 > line 9: i=2")
         self.assertEqual(found.place, [luthkemb.Frame(15, {"t": 0, "row": -1}), luthkemb.Frame(9, {"i": 2})])
-        self.assertEqual(str(found), "fault division at line 15: t=0, row=-1 > line 9: i=2")
+        self.assertEqual(found.said(), "fault division at line 15: t=0, row=-1 > line 9: i=2")
 
     def test_all_errors_of_arrays(self) -> None:
         for number in ARRAYS_ERRORS:
