@@ -294,11 +294,14 @@ class TheWordsOfTheSource(unittest.TestCase):
                     made = re.findall(r"^ *(\w+) \[shape=", text, re.MULTILINE)
                     named = re.findall(r"^ *(\w+) -> (\w+) ", text, re.MULTILINE)
                     self.assertLessEqual({it for ends in named for it in ends}, set(made))
-                    self.assertLessEqual(set(re.findall(r"l(?:head|tail)=(\w+)", text)), set(re.findall(r"subgraph (\w+) ", text)))
+                    clusters = set(re.findall(r"subgraph (\w+) ", text))
+                    self.assertLessEqual(set(re.findall(r"l(?:head|tail)=(\w+)", text)), clusters)
 
     def test_long_code_is_cut(self) -> None:
         lines = [f"            x = a + {'1 + ' * 20}{it}" for it in range(20)]
-        source = self.SOURCE.decode().replace("            if a > 9:\n                x = a // 2\n            else:\n                x = 9\n", "\n".join(lines) + "\n")
+        before, code, after = re.split(r"(            if a > 9:\n(?:.*\n){3})", self.SOURCE.decode())
+        self.assertEqual(code.count("\n"), 4)
+        source = "\n".join([before, *lines, after]).replace("X[i]\n\n", "X[i]\n")
         moved = re.sub(r"line (\d+)", lambda it: f"line {int(it[1]) + 16 * (int(it[1]) > 6)}", text_of("words"))
         text = next(it for it in Picture(moved, source.encode()).mermaid().splitlines() if "g_4_0_s1_2{{" in it)
         self.assertEqual((text.count("<br>"), text.count("…")), (12, 12))
@@ -310,7 +313,10 @@ class TheWordsOfTheSource(unittest.TestCase):
 
 
 class ThePicturesOfTheDocuments(unittest.TestCase):
-    PICTURE = re.compile(r"^    \./sdfg ([^|\n]*) \| tools/picture\.py --mermaid --source (\S+)\n\n```mermaid\n(.*?)```$", re.MULTILINE | re.DOTALL)
+    PICTURE = re.compile(
+        r"^    \./sdfg ([^|\n]*) \| tools/picture\.py --mermaid --source (\S+)\n\n```mermaid\n(.*?)```$",
+        re.MULTILINE | re.DOTALL,
+    )
 
     def test_they_are_made_by_the_commands_above_them(self) -> None:
         text = (TOP / "docs/GRAPH.md").read_text()

@@ -331,7 +331,7 @@ class Programs(Repository):
 class Explanations(Repository):
     """What is written to standard error where that is a terminal, and that nothing else differs."""
 
-    MODULES = ("causes", "explanations", "forms", "statements")
+    MODULES = ("causes", "explanations", "forms", "sites", "statements")
 
     def setUp(self):
         super().setUp()
@@ -382,7 +382,8 @@ class Explanations(Repository):
         self.program("echo 'source error 5 at line 4'; exit 3")
         status, output, said = self.same("run", "text", "arrays")
         self.assertEqual((status, output), (3, b"source error 5 at line 4\n"))
-        self.assertEqual(said.splitlines()[:3], ["sdfg: a name is not in force for its use", "  4 |     A[0] = Z[0]", "    |            ^"])
+        lines = ["sdfg: a name is not in force for its use", "  4 |     A[0] = Z[0]", "    |            ^"]
+        self.assertEqual(said.splitlines()[:3], lines)
 
     def test_a_source_that_cannot_be_read_again_is_not_shown(self):
         self.program("echo 'source error 5 at line 4'; exit 3")

@@ -9,19 +9,32 @@ import ast
 import builtins
 import difflib
 import re
-from dataclasses import dataclass, field
+from dataclasses import dataclass
 from typing import Callable, Iterator, Optional, Sequence, Union
 
 from .forms import BODY, TASKLET, TOP, nearest, said_of, usual
+from .sites import (
+    PARAMETER,
+    VARIABLE,
+    Name,
+    Site,
+    container_of,
+    is_connector,
+    site_of,
+    subscripts_of,
+    text_of,
+)
 
 MOST = 2**63 - 1
-MOST_LINES = 64
 RESERVED = frozenset("dace np range min max and as def elif else for if import in lambda not or while with".split())
 TOKENS = re.compile(
     r"[ \t]+|#.*|[A-Za-z_][A-Za-z0-9_]*|(?:0|[1-9][0-9]*)(?![A-Za-z0-9_])|'[A-Za-z_]\w*'|\"[A-Za-z_]\w*\""
     r"|//|<<|>>|<=|>=|==|!=|\+=|[-+*%&|^~<>=()\[\],:.@]"
 )
 NUMBER = re.compile(r"\b[0-9]+\b")
+NOT_AFFINE = (ast.Call, ast.IfExp, ast.Compare, ast.BoolOp)
+# Statements in whose expressions a container has subscripts.
+HAS_ELEMENTS = (ast.Assign, ast.AugAssign, ast.While, ast.If)
 OF_BYTES = (
     (r"\"\"\"|'''", "There are no docstrings: a comment begins with `#`."),
     (r"['\"]", "A string has one name, as in `dace.symbol('N')`, and ends on its line."),
@@ -42,25 +55,6 @@ class Cause:
     at: int = 0
     width: int = 0
     said: str = ""
-
-
-@dataclass(frozen=True)
-class Name:
-    """What a name in force is, and the line that declares it; `dimensions` are those of an array or a connector, where known."""
-
-    kind: str
-    line: int
-    dimensions: Optional[int] = None
-
-
-@dataclass
-class Site:
-    """A statement, the kind of block and the names in force before it, and all names of its program that were in force."""
-
-    statement: Optional[ast.stmt] = None
-    block: str = TOP
-    names: dict[str, Name] = field(default_factory=dict)
-    earlier: dict[str, Name] = field(default_factory=dict)
 
 
 def cause_of(number: int, line: int, source: bytes) -> Cause:
@@ -123,141 +117,14 @@ def _number(text: str, before: Sequence[str]) -> Cause:
 OF_TEXT: dict[int, Callable[[str, Sequence[str]], Cause]] = {1: _byte, 2: _indentation, 3: _number}
 
 
-# What stands before a line.
-
-
-def site_of(lines: Sequence[str], line: int) -> Site:
-    """Gives the statement that begins at a line, and what is in force before it."""
-    for last in range(line, min(line + MOST_LINES, len(lines)) + 1):
-        margin = " " * (len(lines[line - 1]) - len(lines[line - 1].lstrip()))
-        for behind in ("", f"\n{margin} pass", f"\n{margin}def _(_):\n{margin} pass"):
-            try:
-                module = ast.parse("\n".join(lines[:last]) + behind)
-            except (SyntaxError, ValueError):
-                continue
-            return _Finder(line).found(module)
-    margin = len(lines[line - 1]) - len(lines[line - 1].lstrip())
-    above = site_of([*lines[: line - 1], " " * margin + "pass"], line) if lines[line - 1].strip() != "pass" else Site()
-    return Site(None, above.block, above.names, above.earlier)
-
-
-class _Finder:
-    """Goes through a source up to a line with the names in force."""
-
-    def __init__(self, line: int) -> None:
-        self.line = line
-        self.site = Site()
-        self.earlier: dict[str, Name] = {}
-
-    def found(self, module: ast.Module) -> Site:
-        names: dict[str, Name] = {}
-        for it in module.body:
-            if isinstance(it, ast.FunctionDef):
-                self._at(it, TOP, names)
-                names[it.name] = Name("program", it.lineno)
-                self.earlier = {}
-                inner = dict(names)
-                for argument in it.args.args:
-                    self._declare(inner, argument.arg, Name("array", it.lineno, _dimensions_of_type(argument.annotation)))
-                self._body(it.body, inner)
-            else:
-                self._at(it, TOP, names)
-                if isinstance(it, ast.Assign):
-                    self._declare(names, _text(it.targets[0]), Name("size symbol", it.lineno))
-        return self.site
-
-    def _at(self, statement: ast.stmt, block: str, names: dict[str, Name]) -> None:
-        decorators = getattr(statement, "decorator_list", ())
-        if self.line in (statement.lineno, *(it.lineno for it in decorators)):
-            self.site = Site(statement, block, dict(names), self.earlier)
-
-    def _declare(self, names: dict[str, Name], name: str, what: Name) -> None:
-        names[name] = what
-        self.earlier[name] = what
-
-    def _body(self, body: Sequence[ast.stmt], names: dict[str, Name]) -> None:
-        for it in body:
-            self._at(it, BODY, names)
-            if isinstance(it, (ast.If, ast.While)):
-                self._block(it, names, {})
-            elif isinstance(it, ast.For):
-                self._for(it, names)
-            elif isinstance(it, ast.With):
-                self._tasklet(it.body, dict(names))
-            elif isinstance(it, ast.FunctionDef):
-                self._consume(it, dict(names))
-            elif isinstance(it, ast.Assign) and isinstance(it.targets[0], ast.Name):
-                self._declare(names, it.targets[0].id, _container(it))
-
-    def _block(self, statement: ast.stmt, names: dict[str, Name], more: dict[str, Name]) -> None:
-        """Goes through the blocks of a loop or branch; their containers stay in force behind them."""
-        for body in (statement.body, statement.orelse):
-            inner = {**names, **more}
-            self._body(body, inner)
-            names.update({name: it for name, it in inner.items() if it.kind in ("array", "stream")})
-
-    def _for(self, statement: ast.For, names: dict[str, Name]) -> None:
-        targets = statement.target.elts if isinstance(statement.target, ast.Tuple) else [statement.target]
-        is_map = isinstance(statement.iter, ast.Subscript)
-        kind = "parameter of a map" if is_map else "variable of a loop"
-        more = {_text(it): Name(kind, statement.lineno) for it in targets}
-        self.earlier.update(more)
-        self._block(statement, dict(names) if is_map else names, more)
-
-    def _consume(self, definition: ast.FunctionDef, names: dict[str, Name]) -> None:
-        element = definition.args.args[0].arg
-        if any(_is_connector(it) for it in definition.body):
-            self._declare(names, element, Name("input", definition.lineno, 0))
-            self._tasklet(definition.body, names)
-        else:
-            self._declare(names, element, Name("array", definition.lineno, 1))
-            self._body(definition.body, names)
-
-    def _tasklet(self, body: Sequence[ast.stmt], names: dict[str, Name]) -> None:
-        for it in body:
-            self._at(it, TASKLET, names)
-            if _is_connector(it):
-                side = "input" if isinstance(it.value.op, ast.LShift) else "output"
-                self._declare(names, _text(it.value.left), Name(side, it.lineno))
-            elif isinstance(it, ast.If):
-                self._tasklet(it.body, dict(names))
-                self._tasklet(it.orelse, dict(names))
-            elif isinstance(it, ast.Assign) and isinstance(it.targets[0], ast.Name) and it.targets[0].id not in names:
-                self._declare(names, it.targets[0].id, Name("local", it.lineno))
-
-
-def _text(expression: ast.AST) -> str:
-    return ast.unparse(expression)
-
-
-def _is_connector(statement: ast.stmt) -> bool:
-    value = statement.value if isinstance(statement, ast.Expr) else None
-    return isinstance(value, ast.BinOp) and isinstance(value.op, (ast.LShift, ast.RShift))
-
-
-def _dimensions_of_type(annotation: Optional[ast.expr]) -> int:
-    return len(_subscripts(annotation)) if isinstance(annotation, ast.Subscript) else 1
-
-
-def _container(statement: ast.Assign) -> Name:
-    call = statement.value
-    if isinstance(call, ast.Call) and _text(call.func).endswith("stream"):
-        return Name("stream", statement.lineno)
-    extents = call.args[0] if isinstance(call, ast.Call) and call.args else None
-    return Name("array", statement.lineno, len(extents.elts) if isinstance(extents, ast.List) else None)
-
-
-def _subscripts(subscripted: ast.Subscript) -> Sequence[ast.expr]:
-    return subscripted.slice.elts if isinstance(subscripted.slice, ast.Tuple) else [subscripted.slice]
-
-
 # Errors of lines.
 
 
 def _cause(text: str, node: ast.AST, said: str, word: str = "") -> Cause:
     """Gives a cause at an expression, or at a word of it; one that is not on the first line of the statement has no place."""
     at = len(text.encode()[: node.col_offset].decode(errors="replace"))
-    found = word or (node.id if isinstance(node, ast.Name) else ast.get_source_segment(text, _on_first_line(node)) or "")
+    named = node.id if isinstance(node, ast.Name) else ast.get_source_segment(text, _on_first_line(node))
+    found = word or named or ""
     return Cause(at, len(found), said) if text[at : at + len(found)] == found else Cause(said=said)
 
 
@@ -318,8 +185,8 @@ def _declaring(site: Site) -> Sequence[str]:
     """Gives the names that a statement declares or assigns, and so does not use."""
     targets = site.statement.targets if isinstance(site.statement, ast.Assign) and site.block == TASKLET else []
     heads = [it.value if isinstance(it, ast.Subscript) else it for it in targets]
-    outputs = [it.id for it in heads if isinstance(it, ast.Name) and site.names.get(it.id, Name("", 0)).kind == "output"]
-    read = {_text(it) for it in ast.walk(site.statement.value) if isinstance(it, ast.Name)} if targets else set()
+    outputs = [it.id for it in heads if isinstance(it, ast.Name) and site.kind_of(it.id) == "output"]
+    read = {text_of(it) for it in ast.walk(site.statement.value) if isinstance(it, ast.Name)} if targets else set()
     return [name for name in (*(name for name, _ in _declared(site)), *outputs) if name not in read]
 
 
@@ -344,11 +211,12 @@ def _a(kind: str) -> str:
 def _said_of_use(name: str, what: Name, subscripted: bool, site: Site) -> str:
     statement = site.statement
     is_call = isinstance(statement, ast.Expr) and isinstance(statement.value, ast.Call)
-    if is_call or _is_connector(statement) or isinstance(statement, ast.FunctionDef):
-        wanted = "program" if is_call and subscripted and name == _text(statement.value.func) else "array"
+    if is_call or is_connector(statement) or isinstance(statement, ast.FunctionDef):
+        wanted = "program" if is_call and subscripted and name == text_of(statement.value.func) else "array"
         if what.kind != wanted and not (what.kind == "stream" and not is_call):
             return f"`{name}` is {_a(what.kind)}, and here is the name of {_a(wanted)}."
-        return f"`{name}` is an array, and no stream." if isinstance(statement, ast.FunctionDef) and site.block == BODY else ""
+        is_consumed = isinstance(statement, ast.FunctionDef) and site.block == BODY
+        return f"`{name}` is an array, and no stream." if is_consumed else ""
     if site.block == TASKLET and what.kind in ("array", "stream"):
         return f"A tasklet has the values of its inputs alone: `c << {name}[..]` makes one of `{name}`."
     if what.kind == "output":
@@ -368,11 +236,11 @@ def _declared(site: Site) -> list[tuple[str, ast.AST]]:
         return [(statement.name, statement), *arguments]
     if isinstance(statement, ast.For):
         targets = statement.target.elts if isinstance(statement.target, ast.Tuple) else [statement.target]
-        return [(_text(it), it) for it in targets]
+        return [(text_of(it), it) for it in targets]
     if isinstance(statement, ast.Assign) and isinstance(statement.targets[0], ast.Name):
         return [(statement.targets[0].id, statement.targets[0])]
-    if isinstance(statement, ast.stmt) and site.block == TASKLET and _is_connector(statement):
-        return [(_text(statement.value.left), statement.value.left)]
+    if isinstance(statement, ast.stmt) and site.block == TASKLET and is_connector(statement):
+        return [(text_of(statement.value.left), statement.value.left)]
     return []
 
 
@@ -407,8 +275,8 @@ def _affine_places(statement: ast.stmt, block: str) -> Iterator[ast.expr]:
     for part in _header(statement):
         for node in ast.walk(part):
             if isinstance(node, ast.Subscript):
-                yield from _subscripts(node)
-            elif isinstance(node, ast.Call) and _text(node.func) in ("range", "dace.define_local"):
+                yield from subscripts_of(node)
+            elif isinstance(node, ast.Call) and text_of(node.func) in ("range", "dace.define_local"):
                 yield from node.args
 
 
@@ -422,22 +290,27 @@ def _not_affine(text: str, site: Site) -> Cause:
                 return _cause(text, node, said)
     for place in _affine_places(site.statement, site.block):
         for node in ast.walk(place):
-            if isinstance(node, ast.Name) and site.names.get(node.id, Name("", 0)).kind in ("variable of a loop", "parameter of a map"):
-                return _cause(text, node, f"`{node.id}` is {_a(site.names[node.id].kind)}; an extent has size symbols and numbers alone.")
+            if isinstance(node, ast.Name) and site.kind_of(node.id) in (VARIABLE, PARAMETER):
+                kind = _a(site.kind_of(node.id))
+                return _cause(text, node, f"`{node.id}` is {kind}; an extent has size symbols and numbers alone.")
     return Cause()
 
 
 def _said_of_affine(node: ast.AST) -> str:
     if isinstance(node, ast.BinOp) and isinstance(node.op, ast.Mult):
-        if any(isinstance(it, ast.Name) for it in ast.walk(node.left)) and any(isinstance(it, ast.Name) for it in ast.walk(node.right)):
+        if _has_name(node.left) and _has_name(node.right):
             return "A product here has a number on one side."
     elif isinstance(node, ast.BinOp) and not isinstance(node.op, (ast.Add, ast.Sub)):
         return "Here are `+`, `-` and `*` by a number alone: give a tasklet the array as an input, and compute the place there."
     elif isinstance(node, ast.Subscript):
         return "No element is read here: give a tasklet the array as an input, and use the element as a place there."
-    elif isinstance(node, (ast.Call, ast.IfExp, ast.Compare, ast.BoolOp)) or (isinstance(node, ast.UnaryOp) and not isinstance(node.op, ast.USub)):
+    elif isinstance(node, NOT_AFFINE) or (isinstance(node, ast.UnaryOp) and not isinstance(node.op, ast.USub)):
         return "Here are numbers, names, `+`, `-` and `*` by a number alone."
     return ""
+
+
+def _has_name(expression: ast.expr) -> bool:
+    return any(isinstance(it, ast.Name) for it in ast.walk(expression))
 
 
 def _limit(text: str, site: Site) -> Cause:
@@ -447,9 +320,9 @@ def _limit(text: str, site: Site) -> Cause:
     statement = site.statement
     if isinstance(statement, ast.For) and isinstance(statement.target, ast.Tuple) and len(statement.target.elts) > 8:
         return Cause(said="A map has at most 8 parameters: a map in a map has more.")
-    if isinstance(statement, ast.Assign) and (_container(statement).dimensions or 0) > 4 and site.block == BODY:
+    if isinstance(statement, ast.Assign) and (container_of(statement).dimensions or 0) > 4 and site.block == BODY:
         return Cause(said="An array has at most 4 dimensions.")
-    depth = sum(it.kind in ("parameter of a map", "variable of a loop") for it in site.names.values())
+    depth = sum(it.kind in (VARIABLE, PARAMETER) for it in site.names.values())
     if isinstance(statement, (ast.For, ast.While, ast.FunctionDef)) and depth >= 7:
         return Cause(said="At most 7 maps, pools and loops lie about a line.")
     return Cause(said="The limits stand in docs/LANGUAGE.md, Error 8: programs that are called have counts of their own.")
@@ -465,10 +338,14 @@ def _misfit(text: str, site: Site) -> Cause:
     statement = site.statement
     call = statement.value if isinstance(statement, ast.Expr) else None
     if isinstance(call, ast.Call) and isinstance(call.func, ast.Attribute):
-        return Cause(said="The target has the extents of the source without the axis, or one element without an axis, and is another array.")
+        return Cause(
+            said="The target has the extents of the source without the axis, or one element where there is no axis; "
+            "it is another array."
+        )
     if isinstance(call, ast.Call):
         return Cause(
-            said="A call has an argument for each parameter, with its extents and a step of 1; no array stands twice where one of them is written."
+            said="A call has an argument for each parameter, with its extents and a step of 1; "
+            "no array stands twice where one of them is written."
         )
     return Cause(said="The two sides of a copy are different arrays, with as many ranges, of the same lengths and steps.")
 
@@ -484,7 +361,7 @@ def _no_form(text: str, site: Site) -> Cause:
 
 def _place(site: Site, text: str) -> Optional[Cause]:
     """Gives what is wrong with the place of a line that may be a form elsewhere."""
-    in_scope = any(it.kind == "parameter of a map" for it in site.names.values())
+    in_scope = any(it.kind == PARAMETER for it in site.names.values())
     is_loop = re.match(r"(if|while)\b.*:$|for \w+ in range\(.*\):$", text)
     if site.block == BODY and in_scope and is_loop:
         return Cause(said="Loops and branches stand outside of maps: write `x if c else y`, or a tasklet, which may have `if`.")
@@ -498,16 +375,17 @@ def _place(site: Site, text: str) -> Optional[Cause]:
         return _map(site.statement, site.statement.iter)
     if site.block == TOP and re.match(r"(for|if|while|with)\b|\w+\[", text):
         return Cause(said="Statements stand in the block of a program: `@dace.program`, and below it `def f(X: dace.int64[..]):`.")
-    if site.block == TOP and re.match(r"def\b", text) and isinstance(site.statement, ast.FunctionDef) and not site.statement.decorator_list:
+    if site.block == TOP and isinstance(site.statement, ast.FunctionDef) and not site.statement.decorator_list:
         return Cause(said="A program has `@dace.program` on the line before its `def`.")
     return None
 
 
 def _map(statement: ast.For, ranges: ast.Subscript) -> Optional[Cause]:
     names = statement.target.elts if isinstance(statement.target, ast.Tuple) else [statement.target]
-    parameters = {_text(it) for it in names}
-    if len(names) != len(_subscripts(ranges)):
-        return Cause(said=f"There are {_counted(len(names), 'parameter')} and {_counted(len(_subscripts(ranges)), 'range')}: each parameter has one.")
+    parameters = {text_of(it) for it in names}
+    if len(names) != len(subscripts_of(ranges)):
+        counts = f"{_counted(len(names), 'parameter')} and {_counted(len(subscripts_of(ranges)), 'range')}"
+        return Cause(said=f"There are {counts}: each parameter has one.")
     own = next((it for it in ast.walk(ranges.slice) if isinstance(it, ast.Name) and it.id in parameters), None)
     if own:
         return Cause(said=f"A range names `{own.id}`, a parameter of the same map: write a map in a map.")
@@ -525,9 +403,10 @@ def _use(text: str, site: Site) -> Optional[Cause]:
         name = site.names.get(node.id)
         if name is None or name.kind not in ("array", "stream"):
             continue
-        if name.kind == "stream" and not _is_connector(site.statement):
-            return _cause(text, node, f"`{node.id}` is a stream: a tasklet pushes into it by `c >> {node.id}`, and `@dace.consume` takes from it.")
-        if name.kind == "array" and not subscripted and isinstance(site.statement, (ast.Assign, ast.AugAssign, ast.While, ast.If)):
+        if name.kind == "stream" and not is_connector(site.statement):
+            use = f"a tasklet pushes into it by `c >> {node.id}`, and `@dace.consume` takes from it"
+            return _cause(text, node, f"`{node.id}` is a stream: {use}.")
+        if name.kind == "array" and not subscripted and isinstance(site.statement, HAS_ELEMENTS):
             one = f"{node.id}[{', '.join(['0'] * (name.dimensions or 1))}]"
             return _cause(text, node, f"`{node.id}` is an array: its elements are used, as `{one}`, and copied by `X[:] = Y[:]`.")
         if subscripted and name.dimensions is not None and count != name.dimensions:
@@ -538,7 +417,8 @@ def _use(text: str, site: Site) -> Optional[Cause]:
 
 def _is_call_of(node: ast.AST, site: Site) -> bool:
     """Tells whether an expression calls a program in force."""
-    return isinstance(node, ast.Call) and isinstance(node.func, ast.Name) and site.names.get(node.func.id, Name("", 0)).kind == "program"
+    called = node.func if isinstance(node, ast.Call) else None
+    return isinstance(called, ast.Name) and site.kind_of(called.id) == "program"
 
 
 def _counted(count: int, word: str) -> str:
@@ -552,7 +432,7 @@ def _uses(statement: ast.stmt) -> Iterator[tuple[ast.Name, bool, int]]:
         for node in ast.walk(part):
             if isinstance(node, ast.Subscript):
                 head: Union[ast.expr, None] = node.value.func if isinstance(node.value, ast.Call) else node.value
-                counts[id(head)] = len(_subscripts(node))
+                counts[id(head)] = len(subscripts_of(node))
     for name, _ in _names_in(statement):
         yield name, id(name) in counts, counts.get(id(name), 0)
 

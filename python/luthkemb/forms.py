@@ -57,44 +57,132 @@ LETTERS = (
 )
 # Lines of Python and of DaCe that are no forms: one of each kind, how it is told, and what there is in its place.
 USUAL: Sequence[tuple[str, str, str]] = (
-    ("from dace import int64", r"^from\b|^import (?!dace$|numpy as np$)", "a source imports `import dace` and `import numpy as np` alone"),
+    (
+        "from dace import int64",
+        r"^from\b|^import (?!dace$|numpy as np$)",
+        "a source imports `import dace` and `import numpy as np` alone",
+    ),
     ("@dace.map", r"^@dace\.map\b", "a map is `for i in dace.map[a:b]:` and a block"),
     ("@dace.tasklet", r"^@dace\.tasklet\b", "a tasklet is `with dace.tasklet:` and a block"),
     ("@dace.program()", r"^@dace\.program\s*\(", "`@dace.program` has no brackets; it stands alone on its line"),
-    ("@cache", r"^@(?!dace\.consume\()", "the decorators are `@dace.program` before a program and `@dace.consume(S, n)` in a body"),
+    (
+        "@cache",
+        r"^@(?!dace\.consume\()",
+        "the decorators are `@dace.program` before a program and `@dace.consume(S, n)` in a body",
+    ),
     ("return A", r"^return\b", "a program returns nothing: it writes its arguments"),
-    ("break", r"^(break|continue)\b", "loops end by their range or condition alone: `while` with a condition that is written in the loop"),
+    (
+        "break",
+        r"^(break|continue)\b",
+        "loops end by their range or condition alone: `while` with a condition that is written in the loop",
+    ),
     ("pass", r"^pass\b", "a block has a statement that does something"),
-    ("assert A[0]", r"^(assert|print|raise|try|del|global|lambda|yield|class)\b", "there is no such statement in this language"),
+    (
+        "assert A[0]",
+        r"^(assert|print|raise|try|del|global|lambda|yield|class)\b",
+        "there is no such statement in this language",
+    ),
     ('"text"', r"^(\"\"\"|'''|\"|')", "there are no docstrings: a comment begins with `#`"),
     ("def f(A: dace.int64[4]) -> int:", r"^def .*->", "a program has no result: it writes its arguments"),
-    ("def f(A: int):", r"^def .*:\s*(int|float|str|np\.|numpy\.)", "the type of an argument is `dace.int64` or `dace.int64[..]`"),
-    ("def f(A: dace.float64[4]):", r"\bdace\.(float|int|uint|bool|complex)(?!64\b)\w*|\bdace\.(float64|uint64|complex64)", "the one type is `dace.int64`"),
+    (
+        "def f(A: int):",
+        r"^def .*:\s*(int|float|str|np\.|numpy\.)",
+        "the type of an argument is `dace.int64` or `dace.int64[..]`",
+    ),
+    (
+        "def f(A: dace.float64[4]):",
+        r"\bdace\.(float|int|uint|bool|complex)(?!64\b)\w*|\bdace\.(float64|uint64|complex64)",
+        "the one type is `dace.int64`",
+    ),
     ("def f():", r"^def .*\(\s*\)", "a program has one argument at the least, each with its type `dace.int64[..]`"),
     ("def f(A: dace.int64[4], n=3):", r"^def .*=", "an argument has no default"),
-    ("M = 4", r"^\w+\s*=\s*-?\d+$", "there are no constants by name: write the number, or make it a size symbol or an argument"),
+    (
+        "M = 4",
+        r"^\w+\s*=\s*-?\d+$",
+        "there are no constants by name: write the number, or make it a size symbol or an argument",
+    ),
     ("A[0] = A[1] ** 2", r"\*\*", "there is no power: write a product"),
-    ("A[0] *= 2", r"^\w+(\[.*\])?\s*(-|\*|//|%|&|\||\^|<<|>>|/)=", "of `+=` and its like there is `+=` alone: write `X[e] = X[e] * E`"),
+    (
+        "A[0] *= 2",
+        r"^\w+(\[.*\])?\s*(-|\*|//|%|&|\||\^|<<|>>|/)=",
+        "of `+=` and its like there is `+=` alone: write `X[e] = X[e] * E`",
+    ),
     ("for i in dace.map[4]:", r"\bin dace\.map\[[^:\]]*\]", "each dimension of a map is a range `begin:end`"),
     ("for i in dace.map(0, 4):", r"\bin dace\.map\(", "a map has square brackets: `for i in dace.map[a:b]:`"),
     ("for i in dace.map[4:0:-1]:", r"\bdace\.map\[.*:\s*-", "the step of a range is a number from 1 on"),
-    ("for k in range(4, 0, -1):", r"\bin (range|prange)\(.*,\s*-", "the step of a range is a number from 1 on: count upwards and turn the subscript round"),
-    ("for x in A:", r"^for\b.*\bin (?!range\b|dace\.map\b)", "a loop is `for k in range(e):`, a map `for i in dace.map[a:b]:`"),
-    ("with dace.tasklet():", r"^with dace\.tasklet\s*\(|^with (?!dace\.tasklet:)", "a tasklet is `with dace.tasklet:`, without brackets or a name"),
-    ("T = np.zeros(4)", r"\bdace\.(define_local_scalar|ndarray|define_transient)|\bnp\.\w+|\bnumpy\.\w+", "arrays of a program's own are `X = dace.define_local([e], dtype=dace.int64)`, and begin with zeros"),
-    ("A[0] = abs(A[1])", r"\b(abs|len|sum|int|float|pow|round|bool)\s*\(", "the functions are `min(x, y)` and `max(x, y)`; write another by `x if c else y`"),
-    ("S.push(A[0])", r"\.(append|push|pop|get|shape|size|T|copy|fill)\b", "names have no parts here: streams are pushed by `c >> S` in a tasklet, sizes are symbols"),
-    ("A[0] = max(A[1], A[2], A[3])", r"\b(min|max)\([^(),]*\)|\b(min|max)\([^(),]*,[^(),]*,", "`min` and `max` have two arguments"),
+    (
+        "for k in range(4, 0, -1):",
+        r"\bin (range|prange)\(.*,\s*-",
+        "the step of a range is a number from 1 on: count upwards and turn the subscript round",
+    ),
+    (
+        "for x in A:",
+        r"^for\b.*\bin (?!range\b|dace\.map\b)",
+        "a loop is `for k in range(e):`, a map `for i in dace.map[a:b]:`",
+    ),
+    (
+        "with dace.tasklet():",
+        r"^with dace\.tasklet\s*\(|^with (?!dace\.tasklet:)",
+        "a tasklet is `with dace.tasklet:`, without brackets or a name",
+    ),
+    (
+        "T = np.zeros(4)",
+        r"\bdace\.(define_local_scalar|ndarray|define_transient)|\b(np|numpy)\.(zeros|ones|empty|array|full|ndarray)\b",
+        "arrays of a program's own are `X = dace.define_local([e], dtype=dace.int64)`, and begin with zeros",
+    ),
+    (
+        "A[0] = np.sum(B)",
+        r"\b(np|numpy|math)\.",
+        "there are no functions of NumPy: write maps, `dace.reduce`, `min(x, y)`, `max(x, y)` and `x if c else y`",
+    ),
+    (
+        "A[0] = abs(A[1])",
+        r"\b(abs|len|sum|int|float|pow|round|bool)\s*\(",
+        "the functions are `min(x, y)` and `max(x, y)`; write another by `x if c else y`",
+    ),
+    (
+        "S.push(A[0])",
+        r"\.(append|push|pop|get|shape|size|T|copy|fill)\b",
+        "names have no parts here: streams are pushed by `c >> S` in a tasklet, sizes are symbols",
+    ),
+    (
+        "A[0] = max(A[1], A[2], A[3])",
+        r"\b(min|max)\([^(),]*\)|\b(min|max)\([^(),]*,[^(),]*,",
+        "`min` and `max` have two arguments",
+    ),
     ("A[0] = 1.5", r"\d\.\d|\d\.(?!\w)", "numbers are whole"),
     ("A[0] = B[1][2]", r"\][ ]*\[", "subscripts stand in one pair of brackets: `X[i, j]`"),
-    ("A[0] = A[1] < A[2] < A[3]", r"(<=?|>=?|==|!=)[^()]*?(?<![<>])(<=?|>=?|==|!=)(?![<>=])", "comparisons are not chained: write `a < b and b < c`"),
+    (
+        "A[0] = A[1] < A[2] < A[3]",
+        r"(<=?|>=?|==|!=)[^()]*?(?<![<>])(<=?|>=?|==|!=)(?![<>=])",
+        "comparisons are not chained: write `a < b and b < c`",
+    ),
     ("A[0], A[1] = 1, 2", r"^\w+\s*(\[.*\])?\s*,.*[^=<>!]=[^=]", "a statement assigns one element"),
     ("A[0] = A[1] = 1", r"^[^=(]*[^=<>!+(]=[^=(]*[^=<>!(]=[^=]", "a statement assigns one element"),
-    ("A += 1", r"^\w+(\[[^\]]*\])?\s*\+=.*\n?$", "`+=` adds to one element: `X[e] += E`, with a subscript for each dimension"),
-    ("A[0:4:2] = B[::2]", r"^\w+\[.*:\s*(-|0\b|\d+\s*[-+*]|[A-Za-z_])[^:\]]*\]\s*=.*\[.*:.*:|\[\s*::", "a range with a step is `begin:end:n`, with both ends, and `n` a number from 1 on"),
+    (
+        "A += 1",
+        r"^\w+(\[[^\]]*\])?\s*\+=.*\n?$",
+        "`+=` adds to one element: `X[e] += E`, with a subscript for each dimension",
+    ),
+    (
+        "A[0:4:2] = B[::2]",
+        r"^\w+\[.*:\s*(-|0\b|\d+\s*[-+*]|[A-Za-z_])[^:\]]*\]\s*=.*\[.*:.*:|\[\s*::",
+        "a range with a step is `begin:end:n`, with both ends, and `n` a number from 1 on",
+    ),
     ("A[:] = B", r"^\w+\[[^\]]*:[^\]]*\]\s*=\s*[A-Za-z_]\w*$", "a copy has brackets on both sides: `X[:] = Y[:]`"),
-    ("A[:] = 0", r"^\w+\[[^\]]*:[^\]]*\]\s*=(?!=)", "with a range on the left the right side is one array `Y[d]`, to copy: write a map for the rest"),
+    (
+        "A[:] = 0",
+        r"^\w+\[[^\]]*:[^\]]*\]\s*=(?!=)",
+        "with a range on the left the right side is one array `Y[d]`, to copy: write a map for the rest",
+    ),
+    (
+        "x = A[0] + 1",
+        r"^\w+\s*=(?!=)(?!.*\bdace\.)",
+        "names are assigned in tasklets alone: declare `X = dace.define_local([1], dtype=dace.int64)`, and write `X[0] = E`",
+    ),
 )
+# The kind of block to which a usual line belongs, where it is one alone.
+BLOCKS = {"M = 4": TOP, "x = A[0] + 1": BODY}
 # Words of a form that stand for themselves.
 FIXED = frozenset(
     "import dace numpy as np symbol program def int64 define_local define_stream dtype reduce lambda for in map with "
@@ -107,8 +195,8 @@ TOKEN = re.compile(r"[A-Za-z_]\w*|\d+|//|<<|>>|<=|>=|==|!=|\+=|['\"]\w*['\"]|\S"
 
 def usual(text: str, block: str) -> str:
     """Gives what there is in the place of a usual line of Python, or nothing."""
-    for _, form, instead in USUAL:
-        if re.search(form, text) and not (block == TASKLET and instead.startswith("there are no constants")):
+    for line, form, instead in USUAL:
+        if BLOCKS.get(line, block) == block and re.search(form, text):
             return instead
     return ""
 

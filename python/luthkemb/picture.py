@@ -33,6 +33,7 @@ SHAPES = {
     "nested": "box3d",
 }
 STATE_COLOR = "#deebf7"
+POINTED = "shape=circle style=filled fillcolor=blue color=blue width=0.12"
 RESOLVED = 'color="#d95f02" fontcolor="#d95f02" arrowhead=dot'
 BLANK = "style=invis"
 HEAD = (
@@ -197,7 +198,7 @@ def _out_of_state(graph: Graph, number: int) -> str:
 
 def _state(graph: Graph, number: int, state: State) -> Lines:
     if state.drawn == POINT:
-        yield f'{id_of(graph, number, "in")} [shape=circle style=filled fillcolor=blue color=blue width=0.12 label="" tooltip="state {number}"]'
+        yield f'{id_of(graph, number, "in")} [{POINTED} label="" tooltip="state {number}"]'
         return
     colors = [f'fillcolor="{STATE_COLOR}"', f'color="{STATE_COLOR}"']
     settings = ["labeljust=l", "style=filled", *colors, f"label={_quoted(label_of_state(number, state))}"]
