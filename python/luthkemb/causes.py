@@ -24,6 +24,7 @@ from .sites import (
     subscripts_of,
     text_of,
 )
+from .statements import MOST_BYTES
 
 MOST = 2**63 - 1
 RESERVED = frozenset("dace np range min max and as def elif else for if import in lambda not or while with".split())
@@ -62,13 +63,15 @@ def cause_of(number: int, line: int, source: bytes) -> Cause:
     lines = source.decode(errors="replace").split("\n")
     if not 0 < line <= len(lines):
         return Cause(said=_missing(lines))
+    if len(source) > MOST_BYTES:
+        return Cause()
     text = lines[line - 1].rstrip("\r")
     try:
         if number in OF_TEXT:
             return OF_TEXT[number](text, lines[: line - 1])
         site = site_of(lines, line)
         return OF_LINES[number](text, site) if number in OF_LINES else Cause()
-    except (ValueError, IndexError, AttributeError, TypeError, RecursionError):
+    except (SyntaxError, ValueError, LookupError, AttributeError, TypeError, RecursionError, MemoryError):
         return Cause()
 
 
@@ -177,6 +180,8 @@ def _unknown(text: str, site: Site) -> Cause:
         said = _said_of_use(name.id, site.names[name.id], subscripted, site)
         if said:
             return _cause(text, name, said)
+    if isinstance(site.statement, ast.Expr) and isinstance(site.statement.value, ast.Call):
+        return Cause(said="A program calls programs above it alone, and not itself.")
     found = re.search(r"\b(True|False|None)\b", text.split("#")[0])
     return Cause(found.start(), len(found[0]), "Truth is a number here: 1 and 0.") if found else Cause()
 
@@ -352,11 +357,17 @@ def _misfit(text: str, site: Site) -> Cause:
 
 def _no_form(text: str, site: Site) -> Cause:
     stripped = text.split("#")[0].strip() if "'" not in text and '"' not in text else text.strip()
-    found = _place(site, stripped) or _use(text, site) or Cause()
+    found = _place(site, stripped) or _use(text, site) or _open_bracket(site, stripped) or Cause()
     instead = usual(stripped, site.block) if not found.said else ""
     begun = f"{instead[0].upper()}{instead[1:]}." if instead else found.said
     found.said = " ".join(it for it in (begun, said_of(nearest(stripped, site.block))) if it)
     return found
+
+
+def _open_bracket(site: Site, text: str) -> Optional[Cause]:
+    if site.statement is None and sum(text.count(it) for it in "([") != sum(text.count(it) for it in ")]"):
+        return Cause(said="A bracket is not closed, or none is open where one closes.")
+    return None
 
 
 def _place(site: Site, text: str) -> Optional[Cause]:
@@ -385,7 +396,7 @@ def _map(statement: ast.For, ranges: ast.Subscript) -> Optional[Cause]:
     parameters = {text_of(it) for it in names}
     if len(names) != len(subscripts_of(ranges)):
         counts = f"{_counted(len(names), 'parameter')} and {_counted(len(subscripts_of(ranges)), 'range')}"
-        return Cause(said=f"There are {counts}: each parameter has one.")
+        return Cause(said=f"Here are {counts}: each parameter has one range.")
     own = next((it for it in ast.walk(ranges.slice) if isinstance(it, ast.Name) and it.id in parameters), None)
     if own:
         return Cause(said=f"A range names `{own.id}`, a parameter of the same map: write a map in a map.")

@@ -159,6 +159,9 @@ USUAL: Sequence[tuple[str, str, str]] = (
     ),
     ("A[0], A[1] = 1, 2", r"^\w+\s*(\[.*\])?\s*,.*[^=<>!]=[^=]", "a statement assigns one element"),
     ("A[0] = A[1] = 1", r"^[^=(]*[^=<>!+(]=[^=(]*[^=<>!(]=[^=]", "a statement assigns one element"),
+    ("while A[0] > 0", r"^(if|elif|else|while|for|with|def)\b.*[^:]$", "such a line ends with a colon, and its block stands below it"),
+    ("if A[0] = 1:", r"^(if|elif|while)\b[^=]*[^=<>!]=[^=]", "`==` compares; `=` assigns, on a line of its own"),
+    ("A[0] = 5 if A[1] > 2", r"=.*\bif\b(?!.*\belse\b)", "a conditional has two values: `x if c else y`"),
     (
         "A += 1",
         r"^\w+(\[[^\]]*\])?\s*\+=.*\n?$",
@@ -204,6 +207,8 @@ def usual(text: str, block: str) -> str:
 def nearest(text: str, block: str) -> str:
     """Gives the form of this kind of block that a line is nearest to, or nothing where it begins as no form does."""
     line = _signs(text)
+    if block == BODY and line[:2] == ["name", "["]:
+        return "X[d, d] = Y[d, d]" if re.match(r"\w+\s*\[[^\]]*:", text) else "X[e, e] += E" if "+=" in line else "X[e, e] = E"
     alike = [it for it in FORMS[block] if _signs(it)[:1] == line[:1]]
     alike = [it for it in alike if _signs(it)[:2] == line[:2]] or alike
     return max(alike, key=lambda it: _likeness(line, _signs(it)), default="")

@@ -7,7 +7,8 @@ from typing import Optional, Sequence
 
 from .forms import BODY, TASKLET, TOP
 
-MOST_LINES = 64
+# A statement with more lines is not read.
+MOST_LINES = 16
 VARIABLE, PARAMETER = "variable of a loop", "parameter of a map"
 
 
@@ -35,18 +36,36 @@ class Site:
 
 
 def site_of(lines: Sequence[str], line: int) -> Site:
-    """Gives the statement that begins at a line, and what is in force before it."""
-    for last in range(line, min(line + MOST_LINES, len(lines)) + 1):
-        margin = " " * (len(lines[line - 1]) - len(lines[line - 1].lstrip()))
-        for behind in ("", f"\n{margin} pass", f"\n{margin}def _(_):\n{margin} pass"):
+    """Gives the statement that begins at a line, and what is in force before it; none where Python has no reading of these."""
+    text = lines[line - 1]
+    margin = " " * (len(text) - len(text.lstrip()))
+    last, behind = _end_of(lines, line, margin)
+    found = _found("\n".join(lines[:last]) + behind, line) if last else None
+    if found:
+        return found
+    place = _found("\n".join([*lines[: line - 1], f"{margin}pass"]), line) or Site()
+    return Site(None, place.block, place.names, place.earlier)
+
+
+def _found(text: str, line: int) -> Optional[Site]:
+    try:
+        return _Finder(line).found(ast.parse(text))
+    except (SyntaxError, ValueError):
+        return None
+
+
+def _end_of(lines: Sequence[str], line: int, margin: str) -> tuple[int, str]:
+    """Gives the last line of the statement that begins at a line, and a block for it; or 0 where it is no statement alone."""
+    before = "if 1:\n pass\n" if lines[line - 1].lstrip().startswith(("elif", "else")) else ""
+    for last in range(line, min(line + MOST_LINES, len(lines) + 1)):
+        text = "\n".join(lines[line - 1 : last]).lstrip()
+        for behind in ("", "\n{} pass", "\n{}def _(_):\n{} pass"):
             try:
-                module = ast.parse("\n".join(lines[:last]) + behind)
-            except (SyntaxError, ValueError):
+                ast.parse(before + text + behind.format("", ""))
+                return last, behind.format(margin, margin)
+            except SyntaxError:
                 continue
-            return _Finder(line).found(module)
-    margin = len(lines[line - 1]) - len(lines[line - 1].lstrip())
-    above = site_of([*lines[: line - 1], " " * margin + "pass"], line) if lines[line - 1].strip() != "pass" else Site()
-    return Site(None, above.block, above.names, above.earlier)
+    return 0, ""
 
 
 class _Finder:

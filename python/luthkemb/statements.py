@@ -9,6 +9,8 @@ import ast
 from dataclasses import dataclass, field
 from typing import Iterator, Optional, Sequence, Union
 
+# A longer source takes seconds to read, and is not looked at to explain a mistake.
+MOST_BYTES = 2**18
 Names = frozenset[str]
 NONE: Names = frozenset()
 
@@ -297,9 +299,9 @@ def _loop_words(statement: Union[ast.For, ast.While]) -> tuple[str, str]:
 
 
 def statements_of(source: Union[bytes, str]) -> Optional[Statements]:
-    """Gives the statements of a source, or nothing where it has a line that is none."""
+    """Gives the statements of a source, or nothing where it has a line that is none, or is long."""
     try:
-        return Statements(source)
+        return Statements(source) if len(source) <= MOST_BYTES else None
     except (ValueError, AttributeError, IndexError, TypeError):
         return None
 

@@ -148,7 +148,8 @@ class Causes(unittest.TestCase):
                 self.assertTrue(told if has_own else said.replace("`", "").lower() in told, told)
 
     def test_a_source_that_is_none(self) -> None:
-        for text in (b"", b"\xff", b"(" * 3000, b"\x00", b"def f(:\n" * 9):
+        lines = b"    A[0] = 1\n" * 20000
+        for text in (b"", b"\xff", b"(" * 3000, b"\x00", b"def f(:\n" * 9, HEAD.encode() + lines + b"    A[0] = = 1\n"):
             for number in SOURCE_ERRORS:
                 for line in (0, 1, 2, 99):
                     self.assertIsInstance(cause_of(number, line, text).said, str)
