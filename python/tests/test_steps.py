@@ -49,7 +49,7 @@ class Steps(Calls):
             with self.subTest(picks), self.assertRaises(luthkemb.PicksRefused) as found:
                 luthkemb.step(INC, picks=picks, A=[1], B=[1])
             self.assertEqual((found.exception.status, found.exception.word), (5, word))
-            self.assertEqual(str(found.exception), f"picks refused at word {word}")
+            self.assertEqual(found.exception.said(), f"picks refused at word {word}")
         with self.assertRaises(TypeError):
             luthkemb.step(INC, picks=["0"], A=[1], B=[1])
 
