@@ -11,12 +11,17 @@ each program has
 - the peak memory of both in MiB, the greatest of five runs, and the ratio of sdfg's to its limit: three times the arrays and
   twice the arrays file.
 
+Two lines more time calls from Python (python_calls.py), the least of five runs: what the package converts, of two NumPy arrays of 10^7
+elements, beside the run of these, with the peak of all it takes beside three times the arrays; and twenty calls on small arrays, all in
+all beside 0.2 seconds. The first is left out where no Python has NumPy.
+
 Behind a ratio stands its mark and whether it was met. A peak has no mark where its limit is below 1 MiB, which is less than
 what the program's own pages take. With --size small the programs run on few elements, for a quick try, and there are no
 marks. The status is 0 where no mark was missed and both sides print the same.
 """
 import argparse
 import ctypes
+import importlib.util
 import json
 import os
 import subprocess
@@ -77,6 +82,11 @@ PROGRAMS = [
     ("Fibonacci pool", "fibonacci/fib.py", fib, 1 / 4),
     ("a map that adds 1", "inc/inc.py", inc, 1 / 4),
 ]
+
+
+CALLS = Path(__file__).resolve().parent / "python_calls.py"
+OF_THE_SYSTEM = "/usr/bin/python3"
+CALLS_SECONDS = 0.2
 
 
 def elements(given):
@@ -154,6 +164,54 @@ def compared(program, source, given, mark):
     return cells, text == other and "missed" not in verdicts
 
 
+def python_with_numpy():
+    """Returns a Python that has NumPy, if there is one: this one, or else that of the system."""
+    if importlib.util.find_spec("numpy") is not None:
+        return sys.executable
+    asked = [OF_THE_SYSTEM, "-c", "import numpy"]
+    has_it = os.access(OF_THE_SYSTEM, os.X_OK) and subprocess.run(asked, capture_output=True).returncode == 0
+    return OF_THE_SYSTEM if has_it else None
+
+
+def from_python(program, python, what, count):
+    """Returns the least seconds of the package and of the program in some runs, and the greatest peak in bytes."""
+    os.environ["LUTHKEMB_SDFG"] = str(program)
+    seconds, peaks = [], []
+    with tempfile.TemporaryFile() as out:
+        for _ in range(RUNS):
+            out.seek(0)
+            out.truncate()
+            status, usage = run([python, CALLS, what, str(count)], out)
+            if status != 0:
+                raise SystemExit(f"{CALLS.name} {what} {count} ended with {status}")
+            out.seek(0)
+            seconds.append(json.load(out))
+            peaks.append(usage.ru_maxrss * 1024)
+    return *(min(it[side] for it in seconds) for side in ("python", "sdfg")), max(peaks)
+
+
+def converted(program, small):
+    """Returns the cells of the line of the conversions, and whether all is well."""
+    python = python_with_numpy()
+    if python is None:
+        return ["conversion", "no NumPy"], True
+    count = 2**16 if small else 10**7
+    ours, theirs, peak = from_python(program, python, "conversion", count)
+    limit = 3 * 2 * 8 * count
+    verdicts = [verdict(ours / theirs, None if small else 1), verdict(peak / limit, None if small else 1)]
+    cells = [f"{theirs:.3f}", f"{ours:.3f}", f"{ours / theirs:.3f}", "-" if small else "1", verdicts[0], "-", f"{peak / 2**20:.1f}"]
+    cells += [f"{limit / 2**20:.1f}", f"{peak / limit:.2f}", verdicts[1], "the same"]
+    return ["conversion", *cells], "missed" not in verdicts
+
+
+def called(program, small):
+    """Returns the cells of the line of twenty calls, and whether all is well."""
+    ours, theirs, _ = from_python(program, sys.executable, "calls", 20)
+    told = verdict((ours + theirs) / CALLS_SECONDS, None if small else 1)
+    cells = [f"{theirs:.3f}", f"{ours:.3f}", f"{(ours + theirs) / CALLS_SECONDS:.3f}", "-" if small else "1", told, *"-----", "the same"]
+    return ["20 calls, of 0.2 s", *cells], told != "missed"
+
+
 HEAD = ["program", "sdfg s", "CPython s", "ratio", "mark", "", "peak", "CPython", "limit", "ratio", "", "text"]
 WIDTHS = [18, 8, 10, 8, 6, 7, 8, 8, 8, 6, 7, 9]
 
@@ -179,6 +237,10 @@ def main():
         small = words.size == "small"
         cells, fine = compared(program.resolve(), TOP / "examples" / source, arrays(small), None if small else mark)
         print(shown([name, *cells]), flush=True)
+        good = good and fine
+    for line in (converted, called):
+        cells, fine = line(program.resolve(), words.size == "small")
+        print(shown(cells), flush=True)
         good = good and fine
     return 0 if good else 1
 

@@ -23,6 +23,7 @@ MOST_BYTES = 2**26
 """The greatest arrays file."""
 BLOCK = 2**15
 """How many elements of a NumPy array become text at a time."""
+MOST_BYTES_OF_A_BLOCK = 2**20
 COMMA = ord(",")
 ENDS = range(COMMA + 100, 256)
 """Stand for the ends of one list, of two lists and so on, until these are put in their places."""
@@ -200,14 +201,56 @@ def read_arrays(output: BinaryIO, given: Mapping[str, Any]) -> dict[str, Any]:
 
     Raises `ValueError`.
     """
+    return {name: _array_like(given.get(name), output, shape) for name, shape in _heads(output)}
+
+
+def read_some(output: BinaryIO, given: Mapping[str, Any]) -> dict[str, Any]:
+    """Reads those of the arrays that were printed that are among the given ones, and passes the others over."""
     found = {}
+    for name, shape in _heads(output):
+        if name in given:
+            found[name] = _array_like(given[name], output, shape)
+        else:
+            _pass_line(output)
+    return found
+
+
+def read_into(output: BinaryIO, arrays: Mapping[str, Any]) -> None:
+    """Reads the arrays that were printed into these, and passes over those that are not among them. Raises `ValueError`."""
+    for name, shape in _heads(output):
+        if name not in arrays:
+            _pass_line(output)
+        elif is_plain(arrays[name]) and arrays[name].size == math.prod(shape):
+            from .digits import read_numbers
+
+            read_numbers(output, arrays[name].reshape(-1))
+        else:
+            put(arrays[name], _array_like(arrays[name], output, shape))
+
+
+def is_plain(array: Any) -> bool:
+    """Tells whether this is a NumPy array of numbers of 64 bits that lie one behind another as they are counted."""
+    return is_numpy(array) and array.flags.c_contiguous and array.dtype.isnative and array.dtype.str[1:] == "i8"
+
+
+def put(array: Any, after: Any) -> None:
+    """Puts the elements of an array into another one."""
+    if is_numpy(array):
+        array[...] = after
+    elif after and isinstance(after[0], list):
+        for row, values in zip(array, after):
+            put(row, values)
+    else:
+        array[:] = after
+
+
+def _heads(output: BinaryIO) -> Iterator[tuple[str, Shape]]:
+    """Gives the name and the shape of each array, whose elements are then to be read; or raises `ValueError`."""
     while head := _head(output):
         told = HEAD.fullmatch(head)
         if told is None:
             raise ValueError(f"this begins no line of an array: {head[:80]!r}")
-        name = told[1].decode()
-        found[name] = _array_like(given.get(name), output, tuple(int(it) for it in told[2].split(b",")))
-    return found
+        yield told[1].decode(), tuple(int(it) for it in told[2].split(b","))
 
 
 def _head(output: BinaryIO) -> bytes:
@@ -218,12 +261,25 @@ def _head(output: BinaryIO) -> bytes:
     return head + byte
 
 
+def _pass_line(output: BinaryIO) -> None:
+    """Reads to the end of a line, of which nothing is kept."""
+    while block := output.read(MOST_BYTES_OF_A_BLOCK):
+        end = block.find(b"\n") + 1
+        if end:
+            output.seek(end - len(block), 1)
+            return
+
+
 def _array_like(given: Any, output: BinaryIO, shape: Shape) -> Any:
     """Reads the elements of an array, as what was given for it."""
     if is_numpy(given):
+        import numpy
+
         from .digits import read_numbers
 
-        return read_numbers(output, math.prod(shape)).reshape(shape if given.ndim else given.shape)
+        found = numpy.empty(math.prod(shape), numpy.int64)
+        read_numbers(output, found)
+        return found.reshape(shape if given.ndim else given.shape)
     line = output.readline()
     values = [int(it) for it in line.split()]
     if len(values) != math.prod(shape) or not line.endswith(b"\n"):

@@ -1,32 +1,37 @@
 """Calls of functions as DaCe has them: `inc(A, B)` runs the program and changes its arrays in place."""
 from __future__ import annotations
 
+from dataclasses import replace
 from itertools import combinations
-from typing import Any, Iterator, Mapping, Optional
+from typing import Any, BinaryIO, Iterator, Mapping, Optional
 
-from .arrays import is_numpy
+from .arrays import is_numpy, read_into, read_some
 from .commands import COMMANDS, Entries
 from .dace import Program
 from .refusals import DoesNotFit
 from .sizes import Signature
 from .sources import source_of
 
-RUN = COMMANDS["run"]
-
-
 def call(program: Program, arrays: tuple[Any, ...], turns: Optional[int], given: Entries) -> None:
     """Runs a program on arrays, by their places or names, and changes them, or raises and changes none of them."""
     source = source_of(program)
     names = list(Signature.of(source.text()).arguments) or list(program.function.__code__.co_varnames[: len(arrays)])
     entries = _by_names(program.function.__name__, names, arrays, given)
-    changed = {name: entries[name] for name in names if name in entries and _is_changed(name, entries[name])}
+    changed = {name: entries[name] for name in names if _is_changed(name, entries[name])}
     _no_two_share(changed)
-    after = RUN.called(source, {**RUN.keywords(), "turns": turns}, entries)
-    for name in names:
-        if name not in changed and not _is_same(entries[name], after[name]):
-            raise DoesNotFit(name, "the program changes it, and a number or an array of bool cannot hold that: give an int64 array")
-    for name, array in changed.items():
-        _put(array, after[name])
+    only_read = {name: entries[name] for name in names if name not in changed}
+    command = replace(COMMANDS["run"], answer=lambda output, _: _change(output, changed, only_read))
+    command.called(source, {**command.keywords(), "turns": turns}, entries)
+
+
+def _change(output: BinaryIO, changed: Entries, only_read: Entries) -> None:
+    """Changes the arrays to what was printed, or raises `DoesNotFit` where what is only read is not as it was."""
+    if only_read:
+        for name, after in read_some(output, only_read).items():
+            if not _is_same(only_read[name], after):
+                raise DoesNotFit(name, "the program changes it, and a number or an array of bool cannot hold that: give an int64 array")
+        output.seek(0)
+    read_into(output, changed)
 
 
 def _by_names(function: str, names: list[str], arrays: tuple[Any, ...], given: Entries) -> dict[str, Any]:
@@ -101,14 +106,3 @@ def _lists(value: Any) -> Iterator[list[Any]]:
 def _is_same(given: Any, after: Any) -> bool:
     """Tells whether what is only read is after the run as it was given."""
     return bool((given == after).all()) if is_numpy(given) else given == after
-
-
-def _put(array: Any, after: Any) -> None:
-    """Puts the elements after a run into an array."""
-    if is_numpy(array):
-        array[...] = after
-    elif after and isinstance(after[0], list):
-        for row, values in zip(array, after):
-            _put(row, values)
-    else:
-        array[:] = after

@@ -13,7 +13,7 @@ from .arrays import in_lists, is_size, read_arrays, shape_of, write_entries
 from .moves import After, picks_file, read_moves
 from .picture import Picture
 from .programs import ended
-from .refusals import MOST_BYTES, ProgramFailed, refusal
+from .refusals import MOST_BYTES, LuthkembError, ProgramFailed, refusal
 from .sizes import Signature
 from .sources import Given, Source, source_of
 
@@ -76,6 +76,8 @@ class Command:
                 raise refusal(status, output, source)
             try:
                 return self.answer(output, given)
+            except LuthkembError:
+                raise
             except ValueError as wrong:
                 output.seek(0)
                 raise ProgramFailed(status, output.read(MOST_BYTES).decode(errors="replace")) from wrong

@@ -6,7 +6,7 @@ from typing import Any, BinaryIO, Iterator, Union
 
 import numpy
 
-BLOCK = 2**18
+BLOCK = 2**17
 """How many bytes of a text are read at a time: few enough that what is made of them stays near the processor."""
 MOST_DIGITS = 19
 PAD = 24
@@ -78,9 +78,9 @@ def _groups_of(most: int) -> int:
     return groups
 
 
-def read_numbers(file: BinaryIO, count: int) -> numpy.ndarray:
-    """Reads so many numbers, each behind a space, and the newline behind the last; or raises `ValueError`."""
-    found = numpy.empty(count, numpy.int64)
+def read_numbers(file: BinaryIO, found: numpy.ndarray) -> None:
+    """Reads numbers, each behind a space, and the newline behind the last, into a row of as many; or raises `ValueError`."""
+    count = len(found)
     buffer = bytearray(PAD + BLOCK)
     done = kept = 0
     last = False
@@ -104,7 +104,6 @@ def read_numbers(file: BinaryIO, count: int) -> numpy.ndarray:
         buffer[PAD : PAD + kept] = buffer[end:stop]
     if done != count:
         raise ValueError(f"an array of {count} elements has {done} of them")
-    return found
 
 
 def values_of(buffer: Any, end: int) -> numpy.ndarray:

@@ -41,7 +41,8 @@ class SDFG(Picture):
         if form[1:] in FORMATS:
             file.write_bytes(self.drawn(form[1:]))
         else:
-            file.write_text(self.dot() if form == ".dot" else self.mermaid() if form in MERMAID else self.text, encoding="utf-8")
+            text = self.dot() if form == ".dot" else self.mermaid() if form in MERMAID else self.text
+            file.write_text(text, encoding="utf-8")
 
     def view(self, name: Optional[FileName] = None) -> Path:
         """Shows the picture in a browser, and gives its file: that of this name, or a new one among the temporary files."""

@@ -236,7 +236,8 @@ class Graphs(Calls):
         found = inc.to_sdfg(N=2)
         drawn = {"svg": b"<svg/>", "png": b"\x89PNG"}
         with mock.patch.object(luthkemb.Picture, "drawn", lambda _, form: drawn[form]):
-            for ending, wanted in (("svg", b"<svg/>"), ("PNG", b"\x89PNG"), ("sdfg", found.text), ("dot", found.dot()), ("mmd", found.mermaid())):
+            texts = (("sdfg", found.text), ("dot", found.dot()), ("mmd", found.mermaid()))
+            for ending, wanted in (("svg", b"<svg/>"), ("PNG", b"\x89PNG"), *texts):
                 file = self.folder / f"graph.{ending}"
                 found.save(file)
                 self.assertEqual(file.read_bytes(), wanted if isinstance(wanted, bytes) else wanted.encode())

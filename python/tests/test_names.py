@@ -134,7 +134,8 @@ class Sources(unittest.TestCase):
 
     def test_lines_stay_lines(self) -> None:
         found = self.lines_of(documented)
-        self.assertEqual(found[:4], ["import dace", "N = dace.symbol('N')", "@dace.program", "def documented(A: dace.int64[N], B: dace.int64[N]):"])
+        head = ["import dace", "N = dace.symbol('N')", "@dace.program", "def documented(A: dace.int64[N], B: dace.int64[N]):"]
+        self.assertEqual(found[:4], head)
         self.assertEqual([it.strip() for it in found[4:7]], ["", "", ""])
         self.assertEqual(found[8:], ["    for i in dace.map[0:N]:", "        ", "        B[i] = A[i] + 1"])
         first = Path(__file__).read_text().splitlines().index("def documented(A: dc.int64[M], B: int64[SAME]):") + 1

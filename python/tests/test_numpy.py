@@ -155,11 +155,14 @@ class Texts(unittest.TestCase):
                 text = " ".join(str(it) for it in given.tolist()).encode()
                 self.assertEqual(digits.text_of(given, ord(" ")), text + b" ")
                 file = io.BytesIO(b" " + text + b"\nrest")
-                found = digits.read_numbers(file, len(given))
-                self.assertEqual((found.dtype, found.tolist(), file.read()), (numpy.int64, given.tolist(), b"rest"))
+                found = numpy.full(len(given), 77)
+                digits.read_numbers(file, found)
+                self.assertEqual((found.tolist(), file.read()), (given.tolist(), b"rest"))
 
     def test_no_numbers(self) -> None:
-        self.assertEqual(digits.read_numbers(io.BytesIO(b"\n"), 0).tolist(), [])
+        file = io.BytesIO(b"\nrest")
+        digits.read_numbers(file, numpy.empty(0, numpy.int64))
+        self.assertEqual(file.read(), b"rest")
 
     def test_what_is_no_text_of_so_many_numbers(self) -> None:
         for text in (
@@ -169,7 +172,7 @@ class Texts(unittest.TestCase):
             " 9223372036854775808 9223372036854775808\n", f" 1 {'1' * 300_000}\n",
         ):
             with self.subTest(text[:30]), self.assertRaises(ValueError):
-                digits.read_numbers(io.BytesIO(text.encode()), 2)
+                digits.read_numbers(io.BytesIO(text.encode()), numpy.zeros(2, numpy.int64))
 
     def test_lists_in_lists(self) -> None:
         drawn = numpy.random.default_rng(8)
