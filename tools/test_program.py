@@ -59,6 +59,7 @@ class Repository(unittest.TestCase):
         Path(f"{self.calls}.built").write_bytes(script("built"))
         (tools / "rt").chmod(0o755)
         self.environment = {**os.environ, "PATH": f"{tools}:{os.environ['PATH']}", "CALLS": str(self.calls)}
+        self.environment.pop("SDFG_EXPLAINS", None)
 
     def write(self, name, text):
         (self.top / name).parent.mkdir(parents=True, exist_ok=True)
@@ -459,6 +460,11 @@ class Explanations(Repository):
         python.unlink()
         python.symlink_to(sys.executable)
         (self.top / "tools/explain.py").unlink()
+        self.assertEqual(self.same(), (2, b"bad words\n", ""))
+
+    def test_who_wants_no_explanation_gets_none(self):
+        self.program("echo 'bad words'; exit 2")
+        self.environment["SDFG_EXPLAINS"] = "no"
         self.assertEqual(self.same(), (2, b"bad words\n", ""))
 
     def test_where_the_texts_are_missing_the_answer_is_the_same(self):

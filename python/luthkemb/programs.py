@@ -20,6 +20,8 @@ NAME = "sdfg"
 MARKS = ("crates.txt", "crates")
 BAD_WORDS = 2
 SECONDS_TO_END = 5.0
+# A refusal explains itself, and ./sdfg need not.
+UNEXPLAINED = {"SDFG_EXPLAINS": "no"}
 SIGNALS = tuple(signal.valid_signals())
 HOW_TO_GET_ONE = (
     f"there is no {NAME}: set {VARIABLE} to one, or put one on the path. `pip install ./python` in the repository packs the program of "
@@ -101,7 +103,7 @@ def ended(words: Sequence[str], output: BinaryIO) -> int:
     try:
         with _signals_wait():
             # The program refuses words where its own name is no text.
-            child = subprocess.Popen([NAME, *words], **started)
+            child = subprocess.Popen([NAME, *words], env={**os.environ, **UNEXPLAINED}, **started)
         return child.wait()
     except BaseException:
         if child is not None:
