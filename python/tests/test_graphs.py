@@ -9,6 +9,7 @@ from unittest import mock
 from support import INC, TRUE, Calls
 
 import luthkemb
+from luthkemb.sources import source_of
 
 GRAPH = """sdfg f
 array A[2]
@@ -49,6 +50,7 @@ class Graphs(Calls):
         self.assertIn("B[i] = A[i] + 1", found.mermaid())
         found.source = None
         self.assertIn("tasklet", found.mermaid())
+        self.assertIn("B[i] = A[i] + 1", luthkemb.SDFG(GRAPH, source_of(INC), {}).mermaid())
 
     def test_what_is_refused_is_raised(self) -> None:
         with self.assertRaises(luthkemb.ArraysRefused) as refused:
