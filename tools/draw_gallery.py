@@ -33,8 +33,9 @@ HEAD = """# Gallery
 
 Fifteen programs that people know, over whole numbers. Each stands in a folder of `examples/` with an arrays file and what it prints.
 `tools/test_gallery.py` compares that, and what is printed for arrays that are drawn, with plain loops in Python and with NumPy.
-Behind each source stand its graph, as `print` tells it for the arrays file of the example, and the picture of that graph
-(`tools/picture.py`). `docs/GRAPH.md` says what the lines of a graph mean, and `docs/RACES.md` which maps are accepted.
+Beside each source stand its graph, as `print` tells it for the arrays file of the example, and the picture of that graph without its empty
+states (`tools/picture.py`). `docs/GRAPH.md` says what the lines of a graph and the signs of a picture mean, and `docs/RACES.md` which maps
+are accepted.
 
 `tools/draw_gallery.py` writes this page and its pictures.
 """
@@ -73,7 +74,7 @@ def page() -> str:
 
 
 def picture_of(source: Path) -> Picture:
-    return Picture(graph_of(source))
+    return Picture(graph_of(source), source.read_bytes(), empty=False)
 
 
 def file_of(source: Path) -> Path:
