@@ -103,15 +103,14 @@ class _Text:
 
     def begin(self, name: str, head: bytes) -> None:
         """Begins an entry."""
-        self.name = name
+        self.name, self.first = name, len(self.pieces) + 1
         self.add(head)
-        self.first = len(self.pieces)
 
     def add(self, piece: bytes) -> None:
         """Adds a piece of the entry; each comma in one stands behind an element."""
         self.room -= len(piece)
         if self.room < 0:
-            whole = [*self.pieces[self.first :], piece[: self.room]]
+            whole = [*self.pieces[self.first :], piece[: self.room]] if len(self.pieces) >= self.first else []
             raise ArraysTooLong(self.name, sum(it.count(b",") for it in whole))
         self.pieces.append(piece)
 
@@ -221,9 +220,12 @@ def read_into(output: BinaryIO, arrays: Mapping[str, Any]) -> None:
         if name not in arrays:
             _pass_line(output)
         elif is_plain(arrays[name]) and arrays[name].size == math.prod(shape):
+            import numpy
+
             from .digits import read_numbers
 
-            read_numbers(output, arrays[name].reshape(-1))
+            # A part of a matrix of NumPy is no row.
+            read_numbers(output, numpy.asarray(arrays[name]).reshape(-1))
         else:
             put(arrays[name], _array_like(arrays[name], output, shape))
 

@@ -158,6 +158,14 @@ class Arrays(Calls):
                     rows(given, part)
                     self.assertEqual(part.tolist(), given.tolist())
 
+    def test_kinds_of_arrays(self) -> None:
+        given, matrix = numpy.arange(6).reshape(2, 3), numpy.zeros((2, 3), numpy.int64).view(numpy.matrix)
+        rows(given, matrix)
+        self.assertEqual(matrix.tolist(), given.tolist())
+        masked = numpy.ma.array(numpy.zeros((2, 3), numpy.int64))
+        rows(given, masked)
+        self.assertEqual(masked.tolist(), given.tolist())
+
     def test_arrays_without_elements(self) -> None:
         for shape in ((0, 3), (2, 0), (0, 0)):
             rows(numpy.zeros(shape, int), numpy.zeros(shape, int), N=shape[0], M=shape[1])

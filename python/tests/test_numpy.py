@@ -196,6 +196,14 @@ class Texts(unittest.TestCase):
                     self.assertLessEqual(len(text[fits]), most)
                     self.assertGreater(len(text[fits + 1]), most)
                     self.assertFalse(file.exists())
+            for most in range(20, 34):
+                with mock.patch.object(arrays, "MOST_BYTES", most), self.assertRaises(luthkemb.ArraysTooLong) as told:
+                    arrays.write_entries(file, {"A": numpy.arange(5), "B,C": numpy.arange(9)})
+                fits = told.exception.fits
+                self.assertEqual(told.exception.name, "B,C")
+                text = {it: json.dumps({"A": list(range(5)), "B,C": list(range(it))}, separators=(",", ":")) for it in (fits, fits + 1)}
+                self.assertTrue(fits == 0 or len(text[fits]) <= most)
+                self.assertGreater(len(text[fits + 1]), most)
             arrays.write_entries(file, {"A": numpy.arange(30)})
             with mock.patch.object(arrays, "MOST_BYTES", file.stat().st_size):
                 arrays.write_entries(file, {"A": numpy.arange(30)})
