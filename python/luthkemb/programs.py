@@ -126,7 +126,7 @@ def _signals_wait() -> Iterator[None]:
         for it, handler in handlers.items():
             signal.signal(it, handler)
         for number, frame in came:
-            handlers[signal.Signals(number)](number, frame)
+            handlers[number](number, frame)
 
 
 def _end(child: subprocess.Popen[bytes]) -> None:

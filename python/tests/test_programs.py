@@ -182,6 +182,11 @@ class Interruptions(Calls):
     # What waits does so while the folder of the test is there: so nothing is left of a test that fails.
     WAITING = "while Path({!r}).exists(): time.sleep(0.05)"
 
+    def setUp(self) -> None:
+        """Has interruptions come, which a shell keeps from what it runs in the background."""
+        super().setUp()
+        self.addCleanup(signal.signal, signal.SIGINT, signal.signal(signal.SIGINT, signal.default_int_handler))
+
     def interrupted(self, statements: str, seconds: float = 0.5) -> tuple[int, int]:
         """Interrupts a call whose child does these statements, and has so many seconds to end.
 
