@@ -219,7 +219,7 @@ def read_into(output: BinaryIO, arrays: Mapping[str, Any]) -> None:
     for name, shape in _heads(output):
         if name not in arrays:
             _pass_line(output)
-        elif is_plain(arrays[name]) and arrays[name].size == math.prod(shape):
+        elif is_numpy(arrays[name]) and arrays[name].flags.c_contiguous and arrays[name].size == math.prod(shape):
             import numpy
 
             from .digits import read_numbers
@@ -228,11 +228,6 @@ def read_into(output: BinaryIO, arrays: Mapping[str, Any]) -> None:
             read_numbers(output, numpy.asarray(arrays[name]).reshape(-1))
         else:
             put(arrays[name], _array_like(arrays[name], output, shape))
-
-
-def is_plain(array: Any) -> bool:
-    """Tells whether this is a NumPy array of numbers of 64 bits that lie one behind another as they are counted."""
-    return is_numpy(array) and array.flags.c_contiguous and array.dtype.isnative and array.dtype.str[1:] == "i8"
 
 
 def put(array: Any, after: Any) -> None:

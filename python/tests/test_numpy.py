@@ -140,6 +140,7 @@ class Texts(unittest.TestCase):
         for digits in range(1, 20):
             ends = [10 ** (digits - 1), min(10**digits, 2**63) - 1]
             yield numpy.array(ends)
+            yield numpy.array([0, ends[0]])
             yield numpy.array([-it for it in ends])
             yield drawn.integers(*ends, 50, endpoint=True)
             yield drawn.integers(-ends[1], ends[1], 50, endpoint=True)
