@@ -100,7 +100,7 @@ def call_of(name: str, command: Command) -> Callable[..., Any]:
         keywords = {it: given.pop(it, default) for it, default in command.keywords().items()}
         answer = command.called(program, keywords, given)
         if isinstance(answer, Picture):
-            answer.take_words(source_of(program).text())
+            answer.source = source_of(program).text()
         return answer
 
     one = inspect.Parameter

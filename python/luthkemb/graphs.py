@@ -27,7 +27,7 @@ class SDFG(Picture):
 
     def __init__(self, text: str, source: Source, entries: Entries) -> None:
         super().__init__(text)
-        self.take_words(source.text())
+        self.source = source.text()
         self._source = source
         self._entries = dict(entries)
 

@@ -66,32 +66,33 @@ class Picture:
     """A printed graph. `text` is what the program printed; a notebook shows the picture.
 
     With the `source` of the graph the picture has its words, or `OtherSource` is raised. `fold` draws each nested graph as one
-    node, and `empty` tells whether empty states are drawn. All three may be set later.
+    node, and `empty` tells whether empty states are drawn. All three may be set later; a source that is not the graph's then has no
+    effect.
     """
 
     def __init__(self, text: str, source: Optional[bytes] = None, fold: bool = False, empty: bool = True) -> None:
         self.text = text
         self.graph = read_graph(text)
         self.source, self.fold, self.empty = source, fold, empty
-        self._drawn()
-
-    def take_words(self, source: bytes) -> None:
-        """Takes the words of a source from now on, where that is the source of the graph."""
-        before, self.source = self.source, source
-        try:
-            self._drawn()
-        except OtherSource:
-            self.source = before
+        if source is not None:
+            add_words(read_graph(text), source)
 
     def _drawn(self) -> Graph:
         """Gives the graph as it is drawn."""
         graph = read_graph(self.text)
         if self.source is not None:
-            add_words(graph, self.source)
+            graph = self._in_words(graph, self.source)
         name_exits(graph)
         if not self.empty:
             leave_out_empty(graph)
         return _folded(graph) if self.fold else graph
+
+    def _in_words(self, graph: Graph, source: bytes) -> Graph:
+        try:
+            add_words(graph, source)
+            return graph
+        except OtherSource:
+            return read_graph(self.text)
 
     def dot(self) -> str:
         """Gives the text that Graphviz draws."""

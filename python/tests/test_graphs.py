@@ -46,10 +46,9 @@ class Graphs(Calls):
         self.assertIn("B[i] = A[i] + 1", found.dot())
         found.empty = False
         self.assertNotIn("state 0", found.mermaid())
-        found.take_words(b"another source")
-        self.assertIn("B[i] = A[i] + 1", found.mermaid())
-        found.source = None
-        self.assertIn("tasklet", found.mermaid())
+        for other in (b"another source", INC.replace("+ 1", "+ 2").replace("for i", "\n    for i").encode(), None):
+            found.source = other
+            self.assertIn("tasklet", found.mermaid())
         self.assertIn("B[i] = A[i] + 1", luthkemb.SDFG(GRAPH, source_of(INC), {}).mermaid())
 
     def test_what_is_refused_is_raised(self) -> None:
