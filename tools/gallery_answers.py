@@ -81,8 +81,9 @@ def heat_3d(N, T, A, B):
 def heat_3d_by_numpy(N, T, A, B):
     for _ in range(1, T):
         for old, new in ((A, B), (B, A)):
-            gained = [numpy.diff(old, 2, axis)[tuple(slice(1, -1) if it != axis else slice(None) for it in range(3))] // 8 for axis in range(3)]
-            new[1:-1, 1:-1, 1:-1] = old[1:-1, 1:-1, 1:-1] + sum(gained)
+            gained = numpy.diff(old, 2, 0)[:, 1:-1, 1:-1] // 8 + numpy.diff(old, 2, 1)[1:-1, :, 1:-1] // 8
+            gained += numpy.diff(old, 2, 2)[1:-1, 1:-1] // 8
+            new[1:-1, 1:-1, 1:-1] = old[1:-1, 1:-1, 1:-1] + gained
 
 
 def atax(M, N, A, x, y):

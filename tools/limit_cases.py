@@ -144,7 +144,8 @@ def a_plane() -> Calls:
     a = [drawn(size, row) for row in range(size)]
     given = {"N": size, "A": a, "B": [[0] * size] * size}
     wanted = printed(A=a, B=[list(it) for it in zip(*a)])
-    yield Call("a transposition of 90,000 elements", RUN, files(program(body, "A: dace.int64[N, N], B: dace.int64[N, N]", "N"), given), wanted)
+    source = program(body, "A: dace.int64[N, N], B: dace.int64[N, N]", "N")
+    yield Call("a transposition of 90,000 elements", RUN, files(source, given), wanted)
 
 
 @case
@@ -208,7 +209,8 @@ def a_product() -> Calls:
     a, b = ([drawn(size, 13 * row + seed) for row in range(size)] for seed in (1, 5))
     c = [[wrapped(sum(x * y for x, y in zip(row, column))) for column in zip(*b)] for row in a]
     source = program(body, "A: dace.int64[N, N], B: dace.int64[N, N], C: dace.int64[N, N]", "N")
-    yield Call("a product with 729,000 points", RUN, files(source, {"N": size, "A": a, "B": b, "C": [[0] * size] * size}), printed(A=a, B=b, C=c))
+    given = {"N": size, "A": a, "B": b, "C": [[0] * size] * size}
+    yield Call("a product with 729,000 points", RUN, files(source, given), printed(A=a, B=b, C=c))
 
 
 @case
@@ -306,9 +308,10 @@ def long_loops() -> Calls:
     wanted = printed(A=[0], B=[b])
     # Two instances and a transition back in each round.
     words = ["run", "a.py", "a.json", "--turns"]
-    yield Call("40,000 rounds of a loop", [*words, str(3 * rounds)], files(source, {"A": [rounds], "B": [1]}), wanted)
-    yield Call("a turn too few for them", [*words, str(3 * rounds - 1)], files(source, {"A": [rounds], "B": [1]}), b"turns spent 119999\n", 8)
-    yield Call("40,000 rounds by picks", STEP, files(source, {"A": [rounds], "B": [1]}, [7] * 1000), wanted)
+    given = {"A": [rounds], "B": [1]}
+    yield Call("40,000 rounds of a loop", [*words, str(3 * rounds)], files(source, given), wanted)
+    yield Call("a turn too few for them", [*words, str(3 * rounds - 1)], files(source, given), b"turns spent 119999\n", 8)
+    yield Call("40,000 rounds by picks", STEP, files(source, given, [7] * 1000), wanted)
 
 
 # Sizes of sources.
@@ -402,7 +405,8 @@ def connectors() -> Calls:
     rows = [a[at : at + 63] for at in range(0, len(a), 63)]
     inputs = [f"c{n} << A[{{row}}, {n}]" for n in range(63)] + ["o >> B[{row}]"]
     value = " + ".join(f"{n + 1} * c{n}" for n in range(63))
-    body = ["for i in dace.map[0:39]:", "    with dace.tasklet:", *(f"        {it.format(row='i')}" for it in inputs), f"        o = {value}"]
+    body = ["for i in dace.map[0:39]:", "    with dace.tasklet:"]
+    body += [f"        {it.format(row='i')}" for it in inputs] + [f"        o = {value}"]
     body += ["with dace.tasklet:", *(f"    {it.format(row=39)}" for it in inputs), f"    o = {value}"]
     body += ["C[0] = " + " + ".join(f"A[7, {n}]" for n in range(63))]
     outputs = [f"    d{n} >> D[{n}]" for n in range(63)] + [f"    d{n} = {n} - x" for n in range(63)]
@@ -491,7 +495,8 @@ def containers() -> Calls:
     body = ["for i in dace.map[0:255]:"] + [f"    {name}[{n}] += i + {n}" for n, name in enumerate(names[1:])]
     body += ["for i in dace.map[0:1]:"] + [f"    X0[i] += {name}[{n}]" for n, name in enumerate(names[1:])]
     total = sum(i + n for i in range(255) for n in range(255))
-    yield Call("255 local arrays", RUN, files(program(local + body, "X0: dace.int64[1]"), {"X0": [GREATEST]}), printed(X0=[wrapped(GREATEST + total)]))
+    source = program(local + body, "X0: dace.int64[1]")
+    yield Call("255 local arrays", RUN, files(source, {"X0": [GREATEST]}), printed(X0=[wrapped(GREATEST + total)]))
 
 
 @case
@@ -569,7 +574,8 @@ def streams() -> Calls:
     """A stream for each element of an array, each with a pool of its own."""
     body = []
     for n in range(120):
-        body += [f"S{n} = dace.define_stream(dace.int64)", "with dace.tasklet:", f"    a << A[{n}]", f"    s >> S{n}(-1)", "    s = a", "    s = -a"]
+        body += [f"S{n} = dace.define_stream(dace.int64)", "with dace.tasklet:", f"    a << A[{n}]", f"    s >> S{n}(-1)"]
+        body += ["    s = a", "    s = -a"]
         body += [f"@dace.consume(S{n}, 3)", f"def pool{n}(x, p):", f"    r >> R(-1, lambda a, b: a * b)[{n}]", "    r = x"]
     a = drawn(120)
     wanted = printed(A=a, R=[wrapped(-it * it) for it in a])
@@ -589,7 +595,8 @@ def private_arrays() -> Calls:
 def arguments_of_a_call() -> Calls:
     """A call with 120 parts of one array and 120 arrays, which reads and writes through its arguments."""
     ins, outs = ([f"{letter}{n}" for n in range(120)] for letter in "XY")
-    inner = program([f"{y}[0] = {x}[1] - {n}" for n, (x, y) in enumerate(zip(ins, outs))], ", ".join(f"{it}: dace.int64[2]" for it in ins + outs), name="g")
+    body = [f"{y}[0] = {x}[1] - {n}" for n, (x, y) in enumerate(zip(ins, outs))]
+    inner = program(body, ", ".join(f"{it}: dace.int64[2]" for it in ins + outs), name="g")
     arguments = [f"A[{n}:{n + 2}]" for n in range(120)] + [f"B{n}[1:3]" for n in range(120)]
     names = [f"B{n}" for n in range(120)]
     source = inner + program([f"g({', '.join(arguments)})"], ", ".join(["A: dace.int64[121]", *(f"{it}: dace.int64[3]" for it in names)]))
@@ -602,13 +609,12 @@ def arguments_of_a_call() -> Calls:
 @case
 def parts_of_parts() -> Calls:
     """Each of 8 calls takes a part of its argument with 4 dimensions, one less in each of two."""
-    extents = [[10 - n, 2, 10 - n, 2] for n in range(9)]
-    texts = []
-    for n, (i, _, k, _) in enumerate(reversed(extents)):
-        body = [f"f{n - 1}(A[1:{i}, 0:2, 0:{k - 1}, 0:2])"] if n else ["A[1, 1, 1, 1] = 2 * A[0, 0, 1, 1]", "dace.reduce(lambda x, y: x + y, A, R, axis=3)"]
-        local = [] if n else ["R = dace.define_local([2, 2, 2], dtype=dace.int64)"]
-        behind = [] if n else ["A[0, 0, 0, 0] = R[1, 1, 1] + R[0, 1, 0]"]
-        texts.append(program(local + body + behind, f"A: dace.int64[{i}, 2, {k}, 2]", name=f"f{n}"))
+    body = ["R = dace.define_local([2, 2, 2], dtype=dace.int64)", "A[1, 1, 1, 1] = 2 * A[0, 0, 1, 1]"]
+    body += ["dace.reduce(lambda x, y: x + y, A, R, axis=3)", "A[0, 0, 0, 0] = R[1, 1, 1] + R[0, 1, 0]"]
+    texts = [program(body, "A: dace.int64[2, 2, 2, 2]", name="f0")]
+    for n in range(1, 9):
+        call = f"f{n - 1}(A[1:{n + 2}, 0:2, 0:{n + 1}, 0:2])"
+        texts.append(program([call], f"A: dace.int64[{n + 2}, 2, {n + 2}, 2]", name=f"f{n}"))
     numbers = iter(drawn(400))
     a = [[[[next(numbers) for _ in range(2)] for _ in range(10)] for _ in range(2)] for _ in range(10)]
     given = {"A": [[[row[:] for row in plane] for plane in cube] for cube in a]}
@@ -626,7 +632,8 @@ def conditions() -> Calls:
     body += ["else:", "    B[0] = -1"]
     many = program(body, "A: dace.int64[3], B: dace.int64[1]")
     for value, wanted in ((59, 59 * 59), (60, -1)):
-        yield Call(f"branch {value} of 60", RUN, files(many, {"A": [value, GREATEST, LEAST], "B": [0]}), printed(A=[value, GREATEST, LEAST], B=[wanted]))
+        a = [value, GREATEST, LEAST]
+        yield Call(f"branch {value} of 60", RUN, files(many, {"A": a, "B": [0]}), printed(A=a, B=[wanted]))
     a = drawn(63)
     a[7] = 0
     a[7] = wrapped(-500 - sum(a))
@@ -642,8 +649,8 @@ def late_refusals() -> Calls:
     source = "\n".join([*lines, INC.rstrip(), "        B[i] = A[i * i]", ""])
     given = {"N": 2, "A": [4, 5], "B": [0, 0]}
     yield Call("an error in line 50,006", RUN, files(source, given), b"source error 6 at line 50006\n", 3)
-    picks = b"18446744073709551615 " * 200000
-    yield Call("a word that is no pick behind 200,000", STEP, files(INC, given, picks + b"18446744073709551616"), b"picks refused at word 200001\n", 5)
+    picks = b"18446744073709551615 " * 200000 + b"18446744073709551616"
+    yield Call("a word that is no pick behind 200,000", STEP, files(INC, given, picks), b"picks refused at word 200001\n", 5)
     ones = b"1," * 300000
     yield Call("a leaf that is no number behind 300,000", RUN, files(INC, b'{"N":1,"A":[%s1.5],"B":[0]}' % ones), b"arrays error 15 A\n", 4)
     yield Call("a list among 300,000 numbers", RUN, files(INC, b'{"N":1,"A":[%s[]],"B":[0]}' % ones), b"arrays error 16 A\n", 4)
