@@ -518,6 +518,11 @@ def long_names() -> Calls:
     place = f"line 4: {variable}=2"
     yield Call("names of 9,000 bytes", RUN, files(source, {name: [1, 1, 1, 1]}), printed(**{name: [1, 1, 1, 1]}))
     yield Call("a fault with one", RUN, files(source, {name: [1, 1, 0, 1]}), f"fault division at {place}\n".encode(), 7)
+    told = f"scope 1.1: read {name}[0:4]\nscope 1.1: write {name}[0:4]\naccepted\n"
+    yield Call("its accesses", ["check", "a.py", "a.json"], files(source, {name: [1, 1, 1, 1]}), told.encode())
+    racing = program(["for i in dace.map[0:3]:", f"    {name}[i] = {name}[i + 1]"], f"{name}: dace.int64[4]")
+    race = f"race at 1.1: read {name} by 2, write {name} by 2\n"
+    yield Call("a race with such a name", RUN, files(racing, {name: [1, 1, 1, 1]}), race.encode(), 6)
     yield Call("an array of such a name that is missing", RUN, files(source, {}), f"arrays error 17 {name}\n".encode(), 4)
 
 
@@ -564,6 +569,67 @@ def pools_in_a_map() -> Calls:
         wanted = printed(A=a, R=[it * (it + 1) // 2 for it in a])
         calls = list(both(f"{count} pools", source, {"N": count, "A": a, "R": [0] * count}, wanted, 10000))
         yield from calls if count == 60 else calls[:1]
+
+
+@case
+def points_by_each_way() -> Calls:
+    """100,000 points of maps that are run in other ways than rows of one element statement."""
+    count = 100000
+    a = [k * k * 7919 % 1000003 - 500000 for k in range(count)]
+    branch = ["for i in dace.map[0:N]:", "    with dace.tasklet:", "        a << A[i]", "        b >> B[i]", "        if a < 0:"]
+    branch += ["            b = -a", "        elif a % 2 == 0:", "            b = a // 2"]
+    two = ["for i in dace.map[0:N]:", "    B[i] = A[i] + i", "    B[i] = B[i] * A[i]"]
+    kept = ["for i in dace.map[0:N]:", "    T = dace.define_local([2], dtype=dace.int64)"]
+    kept += ["    T[1] = A[i] - 1", "    T[0:1] = T2[0:1]", "    B[i] = T[0] + T[1]"]
+    view = ["view(A[0:N], B[0:N])"]
+    called = program(["for i in dace.map[0:N]:", "    Y[i] = X[i] - 7"], "X: dace.int64[N], Y: dace.int64[N]", "N", "view")
+    ways = {
+        "branches": (branch, [-it if it < 0 else it // 2 if it % 2 == 0 else 0 for it in a]),
+        "two statements": (two, [(it + i) * it for i, it in enumerate(a)]),
+        "private arrays": (["T2 = dace.define_local([1], dtype=dace.int64)", "T2[0] = 5", *kept], [it + 4 for it in a]),
+        "parts of arrays": (view, [it - 7 for it in a]),
+    }
+    for place, (body, b) in ways.items():
+        symbols, before = ("", called) if body is view else ("N", "")
+        source = before + program(body, "A: dace.int64[N], B: dace.int64[N]", symbols)
+        yield Call(f"100,000 points with {place}", RUN, files(source, {"N": count, "A": a, "B": [0] * count}), printed(A=a, B=b))
+
+
+@case
+def pools_in_one_another() -> Calls:
+    """Seven streams, each with a pool in the pool of the one before: each element pushes two into the next."""
+    body = []
+    for n in range(7):
+        room = "    " * n
+        pushed = [f"a << {f'x{n - 1}' if n else 'A[0]'}", f"s >> S{n}(-1)", "s = a", "s = a + 1"]
+        body += [f"{room}S{n} = dace.define_stream(dace.int64)", f"{room}with dace.tasklet:", *(f"{room}    {it}" for it in pushed)]
+        body += [f"{room}@dace.consume(S{n}, 2)", f"{room}def pool{n}(x{n}, p{n}):"]
+    body += ["    " * 7 + "B[0] += x6[0]"]
+    source = program(body, "A: dace.int64[1], B: dace.int64[1]")
+    total = sum(100 + sum(it) for it in product(range(2), repeat=7))
+    yield from both("7 pools in one another", source, {"A": [100], "B": [0]}, printed(A=[100], B=[total]))
+
+
+@case
+def many_calls() -> Calls:
+    source = program(["X[0] = X[0] + 1"], "X: dace.int64[1]", name="g") + program(["g(A)"] * 250, "A: dace.int64[1]")
+    yield from both("250 calls", source, {"A": [7]}, printed(A=[257]))
+    source = program(["X[0] = 1"], "X: dace.int64[1]", name="g") + program(["g(A)"] * 250, "A: dace.int64[1]")
+    inner = ["sdfg g", "array X[1]", "state 0", "next 1", "state 1", "node 0 tasklet line 3", "node 1 access X", "edge 0 1 X[0] _out"]
+    listing = ["sdfg f", "array A[1]", "state 0", "next 1"]
+    for n in range(1, 251):
+        listing += [f"state {n}", "node 0 nested g", "node 1 access A", "edge 0 1 A[0:1] X"]
+        listing += [f"next {n + 1}"] * (n < 250) + [f"in {n}.0", *inner]
+    yield Call("the text of 250 calls", ["print", "a.py", "a.json"], files(source, {"A": [7]}), "\n".join([*listing, ""]).encode())
+
+
+@case
+def long_words() -> Calls:
+    given = files(INC, {"N": 1, "A": [1], "B": [0]}, b"1 " * 3 + b"0" * 100000 + b"7")
+    turns = ["--turns", "0" * 100000 + "1"]
+    yield Call("a number of turns with 100,001 digits", ["run", "a.py", "a.json", *turns], given, printed(A=[1], B=[2]))
+    yield Call("a pick with 100,001 digits", STEP, given, printed(A=[1], B=[2]))
+    yield Call("5,000 words too many", ["run", "a.py", "a.json"] + ["word"] * 5000, given, b"bad words\n", 2)
 
 
 # Many of each kind, and refusals that come late.
