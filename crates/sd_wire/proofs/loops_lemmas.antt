@@ -1,3 +1,5 @@
 pub mod States
 pub mod Tables
 pub mod Loops
+pub mod Spread
+pub mod Spans

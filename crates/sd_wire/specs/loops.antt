@@ -1,3 +1,5 @@
 pub mod Marks
 pub mod Table
 pub mod About
+pub mod Spans
+pub mod Spread

@@ -9,7 +9,7 @@ mod loops;
 mod wire_laws;
 mod wiring;
 
-pub use loops::{leads_to, loops_about, loops_in_force};
+pub use loops::{LoopSpan, leads_to, loop_spans, loops_about, loops_in_force, variables_in};
 pub use wire_laws::order_edges_come_from_the_items_that_conflict;
 pub use wiring::{
     Use, UseMode, do_conflict, graph_uses, has_number, joined_mode, output_mode, reduction_mode,

@@ -57,7 +57,7 @@ no_closing_at begin variable (and_state items exits states) zero is = no_closing
 no_closing_at begin variable (and_state items exits states) (suc number) is = no_closing_at begin variable states number (both_false (list_any (returns_to begin) exits) (is_begin begin states) is).1
 
 -- a test that no number passes
-none_passes : (test : ℕ → Bool) → ((number : ℕ) → test number ≡ false) → (numbers : List ℕ) → list_any test numbers ≡ false
+pub none_passes : (test : ℕ → Bool) → ((number : ℕ) → test number ≡ false) → (numbers : List ℕ) → list_any test numbers ≡ false
 none_passes test none [] = refl
 none_passes test none (number ∷ numbers) = rw (none number) (none_passes test none numbers)
 

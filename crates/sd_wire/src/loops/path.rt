@@ -1,5 +1,5 @@
 //! Which states lead to one.
-ghost use Rattle.std.specs.Prelude.{◌≡◌, map, IfOk, IsTrue};
+ghost use Rattle.std.specs.Prelude.{◌≡◌, ℕ, map, IfOk, IsTrue};
 ghost use Rattle.sd_graph.specs.LoopScope as definition;
 ghost use Rattle.sd_graph.specs.TreeFold.{exit_tree, state_trees};
 ghost use Rattle.sd_wire.specs.loops.Table as tables;
@@ -9,7 +9,7 @@ use sd_list::NoMemory;
 use std::alloc::Global;
 
 /// Whether a state leads to one, by a table.
-fn looked(table: &[bool], to: usize, from: usize) -> bool
+pub(crate) fn looked(table: &[bool], to: usize, from: usize) -> bool
     ensures { result ≡ tables.looked table.now to from }
 {
     if from < table.len() {
@@ -53,10 +53,30 @@ fn raised(
 }
 
 /// Whether both tables are the same.
-fn are_same(a: &[bool], b: &[bool]) -> bool
+pub(crate) fn are_same(a: &[bool], b: &[bool]) -> bool
     ensures { IsTrue result → a.now ≡ b.now }
 {
     a == b
+}
+
+/// The table of the states that lead to one, without coming to the state that is avoided.
+pub(crate) fn leading_to(
+    alloc: Global,
+    states: &[State],
+    avoided: usize,
+    to: usize,
+) -> Result<Vec<bool>, NoMemory>
+    ensures { IfOk result (λ table. (from : ℕ) → tables.looked table.items to from ≡ definition.leads_to (state_trees states.now) avoided from to) }
+{
+    let mut table = Vec::new(alloc);
+    for round in 0..states.len() {
+        let next = raised(alloc, states, table.as_slice(), avoided, to)?;
+        if are_same(next.as_slice(), table.as_slice()) {
+            return Ok(table);
+        }
+        table = next;
+    }
+    Ok(table)
 }
 
 /// Whether a path leads from one state to another, without coming to the state that is avoided.
@@ -69,13 +89,6 @@ pub fn leads_to(
 ) -> Result<bool, NoMemory>
     ensures { IfOk result (λ leads. leads ≡ definition.leads_to (state_trees states.now) avoided from to) }
 {
-    let mut table = Vec::new(alloc);
-    for round in 0..states.len() {
-        let next = raised(alloc, states, table.as_slice(), avoided, to)?;
-        if are_same(next.as_slice(), table.as_slice()) {
-            return Ok(looked(table.as_slice(), to, from));
-        }
-        table = next;
-    }
+    let table = leading_to(alloc, states, avoided, to)?;
     Ok(looked(table.as_slice(), to, from))
 }

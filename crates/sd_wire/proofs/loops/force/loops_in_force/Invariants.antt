@@ -1,9 +1,0 @@
-use Rattle.std.proofs.Common.{◌≡◌}
-use Rattle.std.specs.List.{filter, flat_map}
-use Rattle.sd_graph.specs.LoopScope.{numbers_below, is_in_force}
-use Rattle.sd_graph.specs.TreeFold.{state_trees}
-use Rattle.sd_wire.proofs.loops.force.loops_in_force.Given as goal
-
--- those of the begins so far
-abbrev pub invariant-loop-begin : goal.invariant-loop-begin
-invariant-loop-begin l = l.found.items ≡ flat_map (λ begin. filter (is_in_force (state_trees l.states) l.state begin) (numbers_below l.variables)) (numbers_below l.begin)
