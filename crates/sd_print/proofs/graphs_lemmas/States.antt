@@ -9,7 +9,8 @@ use Rattle.sd_graph.specs.declared.graph.State.{State, out-State}
 use Rattle.sd_graph.specs.declared.wired.Node.{Node}
 use Rattle.sd_graph.proofs.TreeLemmas.{state_opened}
 use Rattle.sd_wire.specs.wiring.Listing.{nodes_of}
-use Rattle.sd_print.specs.graphs.StateText.{state_text, order_of}
+use Rattle.sd_graph.specs.LoopScope.{loops_in_force}
+use Rattle.sd_print.specs.graphs.StateText.{state_text, order_of, item_params}
 use Rattle.sd_print.specs.graphs.GraphText.{nested_nodes, nested_at, state_at, states_at}
 
 module _ (names : List (List ℕ)) (containers : Containers) where
@@ -35,3 +36,18 @@ module _ (names : List (List ℕ)) (containers : Containers) where
   states_more all path states i number state below is =
       rw (add-one, drop-cons states i state below)
       (ap (λ (s : State). states_at (and_state (state_tree s).0 (state_tree s).1 (state_trees (drop (suc i) states))) names containers all number path) (sym is))
+
+  -- what is added with one state more, the order of whose variables is made of those that are in force
+  pub states_next : (all : StateTrees) (path : List ℕ) (states : List State) (i number next variables : ℕ) (state : State) (shown order params old middle whole : List ℕ) →
+      i < length states → state ≡ slice_index_or states i state → next ≡ suc number → variables ≡ length names →
+      shown ≡ loops_in_force all variables number → order ≡ shown ++ params → params ≡ item_params (state_tree state).0 →
+      middle ≡ old ++ state_at names containers order number (state_tree state).0 (state_tree state).1 path →
+      old ++ states_at (state_trees (drop i states)) names containers all number path ≡ whole →
+      middle ++ states_at (state_trees (drop (i + 1) states)) names containers all next path ≡ whole
+  states_next all path states i number next variables state shown order params old middle whole below is next_is counted shown_is order_is params_is middle_is whole_is =
+      let named : order ≡ order_of all (length names) number (state_tree state).0 =
+      order_is ∙ (λ j. (shown_is ∙ ap (λ (n : ℕ). loops_in_force all n number) counted) j ++ params_is j) in
+      (λ j. (middle_is ∙ ap (λ (l : List ℕ). old ++ state_at names containers l number (state_tree state).0 (state_tree state).1 path) named) j ++ states_at (state_trees (drop (i + 1) states)) names containers all (next_is j) path)
+      ∙ append_assoc old (state_at names containers (order_of all (length names) number (state_tree state).0) number (state_tree state).0 (state_tree state).1 path) (states_at (state_trees (drop (i + 1) states)) names containers all (suc number) path)
+      ∙ ap (λ (l : List ℕ). old ++ l) (sym (states_more all path states i number state below is))
+      ∙ whole_is

@@ -10,7 +10,7 @@ use crate::graphs::state::push_state;
 use indexmap::IndexMap;
 use sd_graph::{Bound, Container, Item, ItemKind, Node, NodeKind, Sdfg, State};
 use sd_list::NoMemory;
-use sd_wire::wire_items;
+use sd_wire::{loop_spans, wire_items};
 use std::alloc::Global;
 
 /// How many names there are.
@@ -120,10 +120,10 @@ fn push_states(
 ) -> Result<(), NoMemory>
     ensures { OnOk result (string_bytes text.new ≡ string_bytes text.old ++ definition.states_at (state_trees states.now) (map string_bytes names.now) (map named_container containers.now.entries) (state_trees states.now) 0 path.now) }
 {
-    let variables = count_of(names)?;
+    let spans = loop_spans(alloc, states, count_of(names)?)?;
     let mut number = 0_u32;
     for state in states {
-        let order = order_of(alloc, states, variables, number, &state.items)?;
+        let order = order_of(alloc, spans.as_slice(), number, &state.items)?;
         push_whole_state(
             alloc,
             text,

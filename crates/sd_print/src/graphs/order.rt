@@ -1,12 +1,13 @@
 //! The variables of a state from the outermost one.
 ghost use Rattle.std.specs.Prelude.{◌≡◌, ◌++◌, map, length, IfOk, OnOk};
-ghost use Rattle.sd_graph.specs.TreeFold.{item_trees, kind_tree, state_trees};
+ghost use Rattle.sd_graph.specs.TreeFold.{item_trees, kind_tree};
 ghost use Rattle.sd_print.specs.graphs.StateText as definition;
+ghost use Rattle.sd_wire.specs.loops.Spans as spans_of;
 
-use sd_graph::{Item, ItemKind, State};
+use sd_graph::{Item, ItemKind};
 use sd_list::NoMemory;
 use sd_range::Range;
-use sd_wire::loops_in_force;
+use sd_wire::{LoopSpan, variables_in};
 use std::alloc::Global;
 
 /// Adds the variables of parameters.
@@ -49,17 +50,16 @@ fn push_item_params(items: &[Item], found: &mut Vec<u32>) -> Result<(), NoMemory
 }
 
 /// The variables of a state from the outermost: those of the loops in force, and then those of its
-/// scopes. The graph has so many variables.
+/// scopes. The graph's loops have these spans.
 pub(crate) fn order_of(
     alloc: Global,
-    states: &[State],
-    variables: u32,
+    spans: &[LoopSpan],
     number: u32,
     items: &[Item],
 ) -> Result<Vec<u32>, NoMemory>
-    ensures { IfOk result (λ order. order.items ≡ definition.order_of (state_trees states.now) variables number (item_trees items.now)) }
+    ensures { IfOk result (λ order. order.items ≡ spans_of.variables_in spans.now number ++ definition.item_params (item_trees items.now)) }
 {
-    let mut found = loops_in_force(alloc, states, variables, number)?;
+    let mut found = variables_in(alloc, spans, number)?;
     push_item_params(items, &mut found)?;
     Ok(found)
 }
