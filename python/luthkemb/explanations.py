@@ -51,12 +51,17 @@ STATUSES: Mapping[int, str] = {
 # What helps against a status, where one thing does.
 HELP: Mapping[int, str] = {
     1: "Fewer elements, or a higher limit of memory.",
-    4: "An argument of one element is given as `[7]`, a size as `7`.",
     6: "Give each point elements of its own, or resolve alike, or write two maps with an array between them: docs/RACES.md.",
     8: "`--turns B`, from Python `turns=B`, gives a run up to 2^40 turns. A turn is an instance of a tasklet or a round of a loop.",
     9: "Names of files are looked up in the folder of the call.",
     10: "The disk is full, or the reader of the output has ended.",
     11: "A source has at most 2^20 bytes, an arrays file 2^26, a picks file 2^24.",
+}
+# What helps against an error of arrays and sizes, where one thing does.
+ARRAYS_HELP: Mapping[int, str] = {
+    11: 'A size is given by the name of its symbol, as `"N":7`, from Python as `N=7`.',
+    15: "An argument of one element is given as `[7]`, a size as `7`.",
+    19: "An argument of one element is given as `[7]`, another one as lists of its extents.",
 }
 USAGE: Sequence[str] = (
     "sdfg run SOURCE ARRAYS",
@@ -210,7 +215,13 @@ def explained(status: int, said: str, words: Sequence[str], source: Optional[byt
 def lines_below(status: int, said: str, source: Optional[bytes], shown: Line = same) -> list[str]:
     """Gives the lines of the source that a refusal means, with their causes, and what helps."""
     place = [] if source is None else _place(status, said, source, shown)
-    return [*place, *([HELP[status]] if status in HELP else [])]
+    return [it for it in (*place, help_of(status, said)) if it]
+
+
+def help_of(status: int, said: str) -> str:
+    """Gives what helps against a status with the line that was written, or nothing."""
+    found = re.match(r"arrays error (\d+)", said)
+    return ARRAYS_HELP.get(int(found[1]), "") if found else HELP.get(status, "")
 
 
 def meaning_of(status: int, said: str) -> str:

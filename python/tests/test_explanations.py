@@ -9,7 +9,7 @@ from typing import Iterator
 from support import TOP, TRUE, Calls
 
 from luthkemb.causes import cause_of
-from luthkemb.explanations import ARRAYS_ERRORS, FAULTS, HELP, SOURCE_ERRORS, STATUSES, USAGE, explained, lines_of_race
+from luthkemb.explanations import ARRAYS_ERRORS, ARRAYS_HELP, FAULTS, HELP, SOURCE_ERRORS, STATUSES, USAGE, explained, lines_of_race
 from luthkemb.forms import FORMS, USUAL
 from luthkemb.graph_text import graphs_in, read_graph
 from luthkemb.statements import Statements, nodes_of, statements_of
@@ -40,7 +40,8 @@ class TheTables(unittest.TestCase):
         statuses = [[str(it), said, HELP.get(it, "")] for it, said in STATUSES.items()]
         self.assertEqual(self.rows("Statuses"), statuses)
         self.assertEqual(self.rows("Errors of a source"), [[str(it), said] for it, said in SOURCE_ERRORS.items()])
-        self.assertEqual(self.rows("Errors of arrays and sizes"), [[str(it), said] for it, said in ARRAYS_ERRORS.items()])
+        arrays = [[str(it), said, ARRAYS_HELP.get(it, "")] for it, said in ARRAYS_ERRORS.items()]
+        self.assertEqual(self.rows("Errors of arrays and sizes"), arrays)
         self.assertEqual(self.rows("Faults"), [[it, said] for it, said in FAULTS.items()])
         self.assertEqual(self.rows("Usual lines that are no form"), [[f"`{line}`", said] for line, _, said in USUAL])
 

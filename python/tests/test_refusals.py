@@ -10,7 +10,7 @@ from typing import Any
 from support import INC, TOP, TRUE, Calls, source
 
 import luthkemb
-from luthkemb.explanations import ARRAYS_ERRORS, FAULTS, HELP, SOURCE_ERRORS, STATUSES
+from luthkemb.explanations import ARRAYS_ERRORS, ARRAYS_HELP, FAULTS, HELP, SOURCE_ERRORS, STATUSES
 from luthkemb.refusals import REFUSALS, Refused
 
 TWO = "A: dace.int64[2], B: dace.int64[2]"
@@ -47,7 +47,9 @@ class Refusals(Calls):
     def test_arrays(self) -> None:
         found = self.refused(luthkemb.ArraysRefused, INC, N=2, A=[1, 2], B=[[1], [2]])
         self.assertEqual((found.status, found.number, found.name), (4, 19, "B"))
-        self.assertEqual(str(found), f"arrays error 19 B: {ARRAYS_ERRORS[19]}\n{HELP[4]}")
+        self.assertEqual(str(found), f"arrays error 19 B: {ARRAYS_ERRORS[19]}\n{ARRAYS_HELP[19]}")
+        found = self.refused(luthkemb.ArraysRefused, INC, N=2, A=[1, 2], B=[1, 2], C=1)
+        self.assertEqual(str(found), f"arrays error 18 C: {ARRAYS_ERRORS[18]}")
 
     def test_a_fault(self) -> None:
         text = source(
