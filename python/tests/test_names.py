@@ -215,7 +215,7 @@ class Sources(unittest.TestCase):
 class Language(unittest.TestCase):
     def test_a_symbol_has_the_one_type(self) -> None:
         self.assertEqual([symbol("K", dtype=it).name for it in (dace.int64, int)], ["K", "K"])
-        for given in ({"dtype": float}, {"dtype": "int64x"}, {"even": True}):
+        for given in ({"dtype": float}, {"dtype": "int64x"}, {"even": True}, {"negative": True}):
             with self.subTest(given), self.assertRaises(luthkemb.NotInLanguage):
                 symbol("K", **given)
 

@@ -96,6 +96,8 @@ class Places(Calls):
                 programs.program()
             beside = top / "python/luthkemb"
             beside.mkdir(parents=True)
+        # One that is packed there is not asked.
+        shutil.copy(self.started(), beside / "sdfg")
         with mock.patch.object(programs, "__file__", str(beside / "programs.py")):
             self.assertEqual(programs.program(), str(top / "sdfg"))
 
@@ -166,6 +168,13 @@ class Children(Calls):
         program.mkdir()
         with mock.patch.dict(os.environ, LUTHKEMB_SDFG=str(Path(shutil.copy(self.started(), program / "sdfg")))):
             self.assertEqual(luthkemb.run(INC, A=[1], B=[1])["B"], [2])
+
+    def test_the_program_is_told_to_explain_nothing(self) -> None:
+        program = self.folder / "asked"
+        program.write_text("#!/bin/sh\n[ $SDFG_EXPLAINS = no ] && echo 'A[1] = 2'\n")
+        program.chmod(0o755)
+        with mock.patch.dict(os.environ, LUTHKEMB_SDFG=str(program), SDFG_EXPLAINS="yes"):
+            self.assertEqual(luthkemb.run(INC, A=[1]), {"A": [2]})
 
 
 class ChildrenOnTheProgram(Children):
