@@ -1,16 +1,22 @@
 #!/usr/bin/env python3
 """Tests of the programs of the gallery: what their examples want, and what they print for arrays that are drawn, is what plain
-loops over lists come to (gallery_answers.py), and what NumPy comes to where it is there."""
+loops over lists come to (gallery_answers.py), and what NumPy comes to where it is there. What draw_gallery.py says of a page and of
+pictures that are not those of the programs."""
 from __future__ import annotations
 
 import copy
+import io
 import json
 import random
+import shutil
 import subprocess
 import tempfile
 import unittest
+from contextlib import redirect_stdout
 from pathlib import Path
+from unittest import mock
 
+import draw_gallery
 from gallery_answers import BY_NUMPY, NAMES, ONE, PLAIN, numpy, wrapped
 
 TOP = Path(__file__).resolve().parent.parent
@@ -181,6 +187,50 @@ class Gallery(unittest.TestCase):
     @unittest.skipIf(numpy is None, "NumPy is not there")
     def test_drawn_arrays_become_what_numpy_comes_to(self):
         self.compare(self.drawn, by_numpy)
+
+
+class ThePage(unittest.TestCase):
+    """The page and the pictures, in a copy."""
+
+    def setUp(self):
+        folder = tempfile.TemporaryDirectory()
+        self.addCleanup(folder.cleanup)
+        self.page, self.pictures = Path(folder.name) / "page.md", Path(folder.name) / "pictures"
+        shutil.copy(draw_gallery.PAGE, self.page)
+        shutil.copytree(draw_gallery.PICTURES, self.pictures)
+        for name, value in (("PAGE", self.page), ("PICTURES", self.pictures)):
+            patch = mock.patch.object(draw_gallery, name, value)
+            patch.start()
+            self.addCleanup(patch.stop)
+
+    def said(self):
+        """Returns what the check prints, where its status is that of its counts."""
+        with redirect_stdout(io.StringIO()) as output:
+            status = draw_gallery.check()
+        *lines, counts = output.getvalue().splitlines()
+        self.assertEqual(status, 0 if counts.endswith(", 0 failed") else 1)
+        return lines, counts
+
+    def test_those_that_are_there_are_as_they_would_be_written(self):
+        self.assertEqual(self.said(), ([], f"{len(NAMES) + 1} passed, 0 failed"))
+
+    def test_another_page_is_told(self):
+        self.page.write_text(self.page.read_text().replace("Fifteen", "Some"))
+        lines, counts = self.said()
+        self.assertEqual(counts, f"{len(NAMES)} passed, 1 failed")
+        self.assertIn("docs/GALLERY.md", lines[0])
+
+    def test_pictures_of_other_graphs_are_told(self):
+        one, other, gone, *_ = sorted(self.pictures.iterdir())
+        shutil.copy(one, other)
+        gone.unlink()
+        lines, counts = self.said()
+        self.assertEqual(counts, f"{len(NAMES) - 1} passed, 2 failed")
+        self.assertEqual({other.name, gone.name}, {it.split()[0].rpartition("/")[2] for it in lines})
+
+    def test_a_picture_of_no_program_is_told(self):
+        (self.pictures / "other.svg").touch()
+        self.assertEqual(self.said(), (["docs/gallery/other.svg is of no program of the gallery"], f"{len(NAMES) + 1} passed, 1 failed"))
 
 
 if __name__ == "__main__":

@@ -2,14 +2,19 @@
 """Tests of run_limits.py: what it says of calls of a stand-in that answers otherwise than it should."""
 from __future__ import annotations
 
+import io
+import subprocess
 import sys
 import tempfile
 import unittest
+from contextlib import redirect_stdout
 from pathlib import Path
+from unittest import mock
 
 sys.path.insert(0, str(Path(__file__).resolve().parent))
 
 from limit_cases import Call, json_of, moves, printed, wrapped  # noqa: E402
+import run_limits  # noqa: E402
 from run_limits import PACKETS, difference, pieces  # noqa: E402
 
 LINE = b"A[3] = 1 2 3\n"
@@ -50,6 +55,25 @@ class Runs(unittest.TestCase):
     def test_a_call_has_its_time_and_its_memory(self):
         self.assertIn("the status is -9", self.said("exec sleep 60", seconds=1))
         self.assertEqual(self.said('test "$(ulimit -v)" = 524288 && cat text', megabytes=512), "")
+
+
+class Counts(unittest.TestCase):
+    def said(self, *found: str, status: int = 2) -> tuple[int, list[str]]:
+        """Returns the status and the lines of calls of which this is said, where the call without words has this status."""
+        cases = [lambda it=it: [Call(f"call {it}", [], {}, b"")] for it in range(len(found))]
+        patches = {"CASES": cases, "PACKETS": True, "difference": lambda call: found[int(call.place.split()[1])]}
+        ran = mock.patch.object(run_limits.subprocess, "run", return_value=subprocess.CompletedProcess([], status))
+        words = mock.patch.object(sys, "argv", ["run_limits.py"])
+        with mock.patch.multiple(run_limits, **patches), ran, words, redirect_stdout(io.StringIO()) as output:
+            return run_limits.main(), output.getvalue().splitlines()
+
+    def test_calls_that_differ_are_counted(self):
+        self.assertEqual(self.said("", ""), (0, ["2 passed, 0 failed"]))
+        self.assertEqual(self.said("", "no"), (1, ["call 1: no", "1 passed, 1 failed"]))
+
+    def test_without_calls_and_without_a_program_one_has_failed(self):
+        self.assertEqual(self.said(), (1, ["0 passed, 1 failed"]))
+        self.assertEqual(self.said("", status=70), (1, ["the program was not built", "0 passed, 1 failed"]))
 
 
 class Answers(unittest.TestCase):
