@@ -386,6 +386,11 @@ class Explanations(Repository):
         lines = ["sdfg: a name is not in force for its use", "  4 |     A[0] = Z[0]", "    |            ^"]
         self.assertEqual(said.splitlines()[:3], lines)
 
+    def test_the_last_line_of_a_long_output_is_explained(self):
+        self.program("head -c 300000 /dev/zero; echo; echo 'fault division at line 4'; exit 7")
+        said = self.same("step", "text", "arrays", "picks", "--trace")[2]
+        self.assertEqual(said, "sdfg: a division or a remainder by 0\n  4 |     A[0] = Z[0]\n")
+
     def test_a_source_that_cannot_be_read_again_is_not_shown(self):
         self.program("echo 'source error 5 at line 4'; exit 3")
         for name in ("none", "crates", "/dev/stdin", "no\0ne".replace("\0", "\udcff")):
