@@ -148,6 +148,13 @@ class Causes(unittest.TestCase):
                 has_own = line in ("A += 1", "A[:] = B", "for i in dace.map[4]:", "def f():", "A[0] = np.sum(B)")
                 self.assertTrue(told if has_own else said.replace("`", "").lower() in told, told)
 
+    def test_a_number_of_turns_that_is_none(self) -> None:
+        for given in ("0", str(2**40 + 1), "-1", "x", ""):
+            told = explained(2, "bad words", ["run", "a", "b", "--turns", given], None)[0]
+            self.assertEqual(told, f"Behind `--turns` stands a number from 1 to 2^40, and not `{given}`.")
+        for given in ("1", str(2**40)):
+            self.assertEqual(explained(2, "bad words", ["run", "a", "b", "--turns", given], None)[0], "Usage:")
+
     def test_a_source_that_is_none(self) -> None:
         lines = b"    A[0] = 1\n" * 20000
         for text in (b"", b"\xff", b"(" * 3000, b"\x00", b"def f(:\n" * 9, HEAD.encode() + lines + b"    A[0] = = 1\n"):
