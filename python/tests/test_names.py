@@ -10,10 +10,10 @@ import unittest
 from pathlib import Path
 from types import ModuleType
 
-import luthkemb.dace as language
 from support import HAS_NUMPY, TOP, TRUE, Calls
 
 import luthkemb
+import luthkemb.dace as language
 from luthkemb import dace
 from luthkemb import dace as dc
 from luthkemb.dace import int64, program, symbol

@@ -17,7 +17,7 @@ from pathlib import Path
 from types import ModuleType
 from unittest import mock
 
-from support import FAKE, INC, TOP, Calls
+from support import FAKE, INC, TESTS, TOP, Calls
 
 import luthkemb
 
@@ -82,6 +82,16 @@ class Wheels(unittest.TestCase):
             self.assertNotIn("luthkemb/sdfg", made.namelist())
             self.assertTrue(made.filename.endswith("-py3-none-any.whl"))
             self.assertIn("The repository's ./sdfg makes one, which needs the Rattle kit", said)
+
+
+class Modules(unittest.TestCase):
+    def test_each_module_of_tests_can_be_loaded_alone(self) -> None:
+        environment = {name: it for name, it in os.environ.items() if name != "PYTHONPATH"}
+        for file in sorted(TESTS.glob("test_*.py")):
+            with self.subTest(file.name):
+                words = [sys.executable, "-c", f"import {file.stem}"]
+                ran = subprocess.run(words, cwd=TESTS, env=environment, capture_output=True, text=True)
+                self.assertEqual((ran.returncode, ran.stderr), (0, ""))
 
 
 @unittest.skipUnless(HAS_PIP, "pip is not there")
