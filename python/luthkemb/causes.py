@@ -358,8 +358,11 @@ def _misfit(text: str, site: Site) -> Cause:
 def _no_form(text: str, site: Site) -> Cause:
     stripped = text.split("#")[0].strip() if "'" not in text and '"' not in text else text.strip()
     found = _place(site, stripped) or _use(text, site) or _open_bracket(site, stripped) or Cause()
-    instead = usual(stripped, site.block) if not found.said else ""
+    instead, begin, end = usual(stripped, site.block) if not found.said else ("", 0, 0)
     begun = f"{instead[0].upper()}{instead[1:]}." if instead else found.said
+    if begin < end:
+        margin = len(text) - len(text.lstrip())
+        found.at, found.width = margin + begin, end - begin
     found.said = " ".join(it for it in (begun, said_of(nearest(stripped, site.block))) if it)
     return found
 

@@ -55,60 +55,63 @@ LETTERS = (
     ("n", "a number"),
     ("t", "`dace.int64` or `dace.int64[e]`"),
 )
-# Lines of Python and of DaCe that are no forms: one of each kind, how it is told, and what there is in its place.
+# Words of expressions behind which a bracket may open.
+OF_EXPRESSIONS = "min|max|and|or|not|if|else|elif|while"
+# Lines of Python and of DaCe that are no forms: one of each kind, how it is told, and what there is in its place. What is found as
+# `word` is the cause, where it is one word.
 USUAL: Sequence[tuple[str, str, str]] = (
     (
         "from dace import int64",
-        r"^from\b|^import (?!dace$|numpy as np$)",
+        r"^(?P<word>from|import)\b(?! dace$| numpy as np$)",
         "a source imports `import dace` and `import numpy as np` alone",
     ),
-    ("@dace.map", r"^@dace\.map\b", "a map is `for i in dace.map[a:b]:` and a block"),
-    ("@dace.tasklet", r"^@dace\.tasklet\b", "a tasklet is `with dace.tasklet:` and a block"),
+    ("@dace.map", r"^@(?P<word>dace\.map)\b", "a map is `for i in dace.map[a:b]:` and a block"),
+    ("@dace.tasklet", r"^@(?P<word>dace\.tasklet)\b", "a tasklet is `with dace.tasklet:` and a block"),
     ("@dace.program()", r"^@dace\.program\s*\(", "`@dace.program` has no brackets; it stands alone on its line"),
     (
         "@cache",
-        r"^@(?!dace\.consume\()",
+        r"^@(?P<word>(?!dace\.consume\()[\w.]*)",
         "the decorators are `@dace.program` before a program and `@dace.consume(S, n)` in a body",
     ),
-    ("return A", r"^return\b", "a program returns nothing: it writes its arguments"),
+    ("return A", r"^(?P<word>return)\b", "a program returns nothing: it writes its arguments"),
     (
         "break",
-        r"^(break|continue)\b",
+        r"^(?P<word>break|continue)\b",
         "loops end by their range or condition alone: `while` with a condition that is written in the loop",
     ),
-    ("pass", r"^pass\b", "a block has a statement that does something"),
+    ("pass", r"^(?P<word>pass)\b", "a block has a statement that does something"),
     (
         "assert A[0]",
-        r"^(assert|print|raise|try|del|global|lambda|yield|class)\b",
+        r"^(?P<word>assert|print|raise|try|del|global|lambda|yield|class)\b",
         "there is no such statement in this language",
     ),
     ('"text"', r"^(\"\"\"|'''|\"|')", "there are no docstrings: a comment begins with `#`"),
-    ("def f(A: dace.int64[4]) -> int:", r"^def .*->", "a program has no result: it writes its arguments"),
+    ("def f(A: dace.int64[4]) -> int:", r"^def .*(?P<word>->)", "a program has no result: it writes its arguments"),
     (
         "def f(A: int):",
-        r"^def .*:\s*(int|float|str|np\.|numpy\.)",
+        r"^def .*:\s*(?P<word>(?:int|float|str)\w*|(?:np|numpy)\.\w*)",
         "the type of an argument is `dace.int64` or `dace.int64[..]`",
     ),
     (
         "def f(A: dace.float64[4]):",
-        r"\bdace\.(float|int|uint|bool|complex)(?!64\b)\w*|\bdace\.(float64|uint64|complex64)",
+        r"\b(?P<word>dace\.(?:(?:float|int|uint|bool|complex)(?!64\b)\w*|float64|uint64|complex64))",
         "the one type is `dace.int64`",
     ),
     ("def f():", r"^def .*\(\s*\)", "a program has one argument at the least, each with its type `dace.int64[..]`"),
     ("def f(A: dace.int64[4], n=3):", r"^def .*=", "an argument has no default"),
     (
         "M = 4",
-        r"^\w+\s*=\s*-?\d+$",
+        r"^(?P<word>\w+)\s*=\s*-?\d+$",
         "there are no constants by name: write the number, or make it a size symbol or an argument",
     ),
-    ("A[0] = A[1] ** 2", r"\*\*", "there is no power: write a product"),
+    ("A[0] = A[1] ** 2", r"(?P<word>\*\*)", "there is no power: write a product"),
     (
         "A[0] *= 2",
-        r"^\w+(\[.*\])?\s*(-|\*|//|%|&|\||\^|<<|>>|/)=",
+        r"^\w+(\[.*\])?\s*(?P<word>(?:-|\*|//|%|&|\||\^|<<|>>|/)=)",
         "of `+=` and its like there is `+=` alone: write `X[e] = X[e] * E`",
     ),
     ("for i in dace.map[4]:", r"\bin dace\.map\[[^:\]]*\]", "each dimension of a map is a range `begin:end`"),
-    ("for i in dace.map(0, 4):", r"\bin dace\.map\(", "a map has square brackets: `for i in dace.map[a:b]:`"),
+    ("for i in dace.map(0, 4):", r"\bin (?P<word>dace\.map)\(", "a map has square brackets: `for i in dace.map[a:b]:`"),
     ("for i in dace.map[4:0:-1]:", r"\bdace\.map\[.*:\s*-", "the step of a range is a number from 1 on"),
     (
         "for k in range(4, 0, -1):",
@@ -117,7 +120,7 @@ USUAL: Sequence[tuple[str, str, str]] = (
     ),
     (
         "for x in A:",
-        r"^for\b.*\bin (?!range\b|dace\.map\b)",
+        r"^for\b.*\bin (?P<word>(?!range\b|dace\.map\b)\w*)",
         "a loop is `for k in range(e):`, a map `for i in dace.map[a:b]:`",
     ),
     (
@@ -127,30 +130,35 @@ USUAL: Sequence[tuple[str, str, str]] = (
     ),
     (
         "T = np.zeros(4)",
-        r"\bdace\.(define_local_scalar|ndarray|define_transient)|\b(np|numpy)\.(zeros|ones|empty|array|full|ndarray)\b",
+        r"\b(?P<word>dace\.(?:define_local_scalar|ndarray|define_transient)|(?:np|numpy)(?=\.(?:zeros|ones|empty|array|full|ndarray)\b))",
         "arrays of a program's own are `X = dace.define_local([e], dtype=dace.int64)`, and begin with zeros",
     ),
     (
         "A[0] = np.sum(B)",
-        r"\b(np|numpy|math)\.",
+        r"\b(?P<word>np|numpy|math)\.",
         "there are no functions of NumPy: write maps, `dace.reduce`, `min(x, y)`, `max(x, y)` and `x if c else y`",
     ),
     (
         "A[0] = abs(A[1])",
-        r"\b(abs|len|sum|int|float|pow|round|bool)\s*\(",
+        r"\b(?P<word>abs|len|sum|int|float|pow|round|bool)\s*\(",
         "the functions are `min(x, y)` and `max(x, y)`; write another by `x if c else y`",
     ),
     (
+        "A[0] = g(A[1])",
+        rf"^(?:\w+\s*(?:\[.*\])?\s*\+?=|if\b|elif\b|while\b)(?:.*[^\w.])?(?P<word>(?!(?:{OF_EXPRESSIONS})\b)[A-Za-z_]\w*)\s*\(",
+        "the functions are `min(x, y)` and `max(x, y)`: write in its place what another one computes",
+    ),
+    (
         "S.push(A[0])",
-        r"\.(append|push|pop|get|shape|size|T|copy|fill)\b",
+        r"\.(?P<word>append|push|pop|get|shape|size|T|copy|fill)\b",
         "names have no parts here: streams are pushed by `c >> S` in a tasklet, sizes are symbols",
     ),
     (
         "A[0] = max(A[1], A[2], A[3])",
-        r"\b(min|max)\([^(),]*\)|\b(min|max)\([^(),]*,[^(),]*,",
+        r"\b(?P<word>min|max)\([^(),]*(?:\)|,[^(),]*,)",
         "`min` and `max` have two arguments",
     ),
-    ("A[0] = 1.5", r"\d\.\d|\d\.(?!\w)", "numbers are whole"),
+    ("A[0] = 1.5", r"(?P<word>\d+\.(?:\d+|(?!\w)))", "numbers are whole"),
     ("A[0] = B[1][2]", r"\][ ]*\[", "subscripts stand in one pair of brackets: `X[i, j]`"),
     (
         "A[0] = A[1] < A[2] < A[3]",
@@ -159,9 +167,9 @@ USUAL: Sequence[tuple[str, str, str]] = (
     ),
     ("A[0], A[1] = 1, 2", r"^\w+\s*(\[.*\])?\s*,.*[^=<>!]=[^=]", "a statement assigns one element"),
     ("A[0] = A[1] = 1", r"^[^=(]*[^=<>!+(]=[^=(]*[^=<>!(]=[^=]", "a statement assigns one element"),
-    ("while A[0] > 0", r"^(if|elif|else|while|for|with|def)\b.*[^:]$", "such a line ends with a colon, and its block stands below it"),
-    ("if A[0] = 1:", r"^(if|elif|while)\b[^=]*[^=<>!]=[^=]", "`==` compares; `=` assigns, on a line of its own"),
-    ("A[0] = 5 if A[1] > 2", r"=.*\bif\b(?!.*\belse\b)", "a conditional has two values: `x if c else y`"),
+    ("while A[0] > 0", r"^(?P<word>if|elif|else|while|for|with|def)\b.*(?<!:)$", "such a line ends with a colon, and its block stands below it"),
+    ("if A[0] = 1:", r"^(if|elif|while)\b[^=]*[^=<>!](?P<word>=)[^=]", "`==` compares; `=` assigns, on a line of its own"),
+    ("A[0] = 5 if A[1] > 2", r"=.*\b(?P<word>if)\b(?!.*\belse\b)", "a conditional has two values: `x if c else y`"),
     (
         "A += 1",
         r"^\w+(\[[^\]]*\])?\s*\+=.*\n?$",
@@ -180,7 +188,7 @@ USUAL: Sequence[tuple[str, str, str]] = (
     ),
     (
         "x = A[0] + 1",
-        r"^\w+\s*=(?!=)(?!.*\bdace\.)",
+        r"^(?P<word>\w+)\s*=(?!=)(?!.*\bdace\.)",
         "names are assigned in tasklets alone: declare `X = dace.define_local([1], dtype=dace.int64)`, and write `X[0] = E`",
     ),
 )
@@ -196,12 +204,13 @@ OTHERS = frozenset("assert async await break class continue del from global matc
 TOKEN = re.compile(r"[A-Za-z_]\w*|\d+|//|<<|>>|<=|>=|==|!=|\+=|['\"]\w*['\"]|\S")
 
 
-def usual(text: str, block: str) -> str:
-    """Gives what there is in the place of a usual line of Python, or nothing."""
+def usual(text: str, block: str) -> tuple[str, int, int]:
+    """Gives what there is in the place of a usual line of Python, or nothing, and where its word begins and ends, if it is one."""
     for line, form, instead in USUAL:
-        if BLOCKS.get(line, block) == block and re.search(form, text):
-            return instead
-    return ""
+        found = re.search(form, text) if BLOCKS.get(line, block) == block else None
+        if found:
+            return instead, *(found.span("word") if "word" in found.groupdict() else (0, 0))
+    return "", 0, 0
 
 
 def nearest(text: str, block: str) -> str:
@@ -211,6 +220,8 @@ def nearest(text: str, block: str) -> str:
         return "X[d, d] = Y[d, d]" if re.match(r"\w+\s*\[[^\]]*:", text) else "X[e, e] += E" if "+=" in line else "X[e, e] = E"
     alike = [it for it in FORMS[block] if _signs(it)[:1] == line[:1]]
     alike = [it for it in alike if _signs(it)[:2] == line[:2]] or alike
+    # What is declared is an array, where the line has no word of streams.
+    alike = [it for it in alike if "define_stream" not in it or "stream" in text.lower()]
     return max(alike, key=lambda it: _likeness(line, _signs(it)), default="")
 
 
