@@ -19,6 +19,7 @@ NO_SOURCE = (
     "the source is not there: Python keeps none of what is typed at its prompt or read from standard input. "
     "Put the program in a file, or give its text to luthkemb.run; notebooks and IPython keep it"
 )
+A_LAMBDA = "it is a lambda, which has no lines of its own: write a function, with @dace.program on the line above its def"
 EDITED = "the file was edited or removed after its import: import it again, by importlib.reload or in a new Python"
 
 
@@ -118,6 +119,8 @@ def block_of(program: Program) -> list[str]:
     function = program.function
     first = function.__code__.co_firstlineno - 1
     name = function.__qualname__
+    if function.__name__ == "<lambda>":
+        raise FunctionRefused(name, A_LAMBDA, first + 1, program.file)
     if first >= len(program.lines):
         raise FunctionRefused(name, NO_SOURCE)
     block, is_its_own = _block_of(program, first)
@@ -140,9 +143,12 @@ def _is_of(function: Callable[..., Any], block: list[str]) -> bool:
         found = ast.parse("".join(_without_margin(it, width) for it in block)).body[0]
     except SyntaxError:
         return False
-    names = [it.arg for it in found.args.args] if isinstance(found, ast.FunctionDef) else []
+    if not isinstance(found, (ast.FunctionDef, ast.AsyncFunctionDef)):
+        return False
+    # What is no form in the line of a program is refused as that.
+    names = [it.arg for it in (*found.args.posonlyargs, *found.args.args)]
     code = function.__code__
-    return isinstance(found, ast.FunctionDef) and (found.name, names) == (code.co_name, list(code.co_varnames[: code.co_argcount]))
+    return (found.name, names) == (code.co_name, list(code.co_varnames[: code.co_argcount]))
 
 
 def _without_margin(line: str, width: int) -> str:

@@ -187,6 +187,26 @@ class Sources(unittest.TestCase):
                 self.assertIn(why, found.why)
                 self.assertEqual((found.line, found.file), (it.__code__.co_firstlineno + 1, __file__))
 
+    def test_a_lambda_is_told(self) -> None:
+        nameless = dace.program(lambda A: A[0])
+        found = self.refused(nameless)
+        self.assertIn("it is a lambda, which has no lines of its own: write a function", found.why)
+        self.assertEqual((found.line, found.file), (nameless.function.__code__.co_firstlineno, __file__))
+        with self.assertRaisesRegex(luthkemb.FunctionRefused, "it is a lambda"):
+            nameless([1])
+
+    def test_functions_that_are_no_programs_are_left_to_be_refused(self) -> None:
+        @dace.program
+        def by_place(A: dace.int64[1], /):
+            A[0] = 1
+
+        @dace.program
+        async def later(A: dace.int64[1]):
+            A[0] = 1
+
+        self.assertEqual(self.lines_of(by_place)[2], "def by_place(A: dace.int64[1], /):")
+        self.assertEqual(self.lines_of(later)[2], "async def later(A: dace.int64[1]):")
+
     def test_a_symbol_under_a_name_that_hides_its_own(self) -> None:
         @dace.program
         def hidden(N: dace.int64[M]):
