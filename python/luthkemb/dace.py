@@ -154,7 +154,7 @@ def _around(function: Callable[..., Any], names: Mapping[str, object]) -> dict[s
     """
     if names is function.__globals__:
         return {}
-    kinds = (Symbol, Program, ArrayType, ModuleType)
+    kinds = (Symbol, Program, ArrayType, ModuleType, type)
     return {name: it for name, it in names.items() if isinstance(it, kinds) or is_whole(it)}
 
 

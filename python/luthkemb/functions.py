@@ -66,7 +66,10 @@ class Text(ast.NodeVisitor):
     def visit_Attribute(self, node: ast.Attribute) -> None:
         value = self._value(node)
         text = self._text_for(value, node)
-        if text is None and _is_number_or_array(value):
+        owner = self._value(node.value)
+        if value is NOTHING and isinstance(owner, type):
+            raise self._refused(node, f"the class {ast.unparse(node.value)} has no {node.attr}")
+        if text is None and (_is_number_or_array(value) or isinstance(owner, type)):
             raise self._refused(node, f"{ast.unparse(node)} is {_told(value)}")
         if text is None:
             self.generic_visit(node)
@@ -104,14 +107,14 @@ class Text(ast.NodeVisitor):
         return str(int(value)) if value >= 0 else f"({value})"
 
     def _value(self, node: ast.AST) -> object:
-        """Gives what a name, or a name in a module, stands for where the function was defined, as far as that is there."""
+        """Gives what a name, or a name in a module or a class, stands for where the function was defined, as far as that is there."""
         if isinstance(node, ast.Name) and isinstance(node.ctx, ast.Load) and node.id not in self.own:
             return next((it[node.id] for it in self.spaces if node.id in it), NOTHING)
         if isinstance(node, ast.Attribute):
-            module = self._value(node.value)
-            if isinstance(module, ModuleType):
+            owner = self._value(node.value)
+            if isinstance(owner, (ModuleType, type)):
                 try:
-                    return getattr(module, node.attr, NOTHING)
+                    return getattr(owner, node.attr, NOTHING)
                 except NotInLanguage:
                     return NOTHING
         return NOTHING

@@ -1,6 +1,7 @@
 """What a function may name, and how its lines become those of a source."""
 from __future__ import annotations
 
+import enum
 import importlib
 import importlib.util
 import os
@@ -27,6 +28,17 @@ FIVE, LESS, LEAST, MOST, YES = 5, -3, -(2**63), 2**63 - 1, True
 HALF, TABLE, BIG = 0.5, [1, 2], 2**63
 settings = ModuleType("settings")
 settings.COUNT, settings.SIZE, settings.RATIO = 7, symbol('S'), 1.5
+
+
+class Sizes:
+    WIDTH, RATIO, EXTENT, TEXT = 3, 0.5, symbol("S"), "3"
+
+    class Inner:
+        LESS = -2
+
+
+class Colour(enum.IntEnum):
+    RED = 4
 
 
 def helper() -> int:
@@ -68,6 +80,15 @@ def calls(A: luthkemb.dace.int64[M]):
     A[:] = other[:]
 
 
+@dace.program
+def of_classes(A: dace.int64[Sizes.EXTENT]):
+    # fake: A = [3, -2, 4, 1]
+    A[0] = Sizes.WIDTH
+    A[1] = Sizes.Inner.LESS
+    A[2] = Colour.RED
+    A[3] = Sizes.EXTENT - Sizes.WIDTH
+
+
 twice = documented
 
 
@@ -91,6 +112,21 @@ class Programs(Calls):
 
     def test_a_program_under_another_name(self) -> None:
         self.assertEqual(luthkemb.run(calls, A=[1, 2])["A"], [2, 3])
+
+    def test_whole_numbers_and_symbols_of_classes(self) -> None:
+        self.assertEqual(luthkemb.run(of_classes, A=[0] * 4)["A"], [3, -2, 4, 1])
+
+    def test_a_class_of_the_function_round_it(self) -> None:
+        class Local:
+            COUNT = 2
+
+        @dace.program
+        def inner(A: dace.int64[Local.COUNT]):
+            # fake: A = [7, 7]
+            for i in dace.map[0:2]:
+                A[i] = 7
+
+        self.assertEqual(luthkemb.run(inner, A=[0, 0])["A"], [7, 7])
 
     def test_names_of_a_function_are_its_own(self) -> None:
         self.assertEqual(luthkemb.run(of_its_own, HALF=[0] * 5)["HALF"], [3] * 5)
@@ -175,12 +211,24 @@ class Sources(unittest.TestCase):
         def ratio(A: dace.int64[1]):
             A[0] = settings.RATIO
 
+        def half(A: dace.int64[1]):
+            A[0] = Sizes.RATIO
+
+        def text(A: dace.int64[1]):
+            A[0] = Sizes.TEXT
+
+        def part(A: dace.int64[1]):
+            A[0] = Sizes.HEIGHT
+
         for it, why in (
             (real, "HALF is 0.5: a program may name whole numbers, size symbols and programs that stand outside of it"),
             (array, "TABLE is an array: make it an argument of the program"),
             (function, "helper is a function and no program: put @dace.program above it"),
             (large, "BIG is 9223372036854775808, and no whole number from -2^63 to 2^63-1"),
             (ratio, "settings.RATIO is 1.5: a program may name whole numbers"),
+            (half, "Sizes.RATIO is 0.5: a program may name whole numbers"),
+            (text, "Sizes.TEXT is '3': a program may name whole numbers"),
+            (part, "the class Sizes has no HEIGHT"),
         ):
             with self.subTest(it.__name__):
                 found = self.refused(dace.Program(it, {}))
