@@ -14,6 +14,7 @@ NAME = "sdfg"
 PIECE = 65536
 MOST_BYTES = 2**20
 NOT_STARTED, NOT_WRITTEN = 127, 10
+ARRAYS_REFUSED = 4
 END_WITH_PARENT = 1
 LAST = 4096
 
@@ -68,15 +69,27 @@ def is_passed_on(piece):
         return False
 
 
-def source_of(words):
-    """Returns the bytes of the source that a call names, or nothing where they cannot be read again."""
+def file_of(words, at):
+    """Returns the bytes of a file that a call names, or nothing where they are many or cannot be read again."""
     try:
-        if not os.path.isfile(words[1]) or os.path.getsize(words[1]) > MOST_BYTES:
+        if not os.path.isfile(words[at]) or os.path.getsize(words[at]) > MOST_BYTES:
             return None
-        with open(words[1], "rb") as file:
+        with open(words[at], "rb") as file:
             return file.read()
     except (IndexError, OSError, ValueError):
         return None
+
+
+def given_in(arrays):
+    """Returns the shapes and the sizes in the bytes of an arrays file; none where they are not to be had."""
+    import json
+
+    from luthkemb.arrays import given_of
+
+    try:
+        return given_of(json.loads(arrays))
+    except (AttributeError, RecursionError, TypeError, ValueError):
+        return given_of({})
 
 
 def lines_of(status, last, words):
@@ -90,7 +103,9 @@ def lines_of(status, last, words):
     from luthkemb.explanations import explained
 
     said = last.decode(errors="replace").removesuffix("\n").rpartition("\n")[2]
-    return explained(status, said, words, source_of(words))
+    # What is given tells of refused arrays alone.
+    given = [given_in(file_of(words, 2))] if status == ARRAYS_REFUSED else []
+    return explained(status, said, words, file_of(words, 1), *given)
 
 
 def explain(status, last, words):

@@ -332,7 +332,7 @@ class Programs(Repository):
 class Explanations(Repository):
     """What is written to standard error where that is a terminal, and that nothing else differs."""
 
-    MODULES = ("causes", "explanations", "forms", "sites", "statements")
+    MODULES = ("arrays", "causes", "explanations", "forms", "moves", "refusals", "sites", "sizes", "statements")
 
     def setUp(self):
         super().setUp()
@@ -385,6 +385,25 @@ class Explanations(Repository):
         self.assertEqual((status, output), (3, b"source error 5 at line 4\n"))
         lines = ["sdfg: a name is not in force for its use", "  4 |     A[0] = Z[0]", "    |            ^"]
         self.assertEqual(said.splitlines()[:3], lines)
+
+    def test_a_refused_shape_is_told_with_that_of_the_argument(self):
+        self.program("echo 'arrays error 19 B'; exit 4")
+        self.write("text", "N = dace.symbol('N')\n@dace.program\ndef f(A: dace.int64[N], B: dace.int64[N, N + 1]):\n    A[0] = 1\n")
+        for arrays, shapes in (
+            ('{"N": 2, "A": [1, 2], "B": [[1, 2], [3, 4], [5, 6]]}', ["Its shape is [3, 2], and that of the argument [2, 3]."]),
+            ('{"N": 0, "A": [], "B": []}', ["Its shape is [0], and that of the argument [0, 1]."]),
+            ('{"A": [], "B": []}', []),
+            ('{"N": 2, "A": [1, 2]}', []),
+            ("[" * 9999, []),
+            (f'{{"N": 2, "B": [{"9" * 9999}]}}', []),
+            ("[1]", []),
+        ):
+            with self.subTest(arrays[:60]):
+                self.write("arrays", arrays)
+                lines = self.same("run", "text", "arrays")[2].splitlines()
+                self.assertEqual(lines[0], "sdfg: its shape is not that of the argument")
+                self.assertEqual(lines[1:-1], shapes)
+                self.assertIn("as lists of its extents", lines[-1])
 
     def test_the_last_line_of_a_long_output_is_explained(self):
         self.program("head -c 300000 /dev/zero; echo; echo 'fault division at line 4'; exit 7")

@@ -15,8 +15,8 @@ from pathlib import Path
 from typing import Any, BinaryIO, Iterator, Mapping
 
 from .refusals import ArraysTooLong, DoesNotFit
+from .sizes import Given, Shape
 
-Shape = tuple[int, ...]
 HEAD = re.compile(rb"(\w+)\[(\d+(?:,\d+)*)\] =")
 LEAST, MOST = -(2**63), 2**63 - 1
 MOST_BYTES = 2**26
@@ -53,6 +53,12 @@ def shape_of(value: Any) -> Shape:
         shape.append(len(value))
         value = value[0] if value else None
     return tuple(shape)
+
+
+def given_of(entries: Mapping[str, Any]) -> Given:
+    """Gives the shapes of entries, and the numbers among them."""
+    shapes = {name: shape_of(value) for name, value in entries.items()}
+    return Given(shapes, {name: operator.index(value) for name, value in entries.items() if is_size(value)})
 
 
 def in_lists(value: Any, dimensions: int) -> Any:

@@ -9,7 +9,7 @@ from pathlib import Path
 from typing import Any, BinaryIO, Callable, Mapping, Optional
 
 from .accesses import ScopeAccess, read_accesses
-from .arrays import in_lists, is_size, read_arrays, shape_of, write_entries
+from .arrays import given_of, in_lists, read_arrays, write_entries
 from .moves import After, picks_file, read_moves
 from .picture import Picture
 from .programs import ended
@@ -73,7 +73,7 @@ class Command:
             status = ended(self._words(source, keywords, entries, Path(made)), output)
             output.seek(0)
             if status != 0:
-                raise refusal(status, output, source)
+                raise refusal(status, output, source, given_of(entries))
             try:
                 return self.answer(output, given)
             except LuthkembError:
@@ -119,9 +119,7 @@ def entries_of(source: Source, given: Entries) -> dict[str, Any]:
     """
     signature = Signature.of(source.text())
     entries = {name: in_lists(value, signature.dimensions_of_one_element(name)) for name, value in given.items()}
-    shapes = {name: shape_of(value) for name, value in entries.items()}
-    sizes = {name: operator.index(value) for name, value in entries.items() if is_size(value)}
-    return {**signature.sizes(shapes, sizes), **entries}
+    return {**signature.sizes(*given_of(entries)), **entries}
 
 
 def read_picture(output: BinaryIO, _: Entries) -> Picture:

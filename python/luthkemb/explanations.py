@@ -6,6 +6,7 @@ import re
 from typing import Callable, Iterator, Mapping, Optional, Sequence
 
 from .causes import Cause, cause_of
+from .sizes import Given, Shape, Signature
 from .statements import statements_of
 
 SOURCE_ERRORS: Mapping[int, str] = {
@@ -148,6 +149,23 @@ def of_race(source: bytes, scope: str, accesses: Sequence[tuple[str, str, int]],
         yield from excerpt(source, line, _parts(line_of(source, line) or "", container), shown)
 
 
+# Shapes of arrays.
+
+
+def shapes_in(said: str, source: bytes, given: Given) -> Optional[tuple[Shape, Shape]]:
+    """Gives the shape of an array that is refused for its own, and that of its argument, where both are known."""
+    found = re.fullmatch(r"arrays error 19 (\w+)", said)
+    wanted = Signature.of(source).shape(found[1], given.sizes) if found else None
+    return (given.shapes[found[1]], wanted) if found and wanted is not None and found[1] in given.shapes else None
+
+
+def of_shapes(said: str, source: bytes, given: Given) -> Iterator[str]:
+    """Gives the two shapes of an array that is refused for its own, where they are known."""
+    shapes = shapes_in(said, source, given)
+    if shapes:
+        yield "Its shape is {}, and that of the argument {}.".format(*("[" + ", ".join(map(str, it)) + "]" for it in shapes))
+
+
 # Words of a call.
 
 
@@ -200,21 +218,21 @@ def _wrong_option(command: str, options: Sequence[str]) -> str:
 # Whole answers.
 
 
-def explained(status: int, said: str, words: Sequence[str], source: Optional[bytes]) -> list[str]:
-    """Gives the lines that explain a status and the last line of what was written, of a call with these words.
+def explained(status: int, said: str, words: Sequence[str], source: Optional[bytes], given: Given = Given()) -> list[str]:
+    """Gives the lines that explain a status and the last line of what was written, of a call with these words and entries.
 
-    The source is none where it cannot be read again.
+    The source is none where it cannot be read again, and so are the entries.
     """
     if status not in STATUSES:
         return []
     if status == 2:
         return list(of_words(words))
-    return [f"sdfg: {meaning_of(status, said)}", *lines_below(status, said, source)]
+    return [f"sdfg: {meaning_of(status, said)}", *lines_below(status, said, source, same, given)]
 
 
-def lines_below(status: int, said: str, source: Optional[bytes], shown: Line = same) -> list[str]:
+def lines_below(status: int, said: str, source: Optional[bytes], shown: Line = same, given: Given = Given()) -> list[str]:
     """Gives the lines of the source that a refusal means, with their causes, and what helps."""
-    place = [] if source is None else _place(status, said, source, shown)
+    place = [] if source is None else [*_place(status, said, source, shown), *of_shapes(said, source, given)]
     return [it for it in (*place, help_of(status, said)) if it]
 
 

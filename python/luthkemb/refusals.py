@@ -8,8 +8,9 @@ import re
 from dataclasses import dataclass, field
 from typing import TYPE_CHECKING, BinaryIO, ClassVar, Iterator, Optional
 
-from .explanations import ARRAYS_ERRORS, SOURCE_ERRORS, STATUSES, lines_below, lines_of_race, meaning_of
+from .explanations import ARRAYS_ERRORS, SOURCE_ERRORS, STATUSES, lines_below, lines_of_race, meaning_of, shapes_in
 from .moves import Move, read_moves
+from .sizes import Given, Shape
 
 if TYPE_CHECKING:
     from .sources import Source
@@ -152,11 +153,16 @@ class SourceRefused(Refused):
 
 @dataclass(eq=False)
 class ArraysRefused(Refused, ValueError):
-    """The sizes and arrays do not fit the program; `name` is whose, where it is one's."""
+    """The sizes and arrays do not fit the program; `name` is whose, where it is one's.
+
+    Where an array has another shape than its argument, these are `shape` and `wanted`, as far as they are known.
+    """
 
     number: int
     name: Optional[str]
     meaning: str
+    shape: Optional[Shape] = None
+    wanted: Optional[Shape] = None
 
     status = 4
     form = r"arrays error (\d+)(?: (.*))?"
@@ -356,8 +362,8 @@ def _frame(text: str, source: Source) -> Frame:
     return Frame(place.line, {name: int(value) for name, value in pairs}, place.file)
 
 
-def refusal(status: int, output: BinaryIO, source: Source) -> LuthkembError:
-    """Gives what is raised for an end with this status, which is not 0, and this output, which is read."""
+def refusal(status: int, output: BinaryIO, source: Source, given: Given = Given()) -> LuthkembError:
+    """Gives what is raised for an end with this status, which is not 0, and this output, which is read, of a call with these entries."""
     if status == NotBuilt.status:
         return NotBuilt()
     moves = read_moves(output)
@@ -373,12 +379,14 @@ def refusal(status: int, output: BinaryIO, source: Source) -> LuthkembError:
     except ValueError:
         return ProgramFailed(status, said)
     refused.moves = moves
-    refused.explanation = tuple(_explanation(kind, last, source))
+    if isinstance(refused, ArraysRefused):
+        refused.shape, refused.wanted = shapes_in(last, source.text(), given) or (None, None)
+    refused.explanation = tuple(_explanation(kind, last, source, given))
     return refused
 
 
-def _explanation(kind: type[Refused], said: str, source: Source) -> Iterator[str]:
+def _explanation(kind: type[Refused], said: str, source: Source, given: Given) -> Iterator[str]:
     """Gives what a line of the program means, where its text does not say that itself, and what stands below it."""
     if kind not in SAYING:
         yield meaning_of(kind.status, said)
-    yield from lines_below(kind.status, said, source.text(), lambda line: source.origin(line).line)
+    yield from lines_below(kind.status, said, source.text(), lambda line: source.origin(line).line, given)

@@ -5,13 +5,19 @@ import ast
 from dataclasses import dataclass, field
 from fractions import Fraction
 from functools import lru_cache
-from typing import Iterator, Mapping, Optional, Sequence
+from typing import Iterator, Mapping, NamedTuple, Optional, Sequence
 
-from .arrays import Shape
-
+Shape = tuple[int, ...]
 Terms = dict[str, Fraction]
 ONE = ""
 """Stands for the constant among the terms of an affine expression."""
+
+
+class Given(NamedTuple):
+    """What a call gives: the shapes of its entries, and the numbers among these."""
+
+    shapes: Mapping[str, Shape] = {}
+    sizes: Mapping[str, int] = {}
 
 
 @dataclass(frozen=True)
@@ -54,7 +60,9 @@ class Signature:
         return max(len(extents), 1)
 
     def shape(self, name: str, known: Mapping[str, int]) -> Optional[Shape]:
-        """Gives the shape of an argument with these sizes, where they leave one of whole numbers."""
+        """Gives the shape of an argument with these sizes, where they leave one of whole numbers; nothing for another name."""
+        if name not in self.arguments:
+            return None
         extents = self.arguments[name] or [{ONE: Fraction(1)}]
         values = {it: {ONE: Fraction(value)} for it, value in known.items()}
         found = [None if it is None else _put_in(it, values) for it in extents]

@@ -47,9 +47,17 @@ class Refusals(Calls):
     def test_arrays(self) -> None:
         found = self.refused(luthkemb.ArraysRefused, INC, N=2, A=[1, 2], B=[[1], [2]])
         self.assertEqual((found.status, found.number, found.name), (4, 19, "B"))
-        self.assertEqual(str(found), f"arrays error 19 B: {ARRAYS_ERRORS[19]}\n{ARRAYS_HELP[19]}")
+        shapes = "Its shape is [2, 1], and that of the argument [2]."
+        self.assertEqual(str(found), f"arrays error 19 B: {ARRAYS_ERRORS[19]}\n{shapes}\n{ARRAYS_HELP[19]}")
+        self.assertEqual((found.shape, found.wanted), ((2, 1), (2,)))
         found = self.refused(luthkemb.ArraysRefused, INC, N=2, A=[1, 2], B=[1, 2], C=1)
         self.assertEqual(str(found), f"arrays error 18 C: {ARRAYS_ERRORS[18]}")
+        self.assertEqual((found.shape, found.wanted), (None, None))
+
+    def test_a_shape_that_contradicts_another_one(self) -> None:
+        found = self.refused(luthkemb.ArraysRefused, INC, A=[1, 2], B=[1, 2, 3])
+        self.assertEqual((found.number, found.name, found.shape, found.wanted), (19, "B", (3,), (2,)))
+        self.assertIn("Its shape is [3], and that of the argument [2].", found.explanation)
 
     def test_a_fault(self) -> None:
         text = source(
