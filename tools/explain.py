@@ -84,12 +84,12 @@ def given_in(arrays):
     """Returns the shapes and the sizes in the bytes of an arrays file; none where they are not to be had."""
     import json
 
-    from luthkemb.arrays import given_of
+    from luthkemb.arrays import shapes_and_sizes
 
     try:
-        return given_of(json.loads(arrays))
+        return shapes_and_sizes(json.loads(arrays))
     except (AttributeError, RecursionError, TypeError, ValueError):
-        return given_of({})
+        return shapes_and_sizes({})
 
 
 def lines_of(status, last, words):

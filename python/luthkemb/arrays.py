@@ -15,7 +15,7 @@ from pathlib import Path
 from typing import Any, BinaryIO, Iterator, Mapping
 
 from .refusals import ArraysTooLong, DoesNotFit
-from .sizes import Given, Shape
+from .sizes import Shape, ShapesAndSizes
 
 HEAD = re.compile(rb"(\w+)\[(\d+(?:,\d+)*)\] =")
 LEAST, MOST = -(2**63), 2**63 - 1
@@ -55,10 +55,10 @@ def shape_of(value: Any) -> Shape:
     return tuple(shape)
 
 
-def given_of(entries: Mapping[str, Any]) -> Given:
+def shapes_and_sizes(entries: Mapping[str, Any]) -> ShapesAndSizes:
     """Gives the shapes of entries, and the numbers among them."""
     shapes = {name: shape_of(value) for name, value in entries.items()}
-    return Given(shapes, {name: operator.index(value) for name, value in entries.items() if is_size(value)})
+    return ShapesAndSizes(shapes, {name: operator.index(value) for name, value in entries.items() if is_size(value)})
 
 
 def in_lists(value: Any, dimensions: int) -> Any:

@@ -9,7 +9,7 @@ from pathlib import Path
 from typing import Any, BinaryIO, Callable, Mapping, Optional
 
 from .accesses import ScopeAccess, read_accesses
-from .arrays import given_of, in_lists, read_arrays, write_entries
+from .arrays import in_lists, read_arrays, shapes_and_sizes, write_entries
 from .moves import After, picks_file, read_moves
 from .picture import Picture
 from .programs import ended
@@ -73,7 +73,7 @@ class Command:
             status = ended(self._words(source, keywords, entries, Path(made)), output)
             output.seek(0)
             if status != 0:
-                raise refusal(status, output, source, given_of(entries))
+                raise refusal(status, output, source, shapes_and_sizes(entries))
             try:
                 return self.answer(output, given)
             except LuthkembError:
@@ -119,7 +119,7 @@ def entries_of(source: Source, given: Entries) -> dict[str, Any]:
     """
     signature = Signature.of(source.text())
     entries = {name: in_lists(value, signature.dimensions_of_one_element(name)) for name, value in given.items()}
-    return {**signature.sizes(*given_of(entries)), **entries}
+    return {**signature.sizes(*shapes_and_sizes(entries)), **entries}
 
 
 def read_picture(output: BinaryIO, _: Entries) -> Picture:

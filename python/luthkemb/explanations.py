@@ -6,7 +6,7 @@ import re
 from typing import Callable, Iterator, Mapping, Optional, Sequence
 
 from .causes import Cause, cause_of
-from .sizes import Given, Shape, Signature
+from .sizes import NOTHING_GIVEN, Shape, ShapesAndSizes, Signature
 from .statements import statements_of
 
 SOURCE_ERRORS: Mapping[int, str] = {
@@ -152,14 +152,14 @@ def of_race(source: bytes, scope: str, accesses: Sequence[tuple[str, str, int]],
 # Shapes of arrays.
 
 
-def shapes_in(said: str, source: bytes, given: Given) -> Optional[tuple[Shape, Shape]]:
+def shapes_in(said: str, source: bytes, given: ShapesAndSizes) -> Optional[tuple[Shape, Shape]]:
     """Gives the shape of an array that is refused for its own, and that of its argument, where both are known."""
     found = re.fullmatch(r"arrays error 19 (\w+)", said)
     wanted = Signature.of(source).shape(found[1], given.sizes) if found else None
     return (given.shapes[found[1]], wanted) if found and wanted is not None and found[1] in given.shapes else None
 
 
-def of_shapes(said: str, source: bytes, given: Given) -> Iterator[str]:
+def of_shapes(said: str, source: bytes, given: ShapesAndSizes) -> Iterator[str]:
     """Gives the two shapes of an array that is refused for its own, where they are known."""
     shapes = shapes_in(said, source, given)
     if shapes:
@@ -218,7 +218,9 @@ def _wrong_option(command: str, options: Sequence[str]) -> str:
 # Whole answers.
 
 
-def explained(status: int, said: str, words: Sequence[str], source: Optional[bytes], given: Given = Given()) -> list[str]:
+def explained(
+    status: int, said: str, words: Sequence[str], source: Optional[bytes], given: ShapesAndSizes = NOTHING_GIVEN
+) -> list[str]:
     """Gives the lines that explain a status and the last line of what was written, of a call with these words and entries.
 
     The source is none where it cannot be read again, and so are the entries.
@@ -230,7 +232,9 @@ def explained(status: int, said: str, words: Sequence[str], source: Optional[byt
     return [f"sdfg: {meaning_of(status, said)}", *lines_below(status, said, source, same, given)]
 
 
-def lines_below(status: int, said: str, source: Optional[bytes], shown: Line = same, given: Given = Given()) -> list[str]:
+def lines_below(
+    status: int, said: str, source: Optional[bytes], shown: Line = same, given: ShapesAndSizes = NOTHING_GIVEN
+) -> list[str]:
     """Gives the lines of the source that a refusal means, with their causes, and what helps."""
     place = [] if source is None else [*_place(status, said, source, shown), *of_shapes(said, source, given)]
     return [it for it in (*place, help_of(status, said)) if it]

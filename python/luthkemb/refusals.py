@@ -10,7 +10,7 @@ from typing import TYPE_CHECKING, BinaryIO, ClassVar, Iterator, Optional
 
 from .explanations import ARRAYS_ERRORS, SOURCE_ERRORS, STATUSES, lines_below, lines_of_race, meaning_of, shapes_in
 from .moves import Move, read_moves
-from .sizes import Given, Shape
+from .sizes import NOTHING_GIVEN, Shape, ShapesAndSizes
 
 if TYPE_CHECKING:
     from .sources import Source
@@ -362,7 +362,7 @@ def _frame(text: str, source: Source) -> Frame:
     return Frame(place.line, {name: int(value) for name, value in pairs}, place.file)
 
 
-def refusal(status: int, output: BinaryIO, source: Source, given: Given = Given()) -> LuthkembError:
+def refusal(status: int, output: BinaryIO, source: Source, given: ShapesAndSizes = NOTHING_GIVEN) -> LuthkembError:
     """Gives what is raised for an end with this status, which is not 0, and this output, which is read, of a call with these entries."""
     if status == NotBuilt.status:
         return NotBuilt()
@@ -385,7 +385,7 @@ def refusal(status: int, output: BinaryIO, source: Source, given: Given = Given(
     return refused
 
 
-def _explanation(kind: type[Refused], said: str, source: Source, given: Given) -> Iterator[str]:
+def _explanation(kind: type[Refused], said: str, source: Source, given: ShapesAndSizes) -> Iterator[str]:
     """Gives what a line of the program means, where its text does not say that itself, and what stands below it."""
     if kind not in SAYING:
         yield meaning_of(kind.status, said)

@@ -13,11 +13,14 @@ ONE = ""
 """Stands for the constant among the terms of an affine expression."""
 
 
-class Given(NamedTuple):
+class ShapesAndSizes(NamedTuple):
     """What a call gives: the shapes of its entries, and the numbers among these."""
 
     shapes: Mapping[str, Shape] = {}
     sizes: Mapping[str, int] = {}
+
+
+NOTHING_GIVEN = ShapesAndSizes()
 
 
 @dataclass(frozen=True)
