@@ -16,3 +16,5 @@ mod shelves;
 mod sinks;
 #[cfg(test)]
 mod subsets;
+#[cfg(test)]
+mod sure;

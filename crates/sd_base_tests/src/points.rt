@@ -3,10 +3,11 @@ ghost use Rattle.std.specs.Prelude.{◌≡◌, None, [], IfOk};
 ghost use Rattle.sd_range.specs.Points.{tuples};
 ghost use Rattle.sd_range.specs.Range.{IsRange, IsEvaluableRange};
 
+use crate::sure::sure;
 use sd_list::{NoMemory, Sequence};
 use sd_range::{Affine, Env, Points, Range};
 use std::alloc::Global;
-use std::test::Fail;
+use std::process::Abort;
 
 /// 2^41 + 3 and 2^41 + 5.
 fn two(alloc: Global) -> Result<Range, NoMemory>
@@ -32,8 +33,10 @@ fn of_two(alloc: Global) -> Result<Points, NoMemory>
 }
 
 /// The points of a piece.
-fn piece(alloc: Global, first: u128, count: u128) -> Result<String, Fail> {
-    let mut points = of_two(alloc)?;
+fn piece(rt: &impl Abort, alloc: Global, first: u128, count: u128) -> String {
+    let Ok(mut points) = of_two(alloc) else {
+        panic!(rt; "no memory")
+    };
     let most = points.first_count();
     if first <= most && count <= most - first {
         points.piece(first, count);
@@ -41,19 +44,17 @@ fn piece(alloc: Global, first: u128, count: u128) -> Result<String, Fail> {
     let mut told = String::new(alloc);
     for _ in 0..5 {
         if points.next() {
-            write!(&mut told, "{:?}", points.at())?;
+            sure(rt, write!(&mut told, "{:?}", points.at()));
         }
     }
-    Ok(told)
+    told
 }
 
 #[test]
-fn a_piece_keeps_its_values_of_the_first_parameter(rt: HostRuntime) -> Result<(), Fail> {
-    let alloc = rt.alloc();
+fn a_piece_keeps_its_values_of_the_first_parameter(rt: HostRuntime) {
     let last = "[2199023255557, 2199023255555][2199023255557, 2199023255557]";
-    assert_eq!(rt; piece(alloc, 1, 1)?.as_str(), last);
-    let all = piece(alloc, 0, 2)?;
-    assert_eq!(rt; all.as_str().matches('[').count(), 4);
-    assert_eq!(rt; piece(alloc, 2, 0)?.as_str(), "");
-    Ok(())
+    assert_eq!(rt; piece(&rt, rt.alloc(), 1, 1).as_str(), last);
+    let all = piece(&rt, rt.alloc(), 0, 2);
+    assert!(rt; all.as_str().matches('[').count() == 4);
+    assert_eq!(rt; piece(&rt, rt.alloc(), 2, 0).as_str(), "");
 }

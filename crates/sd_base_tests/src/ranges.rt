@@ -2,10 +2,11 @@
 ghost use Rattle.std.specs.Prelude.{◌≡◌, pos, [], ◌∷◌, IfOk};
 ghost use Rattle.sd_range.specs.Terms.{IsNormal};
 
+use crate::sure::sure;
 use sd_list::{NoMemory, Sequence};
 use sd_range::{Affine, Dim, Env, Range, Subset, Terms};
 use std::alloc::Global;
-use std::test::Fail;
+use std::process::Abort;
 
 /// The expression of this constant and these terms.
 fn built(alloc: Global, constant: i128, terms: &[(u32, i128)]) -> Result<Affine, NoMemory>
@@ -31,67 +32,75 @@ fn long(alloc: Global) -> Result<Affine, NoMemory>
     built(alloc, 2_199_023_255_552, &even)
 }
 
-#[test]
-fn a_variable_is_substituted_among_many(rt: HostRuntime) -> Result<(), Fail> {
-    let alloc = rt.alloc();
-    let a = long(alloc)?;
-    // 9*(v1 - 1) in the place of 9*v8
+/// 2^41 and the even variables, with 9*(v1 - 1) in the place of 9*v8.
+fn substituted(alloc: Global) -> Result<Affine, NoMemory> {
     let by = built(alloc, -1, &[(1, 1)])?;
-    let substituted = a.substituted(alloc, 8, &by)?;
-    assert_eq!(rt; substituted.constant, 2_199_023_255_543);
-    let terms = format!(in alloc; "{:?}", substituted.terms.as_slice())?;
-    assert_eq!(rt; terms.as_str(), "[(0, 1), (1, 9), (2, 3), (4, 5), (6, 7)]");
-    Ok(())
+    long(alloc)?.substituted(alloc, 8, &by)
 }
 
 #[test]
-fn any_number_of_values_is_copied(rt: HostRuntime) -> Result<(), Fail> {
-    let alloc = rt.alloc();
-    let values = Sequence::new(alloc);
+fn a_variable_is_substituted_among_many(rt: HostRuntime) {
+    let sum = sure(&rt, substituted(rt.alloc()));
+    assert!(rt; sum.constant == 2_199_023_255_543);
+    let terms = [(0, 1), (1, 9), (2, 3), (4, 5), (6, 7)];
+    assert!(rt; sum.terms.as_slice() == terms.as_slice());
+}
+
+#[test]
+fn any_number_of_values_is_copied(rt: HostRuntime) {
+    let values = Sequence::new(rt.alloc());
     let mut original = Env { values };
     for count in 0..13_u32 {
-        assert!(rt; original.copy_of(alloc)?.same(&original), "{count} values");
-        original
-            .values
-            .push(i128::from(count).saturating_add(2_199_023_255_552))?;
+        let copy = sure(&rt, original.copy_of(rt.alloc()));
+        assert!(rt; copy.same(&original), "{count} values");
+        let value = i128::from(count).saturating_add(2_199_023_255_552);
+        sure(&rt, original.values.push(value));
     }
-    Ok(())
 }
 
-/// So many dimensions, each a range with so many ends, and an index where these are none.
-fn subset(alloc: Global, dimensions: u32, ends: u32) -> Result<Subset, NoMemory> {
+/// A dimension: a range with so many ends, and an index where these are none.
+fn dimension(alloc: Global, ends: u32) -> Result<Dim, NoMemory> {
+    let begin = long(alloc)?;
+    if ends == 0 {
+        return Ok(Dim::Index(begin));
+    }
+    let mut all = Sequence::new(alloc);
+    for _ in 0..ends {
+        all.push(long(alloc)?)?;
+    }
+    Ok(Dim::Span(Range {
+        begin,
+        ends: all,
+        step: 2_199_023_255_552,
+    }))
+}
+
+/// So many dimensions, each with so many ends.
+fn subset(rt: &impl Abort, alloc: Global, dimensions: u32, ends: u32) -> Subset {
     let mut dims = Sequence::new(alloc);
     for _ in 0..dimensions {
-        let mut all = Sequence::new(alloc);
-        for _ in 0..ends {
-            all.push(long(alloc)?)?;
-        }
-        let begin = long(alloc)?;
-        dims.push(match ends {
-            0 => Dim::Index(begin),
-            _ => Dim::Span(Range {
-                begin,
-                ends: all,
-                step: 2_199_023_255_552,
-            }),
-        })?;
+        sure(rt, dims.push(sure(rt, dimension(alloc, ends))));
     }
-    Ok(Subset { dims })
+    Subset { dims }
+}
+
+/// Whether a copy of so many dimensions with so many ends is the same.
+fn is_copied(rt: &impl Abort, alloc: Global, dimensions: u32, ends: u32) -> bool {
+    let original = subset(rt, alloc, dimensions, ends);
+    sure(rt, original.copy_of(alloc)).same(&original)
 }
 
 #[test]
-fn no_to_four_dimensions_of_one_to_four_ends_are_copied(rt: HostRuntime) -> Result<(), Fail> {
+fn no_to_four_dimensions_of_one_to_four_ends_are_copied(rt: HostRuntime) {
     let alloc = rt.alloc();
     for dimensions in 0..5 {
         for ends in 0..5 {
-            let original = subset(alloc, dimensions, ends)?;
             assert!(rt;
-                original.copy_of(alloc)?.same(&original),
+                is_copied(&rt, alloc, dimensions, ends),
                 "{dimensions} of {ends}"
             );
         }
     }
-    assert!(rt; !subset(alloc, 4, 0)?.same(&subset(alloc, 4, 4)?));
-    assert!(rt; !subset(alloc, 1, 3)?.same(&subset(alloc, 1, 4)?));
-    Ok(())
+    assert!(rt; !subset(&rt, alloc, 4, 0).same(&subset(&rt, alloc, 4, 4)));
+    assert!(rt; !subset(&rt, alloc, 1, 3).same(&subset(&rt, alloc, 1, 4)));
 }

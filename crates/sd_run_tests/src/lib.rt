@@ -8,3 +8,5 @@ mod flat_code;
 mod instructions;
 #[cfg(test)]
 mod machines;
+#[cfg(test)]
+mod sure;
