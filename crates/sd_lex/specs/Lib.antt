@@ -10,7 +10,6 @@ pub mod Layout
 pub mod LexerState
 pub mod PlainTree
 pub mod TreeFold
-pub mod ExpressionNames
 pub mod StatementKind
 pub mod Position
 pub mod TokenText

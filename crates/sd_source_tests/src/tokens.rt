@@ -1,7 +1,8 @@
 //! Tokens of texts, one by one.
+use crate::sure::sure;
 use sd_lex::{LexError, TokenKind, tokens};
 use std::alloc::Global;
-use std::test::Fail;
+use std::process::Abort;
 
 /// The longest text that may be cut.
 const MOST: usize = 1 << 20;
@@ -30,63 +31,54 @@ const CUT: &str =
     " import dace ; @ dace . program ; def countdown ( sum : dace . int64 [ 1 ] ) : ; { S = dace . define_stream ( dace . int64 , 1 ) ; @ dace . consume ( S , 2 ) ; def scope ( e ) : ; { next >> S ( - 1 ) ; if not e <= 0 : ; { next = e - 1 ; } elif e != 0 : ; { next = 0 ; } } } 13";
 
 /// One token, with a space before it.
-fn push_token(shown: &mut String, kind: TokenKind, bytes: &[u8]) -> Result<(), Fail> {
-    shown.push_str(" ")?;
-    match kind {
-        TokenKind::LineEnd => shown.push_str(";")?,
-        TokenKind::Indent => shown.push_str("{")?,
-        TokenKind::Dedent => shown.push_str("}")?,
-        _ => {
-            for byte in bytes {
-                shown.push(char::from(*byte))?;
-            }
-        }
-    }
-    Ok(())
+fn push_token(rt: &impl Abort, shown: &mut String, kind: TokenKind, bytes: &[u8]) {
+    let text = match kind {
+        TokenKind::LineEnd => ";",
+        TokenKind::Indent => "{",
+        TokenKind::Dedent => "}",
+        _ => std::str::from_utf8(bytes).unwrap_or("?"),
+    };
+    sure(rt, write!(shown, " {text}"));
 }
 
 /// The tokens of a text, and the line of the last one.
-fn shown(alloc: Global, text: &[u8]) -> Result<String, Fail> {
+fn shown(rt: &impl Abort, alloc: Global, text: &[u8]) -> Result<String, LexError> {
     let mut shown = String::new(alloc);
     if text.len() > MOST {
         return Ok(shown);
     }
     let list = tokens(alloc, text)?;
     for token in &list {
-        push_token(&mut shown, token.kind, token.bytes(text))?;
+        push_token(rt, &mut shown, token.kind, token.bytes(text));
     }
     if let Some(token) = list.last() {
-        let line = token.line;
-        write!(shown, " {line}")?;
+        sure(rt, write!(&mut shown, " {}", token.line));
     }
     Ok(shown)
 }
 
 /// The tokens of the texts that are cut in another way.
-fn wrong(alloc: Global) -> Result<String, Fail> {
+fn wrong(rt: &impl Abort, alloc: Global) -> String {
     let mut found = String::new(alloc);
     for case in TEXTS.split('\u{1}') {
         let (text, cut) = case.split_once('\u{2}').unwrap_or((case, ""));
-        let tokens = shown(alloc, text.as_bytes())?;
+        let tokens = sure(rt, shown(rt, alloc, text.as_bytes()));
         if tokens.as_str() != cut {
-            found.push_str(tokens.as_str())?;
+            sure(rt, found.push_str(tokens.as_str()));
         }
     }
-    Ok(found)
+    found
 }
 
 #[test]
-fn texts_are_cut_into_their_tokens(rt: HostRuntime) -> Result<(), Fail> {
-    assert_eq!(rt; wrong(rt.alloc())?.as_str(), "");
-    assert_eq!(rt; shown(rt.alloc(), SOURCE.as_bytes())?.as_str(), CUT);
-    Ok(())
+fn texts_are_cut_into_their_tokens(rt: HostRuntime) {
+    assert_eq!(rt; wrong(&rt, rt.alloc()).as_str(), "");
+    let source = shown(&rt, rt.alloc(), SOURCE.as_bytes());
+    assert_eq!(rt; sure(&rt, source).as_str(), CUT);
 }
 
 #[test]
-fn want_of_memory_says_so(rt: HostRuntime) -> Result<(), Fail> {
-    let error = LexError::Memory;
-    let mut shown = String::new(rt.alloc());
-    write!(shown, "{error}")?;
-    assert_eq!(rt; shown.as_str(), "out of memory");
-    Ok(())
+fn want_of_memory_says_so(rt: HostRuntime) {
+    let shown = format!(in rt.alloc(); "{}", LexError::Memory);
+    assert_eq!(rt; sure(&rt, shown).as_str(), "out of memory");
 }
