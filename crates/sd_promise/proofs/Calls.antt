@@ -6,7 +6,7 @@ use Rattle.sd_work.specs.Run.{Left}
 use Rattle.sd_work.specs.Step.{Outcome, Done, Faulted, Spent}
 use Rattle.sd_graph.specs.declared.place.Place.{Place}
 use Rattle.sd_race.specs.race.Pairs.{IsGraphAccepted}
-use Rattle.sd_report.specs.write.RunText.{steps_text}
+use Rattle.sd_report.specs.write.RunText.{steps_text, end_text}
 use Rattle.sd_words.specs.Command.{Command, Call, to_run, to_step, to_print, to_check}
 use Rattle.sd_tool.specs.Work.{Work}
 use Rattle.sd_tool.specs.Answers.{ShelfUse, ran, listed, checked, answer_of_run, text_of}
@@ -21,18 +21,18 @@ module _ (words : List (List ℕ)) (shelf : ShelfUse) (sink : SinkUse) (status :
   pub printed_is_said : (call : Call) (work : Work) (turns : ℕ) (asks : Asks words shelf call work) → Prints work turns sink status → PrintsWhatIsSaid asks.source asks.arrays turns [] sink status
   printed_is_said call work turns asks prints = record {
     outcome = prints.outcome;
-    printed = text_of (answer_of_run work.tree turns prints.outcome);
+    printed = end_text work.tree turns prints.outcome;
     said = run_is_said asks.source asks.arrays asks.tree work turns prints.outcome asks.tells.has_graph asks.comes prints.ends;
-    ends = subst (λ own. ((status ≡ own) × Writes sink (text_of (answer_of_run work.tree turns prints.outcome))) ⊎ (status ≡ 1)) (status_told work.tree turns prints.outcome) prints.printed;
+    ends = subst (λ own. ((status ≡ own) × Writes sink (end_text work.tree turns prints.outcome)) ⊎ (status ≡ 1)) (status_told prints.outcome) prints.printed;
   }
 
   pub moves_and_said : (call : Call) (work : Work) (picks : List ℕ) (turns : ℕ) (asks : Asks words shelf call work) → (prints : PrintsTraced work picks turns sink status) →
       PrintsWhatIsSaid asks.source asks.arrays turns prints.trace sink status
   moves_and_said call work picks turns asks prints = record {
     outcome = prints.outcome;
-    printed = text_of (answer_of_run work.tree turns prints.outcome);
+    printed = end_text work.tree turns prints.outcome;
     said = run_is_said asks.source asks.arrays asks.tree work turns prints.outcome asks.tells.has_graph asks.comes prints.ends;
-    ends = subst (λ own. ((status ≡ own) × Writes sink (steps_text prints.trace ++ text_of (answer_of_run work.tree turns prints.outcome))) ⊎ (status ≡ 1)) (status_told work.tree turns prints.outcome) prints.printed;
+    ends = subst (λ own. ((status ≡ own) × Writes sink (steps_text prints.trace ++ end_text work.tree turns prints.outcome)) ⊎ (status ≡ 1)) (status_told prints.outcome) prints.printed;
   }
 
   pub said_is_printed : (call : Call) (work : Work) (turns : ℕ) (outcome : Outcome Place Left) (printed : List ℕ) → Statuses words shelf sink status → (asks : Asks words shelf call work) → call.command ≡ to_run turns → IsGraphAccepted work.tree →
@@ -41,7 +41,7 @@ module _ (words : List (List ℕ)) (shelf : ShelfUse) (sink : SinkUse) (status :
       let runs = said_is_run asks.source asks.arrays asks.tree work turns outcome printed asks.tells.has_graph asks.comes said in
       let ends : EndsAs (answer_of_run work.tree turns outcome) sink status = statuses.run_where call work turns outcome asks command accepted runs.0 in
       subst (λ text. EndsAsSaid outcome text sink status) (sym runs.1)
-      (subst (λ own. ((status ≡ own) × Writes sink (text_of (answer_of_run work.tree turns outcome))) ⊎ ((status ≡ 10) × HasRisen sink.faults_before sink.faults_after) ⊎ (status ≡ 1)) (status_told work.tree turns outcome) ends)
+      (subst (λ own. ((status ≡ own) × Writes sink (end_text work.tree turns outcome)) ⊎ ((status ≡ 10) × HasRisen sink.faults_before sink.faults_after) ⊎ (status ≡ 1)) (status_told outcome) ends)
 
   -- a command that does not ask for its moves tells none
   none_told : (work : Work) (picks : List ℕ) (command : Command) (moves : List (ℕ × ℕ)) → TellsSteps work picks command moves → wants_moves command ≡ false → moves ≡ []
@@ -62,7 +62,7 @@ module _ (words : List (List ℕ)) (shelf : ShelfUse) (sink : SinkUse) (status :
     arrays = runs.comes.arrays;
     text_read = runs.comes.source.reads;
     arrays_read = runs.comes.reads;
-    printed = text_of (answer_of_run work.tree turns outcome);
+    printed = end_text work.tree turns outcome;
     said = run_is_said runs.comes.source.source runs.comes.arrays runs.comes.tree work turns outcome runs.comes.source.is runs.comes.is runs.ends;
     writes = writes;
   }

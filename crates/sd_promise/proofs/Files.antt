@@ -22,8 +22,8 @@ use Rattle.sd_says.specs.Says.{sizes_of, Says}
 use Rattle.sd_tie.specs.programs.Programs.{AreFitting}
 use Rattle.sd_tie.proofs.meant_lemmas.Sources.{source_fine, graph_latest, graph_turned}
 use Rattle.sd_tie.proofs.meant_lemmas.Texts.{joined_whole, text_is_run, run_of_text}
-use Rattle.sd_report.specs.write.RunText.{done_text}
-use Rattle.sd_tool.specs.Answers.{answer_of_run, status_of, text_of}
+use Rattle.sd_report.specs.write.RunText.{done_text, end_text}
+use Rattle.sd_tool.specs.Answers.{status_of_end}
 use Rattle.sd_tool.specs.Work.{Work, source_graph, prepared, run_of_work}
 use Rattle.sd_promise.specs.Promise.{FilesSay}
 use Rattle.sd_promise.specs.Source.{names_sought, file_read, memory_given, lines_of_last, text_said, status_said}
@@ -60,20 +60,20 @@ comes_of text source arrays work reading comes =
 
 -- the text of an outcome
 told : (source : ProgramTree) (arrays : List ℕ) (work : Work) (comes : ComesOf source arrays work) (turns : ℕ) (outcome : Outcome Place Left) →
-    text_of (answer_of_run work.tree turns outcome) ≡ text_said source comes.contents.sizes turns outcome
+    end_text work.tree turns outcome ≡ text_said source comes.contents.sizes turns outcome
 told source arrays work comes turns (Done left) = comes.lines left.memory
 told source arrays work comes turns (Faulted fault) = refl
 told source arrays work comes turns Spent = refl
 
-pub status_told : (tree : GraphTree) (turns : ℕ) (outcome : Outcome Place Left) → status_of (answer_of_run tree turns outcome) ≡ status_said outcome
-status_told tree turns (Done left) = refl
-status_told tree turns (Faulted fault) = refl
-status_told tree turns Spent = refl
+pub status_told : (outcome : Outcome Place Left) → status_of_end outcome ≡ status_said outcome
+status_told (Done left) = refl
+status_told (Faulted fault) = refl
+status_told Spent = refl
 
 -- ---- both ways
 
 module _ (text arrays : List ℕ) (tree : GraphTree) (work : Work) (turns : ℕ) (outcome : Outcome Place Left) where
-  pub run_is_said : source_graph text ≡ Ok tree → prepared tree arrays ≡ Ok work → Sequential (run_of_work work) turns outcome → FilesSay text arrays turns outcome (text_of (answer_of_run work.tree turns outcome))
+  pub run_is_said : source_graph text ≡ Ok tree → prepared tree arrays ≡ Ok work → Sequential (run_of_work work) turns outcome → FilesSay text arrays turns outcome (end_text work.tree turns outcome)
   run_is_said is comes ends =
       let found = has_source text tree is in
       let source : ProgramTree = found.0 in
@@ -89,7 +89,7 @@ module _ (text arrays : List ℕ) (tree : GraphTree) (work : Work) (turns : ℕ)
       }
 
   pub said_is_run : (printed : List ℕ) → source_graph text ≡ Ok tree → prepared tree arrays ≡ Ok work → FilesSay text arrays turns outcome printed →
-      Sequential (run_of_work work) turns outcome × (printed ≡ text_of (answer_of_run work.tree turns outcome))
+      Sequential (run_of_work work) turns outcome × (printed ≡ end_text work.tree turns outcome)
   said_is_run printed is comes said =
       let source : ProgramTree = said.source in
       let of = comes_of text source arrays work said.reading (subst (λ tree. prepared tree arrays ≡ Ok work) (sym (own_graph text tree source is said.reading)) comes) in

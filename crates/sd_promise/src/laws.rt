@@ -4,10 +4,11 @@ ghost use Rattle.sd_work.specs.Run.{Left, Sequential};
 ghost use Rattle.sd_work.specs.Step.{Outcome, Done, Faulted, Spent};
 ghost use Rattle.sd_graph.specs.PlainTree.{GraphTree};
 ghost use Rattle.sd_graph.specs.declared.place.Place.{Place};
+ghost use Rattle.sd_report.specs.write.RunText.{end_text};
 ghost use Rattle.sd_words.specs.Command.{Call, to_run};
 ghost use Rattle.sd_tool.specs.Work.{Work, source_graph, prepared, run_of_work};
 ghost use Rattle.sd_race.specs.race.Pairs.{IsGraphAccepted};
-ghost use Rattle.sd_tool.specs.Answers.{ShelfUse, listed, checked, answer_of_run, text_of};
+ghost use Rattle.sd_tool.specs.Answers.{ShelfUse, listed, checked, text_of};
 ghost use Rattle.sd_tool.specs.Ends.{SinkUse, Writes};
 ghost use Rattle.sd_tool.specs.Headline.{Prints, PrintsTraced};
 ghost use Rattle.sd_tool.specs.Statuses.{Statuses, ListsGraph, AcceptsGraph};
@@ -19,10 +20,10 @@ ghost use Rattle.sd_promise.specs.Promise.{FilesSay, PrintsWhatIsSaid, EndsAsSai
 pub fn files_say_what_their_graph_runs()
     ensures run { (text arrays : List ℕ) (tree : GraphTree) (work : Work) (turns : ℕ) (outcome : Outcome Place Left)
         → source_graph text ≡ Ok tree → prepared tree arrays ≡ Ok work
-        → Sequential (run_of_work work) turns outcome → FilesSay text arrays turns outcome (text_of (answer_of_run work.tree turns outcome)) }
+        → Sequential (run_of_work work) turns outcome → FilesSay text arrays turns outcome (end_text work.tree turns outcome) }
     ensures said { (text arrays : List ℕ) (tree : GraphTree) (work : Work) (turns : ℕ) (outcome : Outcome Place Left) (printed : List ℕ)
         → source_graph text ≡ Ok tree → prepared tree arrays ≡ Ok work → FilesSay text arrays turns outcome printed
-        → Sequential (run_of_work work) turns outcome × (printed ≡ text_of (answer_of_run work.tree turns outcome)) }
+        → Sequential (run_of_work work) turns outcome × (printed ≡ end_text work.tree turns outcome) }
 {}
 
 /// What a run prints is what its source says. Where two files are told and fit, what is printed is the text of

@@ -8,16 +8,16 @@ use Rattle.sd_race.specs.race.Race.{Race, IsRaceOf}
 use Rattle.sd_race.specs.text.CheckText.{check_text}
 use Rattle.sd_race.specs.text.RaceText.{race_text}
 use Rattle.sd_core.specs.Traced.{IsTraced}
-use Rattle.sd_report.specs.write.RunText.{line}
+use Rattle.sd_report.specs.write.RunText.{line, end_text, run_text}
 use Rattle.sd_tool.specs.Work.{Work, run_of_work}
-use Rattle.sd_tool.specs.Answers.{ran, answer_of_run, status_of, text_of}
+use Rattle.sd_tool.specs.Answers.{status_of_end}
 use Rattle.sd_tool.specs.Ends.{SinkUse, Writes}
 
 -- the sequential run of the work has an outcome; its text is written whole and the status is its own, or memory was wanting
 pub record Prints (work : Work) (turns : ℕ) (sink : SinkUse) (status : ℕ) : Type 0 where
   pub outcome : Outcome Place Left
   pub ends : Sequential (run_of_work work) turns outcome
-  pub printed : ((status ≡ status_of (answer_of_run work.tree turns outcome)) × Writes sink (text_of (answer_of_run work.tree turns outcome))) ⊎ (status ≡ 1)
+  pub printed : ((status ≡ status_of_end outcome) × Writes sink (end_text work.tree turns outcome)) ⊎ (status ≡ 1)
 
 -- the work has a run by these picks, which has this trace; a line for each of its steps and then the text of the sequential run is written whole, and the status is that of the sequential run, or memory was wanting
 pub record PrintsTraced (work : Work) (picks : List ℕ) (turns : ℕ) (sink : SinkUse) (status : ℕ) : Type 0 where
@@ -26,7 +26,7 @@ pub record PrintsTraced (work : Work) (picks : List ℕ) (turns : ℕ) (sink : S
   pub traced : IsTraced (run_of_work work) turns picks picked trace
   pub outcome : Outcome Place Left
   pub ends : Sequential (run_of_work work) turns outcome
-  pub printed : ((status ≡ status_of (answer_of_run work.tree turns outcome)) × Writes sink (text_of (ran trace work.tree turns outcome))) ⊎ (status ≡ 1)
+  pub printed : ((status ≡ status_of_end outcome) × Writes sink (run_text trace work.tree turns outcome)) ⊎ (status ≡ 1)
 
 -- the text of the work's graph is written whole and the status is 0, or memory was wanting
 abbrev pub Lists : Work → SinkUse → (status : ℕ) → Type 0
