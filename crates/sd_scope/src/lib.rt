@@ -14,7 +14,7 @@ pub use even::{
     numbers_of_a_range_are_at_equal_distances, points_come_in_rows,
 };
 pub use scope::{
-    Base, Scope, Shown, ShownName, View, Way, cell_at, checked_points, connector_extents,
+    Base, Indices, Scope, Shown, ShownName, View, Way, cell_at, checked_points, connector_extents,
     link_cell, link_cells, place_of, station, value_of, values_behind,
 };
 pub use take::{Taken, take_value};

@@ -12,6 +12,7 @@ mod base;
 mod element;
 mod evaluation;
 mod extents;
+mod indices;
 mod place;
 mod scope;
 
@@ -19,5 +20,6 @@ pub use access::{cell_at, link_cell, link_cells, station};
 pub use base::{Base, View, Way};
 pub use evaluation::{checked_points, value_of, values_behind};
 pub use extents::connector_extents;
+pub use indices::Indices;
 pub use place::place_of;
 pub use scope::{Scope, Shown, ShownName};

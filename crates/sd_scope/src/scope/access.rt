@@ -10,14 +10,13 @@ ghost use Rattle.sd_scope.specs.declared.scope.base.Base.{Base as BaseNow};
 
 use crate::scope::base::{Base, Way};
 use crate::scope::element::{element_at_begin, element_of, element_through, index_at, none_of};
-use crate::scope::evaluation::check_dims;
+use crate::scope::indices::Indices;
 use crate::scope::scope::Scope;
 use indexmap::IndexMap;
 use sd_graph::{Container, Link, Sdfg};
 use sd_list::NoMemory;
 use sd_mem::{Cell, Station};
 use sd_range::Dim;
-use sd_subset::Elements;
 use std::alloc::Global;
 
 /// The level of a container that is private here.
@@ -118,14 +117,11 @@ pub fn link_cells(
 ) -> Result<Vec<Option<Cell>>, NoMemory>
     ensures { IfOk result (λ cells. map (option_map reference_of) cells.items ≡ link_elements (context_of (graph_tree graph.now) base.now scope.now) link.now) }
 {
-    let subset = &link.memlet.subset;
-    check_dims(subset.dims.as_slice(), scope.values.values.as_slice())?;
-    let mut elements = Elements::new(alloc, subset, &scope.values)?;
-    let mut index = vec![in alloc; 0; subset.dims.len()]?;
+    let container = link.memlet.container;
+    let mut indices = Indices::of(alloc, scope, link)?;
     let mut cells = Vec::new(alloc);
-    while elements.next(index.as_mut_slice()) {
-        let container = link.memlet.container;
-        cells.push(cell_at(alloc, graph, base, scope, container, index.as_slice())?)?;
+    'indices: while indices.next() {
+        cells.push(cell_at(alloc, graph, base, scope, container, indices.at())?)?;
     }
     Ok(cells)
 }
