@@ -1,1 +1,4 @@
 pub mod Searching
+pub mod Enclosing
+pub mod Clearing
+pub mod Alike

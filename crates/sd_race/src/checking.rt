@@ -4,7 +4,12 @@
 //! `race`, exactly where the graph is not accepted; `scope_accepted` asks one scope. Only accesses of
 //! one container, in modes that conflict, are compared, each two of a scope once. Nothing is asked of the
 //! graph; want of memory is the one refusal beside a race.
+mod alike;
+mod clear;
+mod enclosing;
+mod mixing;
 mod pair;
+mod placed;
 mod race;
 mod search;
 

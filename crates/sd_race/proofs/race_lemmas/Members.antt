@@ -25,7 +25,7 @@ pairs-accepted [] accepted = tt
 pairs-accepted (scope ∷ scopes) accepted = all-joined IsAccepted (pairs_of scope) (flat_map pairs_of scopes) accepted.0 (pairs-accepted scopes accepted.1)
 
 -- a pair may be turned
-accepted-turned : (scope : Scope) (access other : Access) → IsAccepted (pair_of scope access other) → IsAccepted (pair_of scope other access)
+pub accepted-turned : (scope : Scope) (access other : Access) → IsAccepted (pair_of scope access other) → IsAccepted (pair_of scope other access)
 accepted-turned scope access other accepted same conflict =
     harmless_over-turned scope.over scope.around access.box other.box (accepted (sym same) (do_conflict-turned other.mode access.mode ∙ conflict))
 

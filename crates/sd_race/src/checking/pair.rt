@@ -11,7 +11,7 @@ use sd_wire::do_conflict;
 use std::alloc::Global;
 
 /// Whether two boxes share no element where the body is done twice.
-fn are_harmless_over(
+pub(crate) fn are_harmless_over(
     alloc: Global,
     over: &Over,
     around: &[(u32, Range)],

@@ -3,15 +3,20 @@ ghost use Rattle.std.specs.Prelude.{◌≡◌, ◌↔◌, Option, Some, None, ma
 ghost use Rattle.std.specs.List.{flat_map};
 ghost use Rattle.sd_graph.specs.TreeFold.{graph_tree};
 ghost use Rattle.sd_prop.specs.propagation.Scopes.{scope_at};
-ghost use Rattle.sd_race.specs.race.Pairs.{IsGraphAccepted, IsScopeAccepted, pair_of, pairs_of};
+ghost use Rattle.sd_race.specs.race.Pairs.{IsGraphAccepted, IsScopeAccepted, pair_of, pairs_among, pairs_of};
+ghost use Rattle.sd_race.specs.race.Race as plain;
 ghost use Rattle.sd_race.specs.checking.Found.{IsFirstOf, TellsRaceOf, IsVerdict, race_of};
 
+use crate::checking::alike::is_like_earlier;
+use crate::checking::clear::is_clear;
+use crate::checking::mixing::digest_of;
 use crate::checking::pair::is_accepted;
 use crate::checking::race::{Race, RaceError};
 use sd_graph::{Bound, Path};
 use sd_list::NoMemory;
 use sd_prop::{Access, Scope, scope_with, scopes};
 use std::alloc::Global;
+use std::collections::BTreeMap;
 
 /// The first race of an access with one of these.
 fn race_with(
@@ -30,11 +35,33 @@ fn race_with(
     Ok(None)
 }
 
+/// The accesses of a scope from the first on that has a race with itself or with one behind it.
+fn from_first_race<'a>(alloc: Global, scope: &'a Scope<'_>) -> Result<&'a [Access], NoMemory>
+    ensures { IfOk result (λ left. (race : Option plain.Race) → IsFirstOf (pairs_among scope.now left.now) race → IsFirstOf (pairs_of scope.now) race) }
+{
+    let mut left = scope.accesses();
+    if is_clear(alloc, scope, left, &[])? {
+        return Ok(&[]);
+    }
+    let mut size = left.len();
+    while 1 < size {
+        let half = size / 2;
+        let (front, behind) = left.split_at(half);
+        if is_clear(alloc, scope, front, behind)? {
+            left = behind;
+            size -= half;
+        } else {
+            size = half;
+        }
+    }
+    Ok(left)
+}
+
 /// The first race of a scope.
 fn race_in(alloc: Global, scope: &Scope<'_>) -> Result<Option<Race>, NoMemory>
     ensures { IfOk result (λ found. IsFirstOf (pairs_of scope.now) (option_map race_of found)) }
 {
-    let mut left = scope.accesses();
+    let mut left = from_first_race(alloc, scope)?;
     while let Some((access, behind)) = left.split_first() {
         if let Some(race) = race_with(alloc, scope, access, left)? {
             return Ok(Some(race));
@@ -48,10 +75,16 @@ fn race_in(alloc: Global, scope: &Scope<'_>) -> Result<Option<Race>, NoMemory>
 fn race_among(alloc: Global, all: &[Scope<'_>]) -> Result<Option<Race>, NoMemory>
     ensures { IfOk result (λ found. IsFirstOf (flat_map pairs_of all.now) (option_map race_of found)) }
 {
-    for scope in all {
+    let mut known = BTreeMap::new(alloc);
+    for (i, scope) in all.iter().enumerate() {
+        let digest = digest_of(scope);
+        if is_like_earlier(scope, &all[..i], known.get(&digest).copied()) {
+            continue;
+        }
         if let Some(race) = race_in(alloc, scope)? {
             return Ok(Some(race));
         }
+        known.insert(digest, i)?;
     }
     Ok(None)
 }

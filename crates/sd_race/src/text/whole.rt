@@ -3,6 +3,7 @@ ghost use Rattle.std.specs.Prelude.{◌≡◌, ◌++◌, map, length, string_byt
 ghost use Rattle.std.specs.List.{flat_map};
 ghost use Rattle.sd_graph.specs.TreeFold.{graph_tree, named_container, state_trees};
 ghost use Rattle.sd_race.specs.text.CheckText as definition;
+ghost use Rattle.sd_wire.specs.loops.Spans as spans_of;
 
 use crate::text::access::{push_touched, push_use};
 use indexmap::IndexMap;
@@ -10,7 +11,7 @@ use sd_graph::{Bound, Container, Sdfg, State};
 use sd_list::NoMemory;
 use sd_print::push_path;
 use sd_prop::{Access, WholeScope, annotate};
-use sd_wire::loops_in_force;
+use sd_wire::{LoopSpan, loop_spans, variables_in};
 use std::alloc::Global;
 
 /// How many names there are.
@@ -68,20 +69,18 @@ fn push_scope(
     Ok(())
 }
 
-/// Adds the lines of a scope of one of a graph's own states.
+/// Adds the lines of a scope of one of a graph's own states, whose loops have these spans.
 fn push_own(
     alloc: Global,
     text: &mut String,
     names: &[String],
     containers: &IndexMap<String, Container>,
-    states: &[State],
+    spans: &[LoopSpan],
     scope: &WholeScope,
 ) -> Result<(), NoMemory>
-    ensures { OnOk result (string_bytes text.new ≡ string_bytes text.old ++ definition.scope_lines (map string_bytes names.now) (map named_container containers.now.entries) (state_trees states.now) scope.now) }
+    ensures { OnOk result (string_bytes text.new ≡ string_bytes text.old ++ definition.scope_text (map string_bytes names.now) (map named_container containers.now.entries) (spans_of.variables_in spans.now (definition.state_of scope.now.0)) scope.now) }
 {
-    let variables = count_of(names)?;
-    let state = state_of(scope.path());
-    let order = loops_in_force(alloc, states, variables, state)?;
+    let order = variables_in(alloc, spans, state_of(scope.path()))?;
     push_scope(alloc, text, names, containers, order.as_slice(), scope)
 }
 
@@ -96,8 +95,10 @@ fn push_scopes(
 ) -> Result<(), NoMemory>
     ensures { OnOk result (string_bytes text.new ≡ string_bytes text.old ++ flat_map (definition.scope_lines (map string_bytes names.now) (map named_container containers.now.entries) (state_trees states.now)) scopes.now) }
 {
+    let variables = count_of(names)?;
+    let spans = loop_spans(alloc, states, variables)?;
     for scope in scopes {
-        push_own(alloc, text, names, containers, states, scope)?;
+        push_own(alloc, text, names, containers, spans.as_slice(), scope)?;
     }
     Ok(())
 }
