@@ -1,6 +1,5 @@
 -- What is found among names, one name after another.
-use Rattle.std.proofs.Common.{◌≡◌, ℕ, zero, suc, arith, ◌+◌, ◌<◌, List, [], ◌∷◌, ◌++◌, length, take, drop, get_or, map, Bool, true, false, cond, ◌||◌, not, refl, ap, sym, ◌∙◌, bytes_eq, Option, Some, String, string_bytes}
-use Rattle.std.specs.declared.alloc.Global.{Global}
+use Rattle.std.proofs.Common.{◌≡◌, ℕ, zero, suc, arith, ◌+◌, ◌<◌, List, [], ◌∷◌, ◌++◌, length, take, drop, get_or, map, Bool, true, false, cond, ◌||◌, not, refl, ap, sym, ◌∙◌, bytes_eq, Option, Some}
 use Rattle.std.specs.List.{find, filter_map, list_any, AllByRecursion, IsDistinct}
 use Rattle.std.proofs.lemmas.List.{map-append}
 use Rattle.std.proofs.lemmas.List.Folds.{list_any_more, list_any-append}
@@ -33,14 +32,6 @@ pub neither_is_extra : (names : Names) (none first both : Bool) (name : List ℕ
     both ≡ (first || list_any (bytes_eq name) names.arguments) → is_extra names name ≡ not both
 neither_is_extra names none first both name empty one other =
     ap not (list_any-append (bytes_eq name) names.symbols names.arguments ∙ ap (λ found. found || list_any (bytes_eq name) names.arguments) (sym (one ∙ ap (λ n. n || list_any (bytes_eq name) names.symbols) empty)) ∙ sym other)
-
--- a search among the bytes of keys ends at the first one
-pub first_is_found : (test : List ℕ → Bool) (keys others : List (String Global)) (key : String Global) → keys ≡ key ∷ others → test (string_bytes key) ≡ true → find test (map string_bytes keys) ≡ Some (string_bytes key)
-first_is_found test keys others key is passes = ap (λ all. find test (map string_bytes all)) is ∙ ap (λ b. cond b (Some (string_bytes key)) (find test (map string_bytes others))) passes
-
--- or goes on behind it
-pub first_is_passed : (test : List ℕ → Bool) (keys others : List (String Global)) (key : String Global) → keys ≡ key ∷ others → test (string_bytes key) ≡ false → find test (map string_bytes keys) ≡ find test (map string_bytes others)
-first_is_passed test keys others key is fails = ap (λ all. find test (map string_bytes all)) is ∙ ap (λ b. cond b (Some (string_bytes key)) (find test (map string_bytes others))) fails
 
 -- the search ends at the next item
 pub found_here : {X : Type 0} (test : X → Bool) (items : List X) (i : ℕ) (here : X) → i < length items → here ≡ get_or items i here → test here ≡ true → find test (drop i items) ≡ Some here

@@ -1,6 +1,6 @@
 pub mod NameLists
 pub mod Finding
-pub mod Kept
+pub mod KeptNames
 pub mod Refusals
 pub mod Full
 pub mod Converting

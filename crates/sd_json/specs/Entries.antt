@@ -1,27 +1,22 @@
--- The entries of an arrays file as they are kept: each with its numbers and its shape.
-use Rattle.std.specs.Prelude.{◌≡◌, ℕ, ℤ, List, [], ◌∷◌, map, Bool, true, false, Option, Some, None, option_map, option_and_then, unwrap_or, slice_get, length, ◌==◌, if◌then◌else◌, String, string_bytes, string_cmp}
-use Rattle.std.specs.BTreeMap.{BTreeMap, IsOrdered}
+-- The entries of an arrays file as they are kept: each that is looked for with its numbers and its shape.
+use Rattle.std.specs.Prelude.{◌≡◌, ℕ, ℤ, List, [], Bool, true, false, Option, Some, None, option_map, option_and_then, unwrap_or, slice_get, length, ◌==◌, if◌then◌else◌}
+use Rattle.std.specs.BTreeMap.{get_by_text}
 use Rattle.std.specs.Option.{is_none}
-use Rattle.std.specs.declared.alloc.Global.{Global}
-use Rattle.serde_json.specs.Data.{Data, Members, no_members, member}
+use Rattle.serde_json.specs.Data.{Data, Members}
+use Rattle.serde_json.specs.Find.{get_member}
 use Rattle.sd_json.specs.NestedLists.{numbers_of, shape_of}
+use Rattle.sd_json.specs.Names.{is_extra}
+use Rattle.sd_json.specs.ArraysReading.{least_extra}
 use Rattle.sd_json.specs.declared.array.Array.{Array}
 use Rattle.sd_json.specs.declared.entry.Entry.{Entry}
+use Rattle.sd_json.specs.declared.names.Names.{Names}
+use Rattle.sd_json.specs.declared.kept.Kept.{Kept}
 use Rattle.sd_json.specs.declared.fault.Fault.{Fault}
 use Rattle.sd_json.specs.declared.fault.Fault.TheVariants.{Missing, NoSize, NoNumber, Ragged}
 
 -- what is kept of a value
 abbrev pub entry_of : Data → Entry
 entry_of value = record { numbers = numbers_of value; shape = shape_of value }
-
--- what is kept of the members of an object, each with its name
-abbrev pub kept_of : Members → List (List ℕ × Entry)
-kept_of no_members = []
-kept_of (member name value others) = (name, entry_of value) ∷ kept_of others
-
--- an entry with its name's bytes
-abbrev pub named_entry : String Global × Entry → List ℕ × Entry
-named_entry entry = (string_bytes entry.0, entry.1)
 
 -- the whole number that an entry is, where it is one: a number and no list
 abbrev pub size_of : Entry → Option ℤ
@@ -47,11 +42,11 @@ abbrev pub array_kept : Option Entry → Array
 array_kept None = record { shape = []; elements = [] }
 array_kept (Some entry) = record { shape = unwrap_or entry.shape []; elements = unwrap_or entry.numbers [] }
 
--- entries by their names are what is kept of the members of an object
-pub record AreKept (entries : BTreeMap (String Global) Entry) (members : Members) : Type 0 where
-  pub same : map named_entry entries.entries ≡ kept_of members
-  pub ordered : IsOrdered string_cmp entries
+-- what is kept of the members of an object: of those that are looked for what is kept of their values, and of the others the least name
+pub record AreKept (names : Names) (kept : Kept) (members : Members) : Type 0 where
+  pub sought : (name : List ℕ) → is_extra names name ≡ false → get_by_text kept.entries name ≡ option_map entry_of (get_member name members)
+  pub extra : kept.extra ≡ least_extra names members
 
--- entries are those of an object
-abbrev pub AreOfObject : BTreeMap (String Global) Entry → Type 0
-AreOfObject entries = (members : Members) × AreKept entries members
+-- it is that of an object
+abbrev pub AreOfObject : Names → Kept → Type 0
+AreOfObject names kept = (members : Members) × AreKept names kept members

@@ -1,6 +1,6 @@
-ghost use Rattle.std.specs.Prelude.{◌≡◌, ℕ, List, [], ◌∷◌, ◌++◌, ◌||◌, not, map, bytes_eq, IfOk, OnOk, string_bytes};
-ghost use Rattle.std.specs.List.{find, filter_map, list_any};
-ghost use Rattle.std.specs.BTreeMap.{get_by_text, keys};
+ghost use Rattle.std.specs.Prelude.{◌≡◌, ℕ, List, [], ◌∷◌, ◌++◌, ◌||◌, not, bytes_eq, IfOk, OnOk};
+ghost use Rattle.std.specs.List.{filter_map, list_any};
+ghost use Rattle.std.specs.BTreeMap.{get_by_text};
 ghost use Rattle.std.specs.BTreeSet.{contains_text};
 ghost use Rattle.sd_json.specs.Names.{is_extra};
 ghost use Rattle.sd_json.specs.Entries.{size_kept};
@@ -11,7 +11,7 @@ use sd_list::{NoMemory, Sequence, Text};
 use std::alloc::Global;
 use std::collections::{BTreeMap, BTreeSet};
 
-/// The entries of an arrays file by their names.
+/// Entries of an arrays file by their names.
 pub(crate) type Entries = BTreeMap<String, Entry>;
 
 /// Adds names to a set of them.
@@ -25,31 +25,13 @@ fn add(alloc: Global, set: &mut BTreeSet<String>, names: &[Text]) -> Result<(), 
 }
 
 /// The names that a graph looks for, as a set.
-fn wanted(alloc: Global, names: &Names) -> Result<BTreeSet<String>, NoMemory>
+pub(crate) fn wanted(alloc: Global, names: &Names) -> Result<BTreeSet<String>, NoMemory>
     ensures { IfOk result (λ set. (name : List ℕ) → is_extra names.now name ≡ not (contains_text set name)) }
 {
     let mut set = BTreeSet::new(alloc);
     add(alloc, &mut set, names.symbols.as_slice())?;
     add(alloc, &mut set, names.arguments.as_slice())?;
     Ok(set)
-}
-
-/// The first entry, in the order of their names, that is neither a size symbol's nor an
-/// argument's; its name.
-pub(crate) fn first_extra(
-    alloc: Global,
-    entries: &Entries,
-    names: &Names,
-) -> Result<Option<Text>, NoMemory>
-    ensures { IfOk result (λ name. name ≡ find (is_extra names.now) (map string_bytes (keys entries.now))) }
-{
-    let wanted = wanted(alloc, names)?;
-    for name in entries.keys() {
-        if !wanted.contains(name.as_str()) {
-            return Ok(Some(Text::from(name.as_str().to_string(alloc)?)));
-        }
-    }
-    Ok(None)
 }
 
 /// Adds the size of a symbol, with its name, where it has an entry that is one.

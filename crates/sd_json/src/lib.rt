@@ -14,6 +14,7 @@ mod error;
 mod fault;
 mod fitting;
 mod given;
+mod kept;
 mod laws;
 mod leaf;
 mod names;

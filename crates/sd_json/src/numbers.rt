@@ -1,4 +1,4 @@
-ghost use Rattle.std.specs.Prelude.{◌≡◌, Some, [], ◌∷◌, option_map, OnOk};
+ghost use Rattle.std.specs.Prelude.{◌≡◌, Some, None, [], ◌∷◌, option_map, OnOk};
 ghost use Rattle.sd_json.specs.NestedLists.{joined};
 
 use crate::elements::Elements;
@@ -29,6 +29,16 @@ impl Numbers {
         Numbers {
             list: Elements::new(alloc),
             whole: true,
+        }
+    }
+
+    /// Those of a value that nobody asks for: as if a leaf were no number, so that none are kept.
+    pub(crate) fn unasked(alloc: Global) -> Numbers
+        ensures { result ≡ None }
+    {
+        Numbers {
+            list: Elements::new(alloc),
+            whole: false,
         }
     }
 

@@ -13,6 +13,7 @@ use crate::entries::{self, Entries};
 use crate::error::InputError;
 use crate::fault::Fault;
 use crate::given::Given;
+use crate::kept::Kept;
 use crate::names::Names;
 use crate::object::read_entries;
 use sd_graph::Sdfg;
@@ -20,15 +21,20 @@ use sd_list::{NoMemory, Sequence, Text};
 use std::alloc::Global;
 
 /// The first case that refuses the entries of a file.
-fn refusal(alloc: Global, entries: &Entries, names: &Names) -> Result<Option<InputError>, NoMemory>
-    ensures { IfOk result (λ refusal. (members : Members) → AreKept entries.now members → refusal ≡ refusal_of names.now members) }
+fn refusal(
+    alloc: Global,
+    entries: &Entries,
+    extra: Option<Text>,
+    names: &Names,
+) -> Result<Option<InputError>, NoMemory>
+    ensures { IfOk result (λ refusal. (members : Members) → AreKept names.now (record { entries = entries.now; extra = extra }) members → refusal ≡ refusal_of names.now members) }
 {
     let symbols = names.symbols.as_slice();
     let arguments = names.arguments.as_slice();
     if let Some(name) = Fault::Missing.first(entries, arguments) {
         return Ok(Some(InputError::Missing(name.copy_of(alloc)?)));
     }
-    if let Some(name) = entries::first_extra(alloc, entries, names)? {
+    if let Some(name) = extra {
         return Ok(Some(InputError::Extra(name)));
     }
     if let Some(name) = Fault::NoSize.first(entries, symbols) {
@@ -74,13 +80,14 @@ fn take_arrays(
 }
 
 /// What the entries of a file give, or the first case that refuses them.
-fn judged(alloc: Global, mut entries: Entries, names: &Names) -> Result<Given, InputError>
-    requires object { AreOfObject entries }
+fn judged(alloc: Global, kept: Kept, names: &Names) -> Result<Given, InputError>
+    requires object { AreOfObject names.now kept }
     requires distinct { IsDistinct bytes_eq names.now.arguments }
-    ensures ok { IfOk result (λ given. (members : Members) → AreKept entries members → entries_reading names.now (Some members) ≡ Ok given) }
-    ensures err { IfErr result (λ error. error ≢ InputError.Memory → (members : Members) → AreKept entries members → entries_reading names.now (Some members) ≡ Err error) }
+    ensures ok { IfOk result (λ given. (members : Members) → AreKept names.now kept members → entries_reading names.now (Some members) ≡ Ok given) }
+    ensures err { IfErr result (λ error. error ≢ InputError.Memory → (members : Members) → AreKept names.now kept members → entries_reading names.now (Some members) ≡ Err error) }
 {
-    if let Some(refusal) = refusal(alloc, &entries, names)? {
+    let Kept { mut entries, extra } = kept;
+    if let Some(refusal) = refusal(alloc, &entries, extra, names)? {
         return Err(refusal);
     }
     let sizes = entries::sizes(alloc, &entries, names.symbols.as_slice())?;
@@ -101,8 +108,8 @@ pub fn read_arrays(alloc: Global, bytes: &[u8], graph: &Sdfg) -> Result<Given, I
     ensures arrays { IfOk result (λ given. length given.arrays ≡ length (names_in (graph_tree graph.now)).arguments) }
 {
     let names = Names::of(alloc, graph)?;
-    match read_entries(alloc, bytes)? {
-        Some(entries) => judged(alloc, entries, &names),
+    match read_entries(alloc, bytes, &names)? {
+        Some(kept) => judged(alloc, kept, &names),
         None => Err(InputError::NotJson),
     }
 }
