@@ -4,3 +4,4 @@ pub mod KeptLemmas
 pub mod Acts
 pub mod Members
 pub mod Counts
+pub mod Told

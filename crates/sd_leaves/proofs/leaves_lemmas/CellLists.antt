@@ -2,16 +2,16 @@
 use Rattle.std.proofs.Common.{◌≡◌, ℕ, ℤ, List, [], ◌∷◌, ◌++◌, map, Option, Some, None, option_map, refl, sym, ap, ◌∙◌}
 use Rattle.std.specs.List.{zip}
 use Rattle.std.proofs.lemmas.Simd.{map-map}
-use Rattle.sd_range.specs.Subset.{whole}
+use Rattle.sd_range.specs.Subset.{elements, whole}
 use Rattle.sd_num.specs.declared.resolution.Resolution.{Resolution}
 use Rattle.sd_work.specs.Memory.{Reference}
 use Rattle.sd_work.specs.Leaf.{write_value, transfer, identities}
-use Rattle.sd_graph.specs.Context.{Context, link_elements, link_element, link_extents}
+use Rattle.sd_graph.specs.Context.{Context, reference_at, link_elements, link_element, link_extents}
 use Rattle.sd_graph.specs.Unfold.{reduction_pairs, target_place}
 use Rattle.sd_graph.specs.declared.link.Link.{Link}
 use Rattle.sd_mem.specs.machine.Stack.{reference_of}
 use Rattle.sd_mem.specs.declared.machine.cell.Cell.{Cell}
-use Rattle.sd_leaves.specs.leaves.Done.{reducing, resolving}
+use Rattle.sd_leaves.specs.leaves.Done.{copied, copied_at, reducing, resolving}
 use Rattle.sd_leaves.specs.leaves.Cells.{writing, transferring}
 
 -- a value written to each
@@ -38,6 +38,33 @@ copied_to sources targets from to from_is to_is =
     transferred None sources targets
     ∙ ap (λ from. map (λ pair. transfer pair.0 pair.1 None) (zip from (map (option_map reference_of) targets))) from_is
     ∙ ap (λ to. map (λ pair. transfer pair.0 pair.1 None) (zip from to)) to_is
+
+-- a copy is what it does with the elements at each pair of indices
+copied_pairs : (context : Context) (from to : Link) (firsts seconds : List (List ℤ)) →
+    map (λ pair. transfer pair.0 pair.1 None) (zip (map (reference_at (context.reach from.memlet.container)) firsts) (map (reference_at (context.reach to.memlet.container)) seconds))
+    ≡ map (copied_at context from to) (zip firsts seconds)
+copied_pairs context from to [] seconds = refl
+copied_pairs context from to (first ∷ firsts) [] = refl
+copied_pairs context from to (first ∷ firsts) (second ∷ seconds) = ap (λ rest. copied_at context from to (first, second) ∷ rest) (copied_pairs context from to firsts seconds)
+
+pub copied_is : (context : Context) (from to : Link) → copied context from to ≡ map (copied_at context from to) (zip (elements from.memlet.subset context.values) (elements to.memlet.subset context.values))
+copied_is context from to = copied_pairs context from to (elements from.memlet.subset context.values) (elements to.memlet.subset context.values)
+
+-- what is done at a pair of indices, with the elements that were looked up
+pub transferred_at : (context : Context) (from to : Link) (indices : List ℤ × List ℤ) (source target : Option Cell) →
+    option_map reference_of source ≡ reference_at (context.reach from.memlet.container) indices.0 → option_map reference_of target ≡ reference_at (context.reach to.memlet.container) indices.1 →
+    transferring None (source, target) ≡ copied_at context from to indices
+transferred_at context from to indices source target source_is target_is = λ i. transfer (source_is i) (target_is i) None
+
+-- a value written to each element of a link is what is written at each index
+pub written_is : (context : Context) (link : Link) (value : ℤ) →
+    identities (Some value) (link_elements context link) ≡ map (λ index. write_value value (reference_at (context.reach link.memlet.container) index) None) (elements link.memlet.subset context.values)
+written_is context link value = map-map (λ target. write_value value target None) (reference_at (context.reach link.memlet.container)) (elements link.memlet.subset context.values)
+
+-- pairs of lists, where one of them is at its end
+pub no_pairs : {A B : Type 0} (firsts : List A) (seconds : List B) → seconds ≡ [] → zip firsts seconds ≡ []
+no_pairs [] seconds none = refl
+no_pairs (first ∷ firsts) seconds none = ap (zip (first ∷ firsts)) none
 
 -- a reduction at each place of its source is what it does with each pair of elements
 pub reduction_is : (context : Context) (resolution : Resolution) (axis : Option ℕ) (identity : Option ℤ) (from to : Link) →

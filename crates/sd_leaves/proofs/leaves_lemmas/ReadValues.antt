@@ -1,7 +1,7 @@
 -- Elements that are read, one after another and link by link.
-use Rattle.std.proofs.Common.{◌≡◌, ◌<◌, ◌+◌, ℕ, suc, ℤ, List, [], ◌∷◌, ◌++◌, map, length, get_or, take, drop, Option, Some, None, option_map, refl, sym, ap, ◌∙◌, subst, append_assoc, false}
+use Rattle.std.proofs.Common.{◌≡◌, ℕ, suc, ℤ, List, [], ◌∷◌, ◌++◌, map, length, take, drop, Option, Some, None, option_map, refl, sym, ap, ◌∙◌, subst, append_assoc, false}
 use Rattle.std.specs.List.{flat_map}
-use Rattle.std.proofs.lemmas.List.{append-nil, length-map, get_or_default}
+use Rattle.std.proofs.lemmas.List.{append-nil, length-map}
 use Rattle.std.proofs.Math.Seq.{take-append_seam, drop-append_seam}
 use Rattle.sd_range.specs.Points.{product}
 use Rattle.sd_range.specs.Subset.{elements, whole}
@@ -19,7 +19,6 @@ use Rattle.sd_graph.specs.declared.place.Place.{Place}
 use Rattle.sd_graph.proofs.ElementPlaces.{elements_are_at_places}
 use Rattle.sd_mem.specs.machine.Stack.{reference_of}
 use Rattle.sd_mem.specs.declared.machine.cell.Cell.{Cell}
-use Rattle.sd_leaves.proofs.leaves_lemmas.Lists.{from_here}
 use Rattle.sd_leaves.specs.leaves.Read.{before_others, links_seen}
 
 -- ---- how many there are
@@ -144,22 +143,42 @@ reading_all place (None ∷ reads) values evaluation memories turns = refl
 reading_all place (Some read ∷ reads) values evaluation memories turns =
     reading_all place reads (values ++ look read memories ∷ []) evaluation memories turns ∙ one_more place values evaluation memories turns (look read memories) (all_seen reads memories)
 
--- ---- elements that were looked up
+-- ---- elements that are looked up index by index
 
 value_after : (values : List ℤ) (value : ℤ) (rest : Option (List ℤ)) → with_values values (with_value (Some value) rest) ≡ with_values (values ++ value ∷ []) rest
 value_after values value None = refl
 value_after values value (Some more) = ap Some (sym (append_assoc values (value ∷ []) more))
 
--- one more element is read
-pub cell_read : (cells : List (Option Cell)) (memories : Memories) (number : ℕ) (cell : Cell) (values more : List ℤ) (value : ℤ) → number < length cells → get_or cells number None ≡ Some cell →
-    value ≡ look (reference_of cell) memories → more ≡ values ++ value ∷ [] →
-    all_seen (map (option_map reference_of) cells) memories ≡ with_values values (all_seen (map (option_map reference_of) (drop number cells)) memories) →
-    all_seen (map (option_map reference_of) cells) memories ≡ with_values more (all_seen (map (option_map reference_of) (drop (number + 1) cells)) memories)
-cell_read cells memories number cell values more value within is looked grown so_far =
-    let rest = all_seen (map (option_map reference_of) (drop (number + 1) cells)) memories in
-    so_far
-    ∙ ap (λ left. with_values values (all_seen (map (option_map reference_of) left) memories))
-    (from_here cells number (Some cell) within (sym (get_or_default cells number (Some cell) None within ∙ is)))
-    ∙ value_after values (look (reference_of cell) memories) rest
-    ∙ ap (λ value. with_values (values ++ value ∷ []) rest) (sym looked)
-    ∙ ap (λ values. with_values values rest) (sym grown)
+module _ (find : List ℤ → Option Reference) (memories : Memories) (values : List ℤ) where
+  -- the values so far stand before those of the indices that are left
+  abbrev pub seen_from : (indices : List (List ℤ)) → Option (List ℤ)
+  seen_from indices = with_values values (all_seen (map find indices) memories)
+
+  module _ (indices rest : List (List ℤ)) (at : List ℤ) (is : indices ≡ at ∷ rest) where
+    -- one more element is read
+    pub index_read : (cell : Cell) (more : List ℤ) (value : ℤ) → find at ≡ Some (reference_of cell) → value ≡ look (reference_of cell) memories → more ≡ values ++ value ∷ [] →
+        seen_from indices ≡ with_values more (all_seen (map find rest) memories)
+    index_read cell more value found looked grown =
+        ap seen_from is
+        ∙ ap (λ (first : Option Reference). with_values values (with_value (seen first memories) (all_seen (map find rest) memories))) found
+        ∙ value_after values (look (reference_of cell) memories) (all_seen (map find rest) memories)
+        ∙ ap (λ value. with_values (values ++ value ∷ []) (all_seen (map find rest) memories)) (sym looked)
+        ∙ ap (λ values. with_values values (all_seen (map find rest) memories)) (sym grown)
+
+    -- an element that is outside
+    pub index_outside : find at ≡ None → seen_from indices ≡ None
+    index_outside outside =
+        ap seen_from is ∙ ap (λ (first : Option Reference). with_values values (with_value (seen first memories) (all_seen (map find rest) memories))) outside
+
+  -- none is left
+  pub index_over : (indices : List (List ℤ)) → indices ≡ [] → seen_from indices ≡ Some values
+  index_over indices none = ap seen_from none ∙ ap Some (append-nil values)
+
+nothing_before : (others : Option (List ℤ)) → others ≡ with_values [] others
+nothing_before None = refl
+nothing_before (Some others) = refl
+
+-- nothing was read yet
+pub none_seen : (find : List ℤ → Option Reference) (memories : Memories) (all left : List (List ℤ)) → all ≡ left →
+    all_seen (map find all) memories ≡ with_values [] (all_seen (map find left) memories)
+none_seen find memories all left is = ap (λ all. all_seen (map find all) memories) is ∙ nothing_before (all_seen (map find left) memories)

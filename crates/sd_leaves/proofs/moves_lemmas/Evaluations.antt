@@ -16,17 +16,17 @@ use Rattle.sd_leaves.specs.declared.moves.todo.Todo.{Todo}
 use Rattle.sd_leaves.specs.moves.Left.{all_told}
 
 module _ (context : Context) (code : TaskletTree) (ins outs : List Link) (values : List ℤ) (read : List (List ℤ)) (inputs : Inputs)
-    (cuts : read ≡ cut (map (λ link. product (link_extents context link)) ins) values) (gives : inputs ≡ given_at context code ins outs read) where
-  at_values : (answer : Meaning (List Effect)) → meaning_of code inputs ≡ answer → meaning_at context code ins outs values ≡ answer
-  at_values answer means = ap (λ read. meaning_of code (given_at context code ins outs read)) (sym cuts) ∙ ap (meaning_of code) (sym gives) ∙ means
+    (cuts : read ≡ cut (map (λ link. product (link_extents context link)) ins) values) where
+  at_values : (answer : Meaning (List Effect)) → meaning_of code (given_at context code ins outs read) ≡ answer → meaning_at context code ins outs values ≡ answer
+  at_values answer means = ap (λ read. meaning_of code (given_at context code ins outs read)) (sym cuts) ∙ means
 
   -- the effects that it performs
-  pub effects-told : (effects : List kept.Effect) (todos : List Todo) → meaning_of code inputs ≡ Ok (map (told_effect inputs) effects) → all_told todos ≡ map (pending_told context inputs ins outs) effects
+  pub effects-told : (effects : List kept.Effect) (todos : List Todo) → meaning_of code (given_at context code ins outs read) ≡ Ok (map (told_effect inputs) effects) → all_told todos ≡ map (pending_told context inputs ins outs) effects
       → evaluation_of context code ins outs values ≡ Ok (all_told todos)
   effects-told effects todos means same =
       ap (λ answer. and_then answer (λ effects. Ok (map (pending_of context ins outs) effects))) (at_values (Ok (map (told_effect inputs) effects)) means)
       ∙ ap Ok (map-map (pending_of context ins outs) (told_effect inputs) effects ∙ sym same)
 
   -- its fault
-  pub fault-told : (kind : FaultKind) → meaning_of code inputs ≡ Err kind → evaluation_of context code ins outs values ≡ Err kind
+  pub fault-told : (kind : FaultKind) → meaning_of code (given_at context code ins outs read) ≡ Err kind → evaluation_of context code ins outs values ≡ Err kind
   fault-told kind means = ap (λ answer. and_then answer (λ effects. Ok (map (pending_of context ins outs) effects))) (at_values (Err kind) means)

@@ -1,6 +1,6 @@
 -- What the work of leaves comes to, whatever its place.
 use Rattle.std.specs.Prelude.{◌≡◌, ◌≤◌, ℕ, ℤ, List, [], ◌++◌, map, length, Option, Some, None, Ok, false}
-use Rattle.std.specs.List.{flat_map}
+use Rattle.std.specs.List.{flat_map, zip}
 use Rattle.sd_num.specs.declared.resolution.Resolution.{Resolution}
 use Rattle.sd_range.specs.Subset.{whole}
 use Rattle.sd_work.specs.declared.fault.FaultKind.{FaultKind}
@@ -11,7 +11,7 @@ use Rattle.sd_work.specs.Step.{Outcome, Done, Faulted}
 use Rattle.sd_work.specs.BigStep.{Reached, Coming, big_doing, big_reading}
 use Rattle.sd_graph.specs.PlainTree.{TaskletTree}
 use Rattle.sd_graph.specs.TaskletMeaning.{and_then}
-use Rattle.sd_graph.specs.Context.{Context, link_elements, link_element, link_extents}
+use Rattle.sd_graph.specs.Context.{Context, reference_at, link_elements, link_element, link_extents}
 use Rattle.sd_graph.specs.Unfold.{meaning_at, pending_of, target_place}
 use Rattle.sd_graph.specs.declared.link.Link.{Link}
 use Rattle.sd_graph.specs.declared.place.Place.{Place}
@@ -30,6 +30,15 @@ pub record IsDone (work : Place → Memories → (turns : ℕ) → Coming Place)
 -- things to do, one after another
 abbrev pub performing : List Pending → Place → Memories → (turns : ℕ) → Coming Place
 performing todo place memories turns = big_doing place todo memories turns
+
+-- what a copy does with the elements at a pair of indices
+abbrev pub copied_at : Context → (from to : Link) → (indices : List ℤ × List ℤ) → Pending
+copied_at context from to indices =
+    transfer (reference_at (context.reach from.memlet.container) indices.0) (reference_at (context.reach to.memlet.container) indices.1) None
+
+-- all that a copy does
+abbrev pub copied : Context → (from to : Link) → List Pending
+copied context from to = map (λ pair. transfer pair.0 pair.1 None) (zip (link_elements context from) (link_elements context to))
 
 -- what a reduction does at a place of its source
 abbrev pub resolving : Context → Resolution → (axis : Option ℕ) → (from to : Link) → (at : List ℤ) → Pending

@@ -1,9 +1,9 @@
 //! Changes of elements, one by one: each gives the fault that it comes to, if any.
-ghost use Rattle.std.specs.Prelude.{[], ◌∷◌, map, option_map};
+ghost use Rattle.std.specs.Prelude.{[], ◌∷◌, option_map};
 ghost use Rattle.sd_work.specs.Leaf.{write_value};
 ghost use Rattle.sd_mem.specs.machine.Stack.{reference_of};
 ghost use Rattle.sd_leaves.specs.leaves.Done.{IsDone, performing};
-ghost use Rattle.sd_leaves.specs.leaves.Cells.{writing, transferring};
+ghost use Rattle.sd_leaves.specs.leaves.Cells.{transferring};
 
 use sd_graph::FaultKind;
 use sd_mem::{Cell, Machine};
@@ -39,21 +39,4 @@ pub(crate) fn transfer(
     };
     let value = machine.look(from);
     write(value, to, by, machine)
-}
-
-/// Writes a value to each of the elements, one after another.
-pub(crate) fn write_all(
-    value: i64,
-    targets: &[Option<Cell>],
-    machine: &mut Machine,
-) -> Option<FaultKind>
-    ensures { IsDone (performing (map (writing value) targets.now)) machine.old result machine.new }
-{
-    for target in targets {
-        match write(value, *target, None, machine) {
-            None => {}
-            Some(kind) => return Some(kind),
-        }
-    }
-    None
 }

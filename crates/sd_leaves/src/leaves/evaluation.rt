@@ -3,9 +3,9 @@ ghost use Rattle.sd_num.specs.Wrapped.{wrapped};
 ghost use Rattle.sd_range.specs.Affine.{variable_value};
 ghost use Rattle.sd_graph.specs.PlainTree.{GraphTree};
 ghost use Rattle.sd_graph.specs.TreeFold.{tasklet_tree};
-ghost use Rattle.sd_graph.specs.TaskletMeaning.{meaning_of};
+ghost use Rattle.sd_graph.specs.TaskletMeaning.{Inputs as InputsNow, meaning_of};
 ghost use Rattle.sd_graph.specs.Context.{link_extents};
-ghost use Rattle.sd_tasklet.specs.tasklet.Given.{given};
+ghost use Rattle.sd_tasklet.specs.tasklet.Given.{given, told_extent, told_inputs};
 ghost use Rattle.sd_tasklet.specs.tasklet.Kept.{told_effects};
 ghost use Rattle.sd_scope.specs.scope.Standing.{context_of};
 ghost use Rattle.sd_scope.specs.declared.scope.base.Base.{Base as BaseNow};
@@ -20,7 +20,7 @@ use sd_tasklet::{Effects, Inputs, TaskFault, eval};
 use std::alloc::Global;
 
 /// What code with these connectors is given where a scope stands: these elements of its inputs, the extents of its connectors
-/// and the values of its variables.
+/// and the values of its variables. An extent above 2^63 is given as 2^63, which no subscript can tell apart.
 pub fn inputs_of(
     alloc: Global,
     code: &Tasklet,
@@ -29,7 +29,7 @@ pub fn inputs_of(
     scope: &Scope,
     read: Sequence<Sequence<i64>>,
 ) -> Result<Inputs, NoMemory>
-    ensures { IfOk result (λ inputs. (tree : GraphTree) (base : BaseNow) → given inputs ≡ given_at (context_of tree base scope.now) (tasklet_tree code.now) ins.now outs.now read) }
+    ensures { IfOk result (λ inputs. (tree : GraphTree) (base : BaseNow) → given inputs ≡ told_inputs (given_at (context_of tree base scope.now) (tasklet_tree code.now) ins.now outs.now read)) }
 {
     let mut extents = Vec::with_capacity(alloc, ins.len())?;
     push_extents(alloc, ins, scope, &mut extents)?;
@@ -41,20 +41,38 @@ pub fn inputs_of(
     })
 }
 
-/// Appends the extents of each connector.
+/// Appends the extents of each connector, as code may be given them.
 fn push_extents(
     alloc: Global,
     links: &[Link],
     scope: &Scope,
     extents: &mut Vec<Sequence<u64>>,
 ) -> Result<(), NoMemory>
-    ensures { OnOk result ((tree : GraphTree) (base : BaseNow) → extents.new.items ≡ extents.old.items ++ map (link_extents (context_of tree base scope.now)) links.now) }
+    ensures { OnOk result ((tree : GraphTree) (base : BaseNow) → extents.new.items ≡ extents.old.items ++ map (λ link. map told_extent (link_extents (context_of tree base scope.now) link)) links.now) }
 {
     for link in links {
         let of_link = connector_extents(alloc, scope, link)?;
-        extents.push(Sequence::from(of_link))?;
+        extents.push(told_extents(alloc, of_link.as_slice())?)?;
     }
     Ok(())
+}
+
+/// Extents as code may be given them.
+fn told_extents(alloc: Global, extents: &[u128]) -> Result<Sequence<u64>, NoMemory>
+    ensures { IfOk result (λ told. told ≡ map told_extent extents.now) }
+{
+    let mut told = Vec::with_capacity(alloc, extents.len())?;
+    for extent in extents {
+        told.push(told_extent(*extent))?;
+    }
+    Ok(Sequence::from(told))
+}
+
+/// An extent as code may be given it: one above 2^63 as 2^63.
+fn told_extent(extent: u128) -> u64
+    ensures { result ≡ told_extent extent }
+{
+    extent.min(1 << 63) as u64
 }
 
 /// The values of variables, as elements.
@@ -82,13 +100,14 @@ fn value_of_variable(variable: u32, values: &Env) -> i64
     }
 }
 
-/// The effects of code, or its fault. `NoMemory` also where an input has not its elements or a connector too many dimensions.
+/// The effects of code, or its fault, also where extents of 2^63 stand for larger ones. `NoMemory` also where an input has not its
+/// elements or a connector too many dimensions.
 pub fn evaluated(
     alloc: Global,
     code: &Tasklet,
     inputs: &Inputs,
 ) -> Result<Result<Effects, FaultKind>, NoMemory>
-    ensures { IfOk result (λ answer. meaning_of (tasklet_tree code.now) (given inputs.now) ≡ told_by (told_effects (given inputs.now)) answer) }
+    ensures { IfOk result (λ answer. (meant : InputsNow) → told_inputs (given inputs.now) ≡ told_inputs meant → meaning_of (tasklet_tree code.now) meant ≡ told_by (told_effects (given inputs.now)) answer) }
 {
     if !inputs.is_whole() {
         return Err(NoMemory);

@@ -1,4 +1,4 @@
-ghost use Rattle.std.specs.Prelude.{◌≡◌, map, option_map, IfOk};
+ghost use Rattle.std.specs.Prelude.{◌≡◌, [], ◌∷◌, option_map, IfOk};
 ghost use Rattle.sd_work.specs.Exit.{all_seen};
 ghost use Rattle.sd_graph.specs.TreeFold.{graph_tree};
 ghost use Rattle.sd_graph.specs.Context.{link_elements};
@@ -9,7 +9,7 @@ ghost use Rattle.sd_leaves.specs.leaves.Read.{links_seen};
 use sd_graph::{Link, Sdfg};
 use sd_list::{NoMemory, Sequence};
 use sd_mem::{Cell, Machine};
-use sd_scope::{Base, Scope, has_one_element, link_cell, link_cells};
+use sd_scope::{Base, Indices, Scope, cell_at, has_one_element, link_cell};
 use std::alloc::Global;
 
 /// The values of the elements of each link, in row order; `None` where one is outside.
@@ -33,7 +33,8 @@ pub(crate) fn values_of_links(
     Ok(Some(Sequence::from(read)))
 }
 
-/// The values of the elements of a link, in row order; `None` where one is outside. Where it is one element, that is looked up at once.
+/// The values of the elements of a link, in row order; `None` where one is outside, and none behind that is looked up. Where it is one
+/// element, that is looked up at once.
 fn values_of_link(
     alloc: Global,
     link: &Link,
@@ -46,26 +47,37 @@ fn values_of_link(
 {
     if has_one_element(link.memlet.subset.dims.as_slice()) {
         let cell = link_cell(alloc, graph, base, scope, link, &[])?;
-        return values_of(alloc, &[cell], machine);
+        return value_of_cell(alloc, cell, machine);
     }
-    let cells = link_cells(alloc, graph, base, scope, link)?;
-    values_of(alloc, cells.as_slice(), machine)
-}
-
-/// The values of elements; `None` where one is outside.
-fn values_of(
-    alloc: Global,
-    cells: &[Option<Cell>],
-    machine: &Machine,
-) -> Result<Option<Sequence<i64>>, NoMemory>
-    ensures { IfOk result (λ values. values ≡ all_seen (map (option_map reference_of) cells.now) machine.now.memories) }
-{
-    let mut values = Vec::with_capacity(alloc, cells.len())?;
-    for cell in cells {
-        match cell {
-            Some(cell) => values.push(machine.look(*cell))?,
+    let mut values = Vec::new(alloc);
+    let mut indices = Indices::of(alloc, scope, link)?;
+    'indices: while indices.next() {
+        match cell_at(
+            alloc,
+            graph,
+            base,
+            scope,
+            link.memlet.container,
+            indices.at(),
+        )? {
+            Some(cell) => values.push(machine.look(cell))?,
             None => return Ok(None),
         }
     }
     Ok(Some(Sequence::from(values)))
+}
+
+/// The value of an element; `None` where that is outside.
+fn value_of_cell(
+    alloc: Global,
+    cell: Option<Cell>,
+    machine: &Machine,
+) -> Result<Option<Sequence<i64>>, NoMemory>
+    ensures { IfOk result (λ values. values ≡ all_seen (option_map reference_of cell ∷ []) machine.now.memories) }
+{
+    let Some(cell) = cell else {
+        return Ok(None);
+    };
+    let value = vec![in alloc; machine.look(cell); 1]?;
+    Ok(Some(Sequence::from(value)))
 }

@@ -1,4 +1,4 @@
-ghost use Rattle.std.specs.Prelude.{◌≡◌, pos, ◌-ℤ◌, [], map, IfOk, OnOk};
+ghost use Rattle.std.specs.Prelude.{◌≡◌, pos, ◌-ℤ◌, [], map, Some, IfOk, OnOk};
 ghost use Rattle.sd_range.specs.Range.{range_values, IsRange, IsEvaluableRange, counted_from};
 ghost use Rattle.sd_range.specs.Subset.{whole};
 ghost use Rattle.sd_work.specs.Leaf.{identities};
@@ -11,14 +11,14 @@ ghost use Rattle.sd_mem.specs.machine.Coming.{kind_coming};
 ghost use Rattle.sd_scope.specs.scope.Standing.{context_of};
 ghost use Rattle.sd_leaves.specs.leaves.Done.{IsDone, performing, reducing, resolving};
 
-use crate::leaves::changes::{transfer, write_all};
+use crate::leaves::changes::{transfer, write};
 use crate::leaves::ending::end_of;
 use sd_graph::{FaultKind, Link, Sdfg};
 use sd_list::{NoMemory, Sequence};
 use sd_mem::{End, Machine};
 use sd_num::Resolution;
 use sd_range::{Affine, Env, Points, Range};
-use sd_scope::{Base, Scope, connector_extents, link_cell, link_cells};
+use sd_scope::{Base, Indices, Scope, cell_at, connector_extents, link_cell};
 use std::alloc::Global;
 
 /// Resolves each element of `from`, in row order, into its one of `to`: without the number on the axis, or the first one where
@@ -82,8 +82,30 @@ fn write_identity(
     let Some(value) = identity else {
         return Ok(None);
     };
-    let targets = link_cells(alloc, graph, base, scope, to)?;
-    Ok(write_all(value, targets.as_slice(), machine))
+    write_all(alloc, value, to, graph, base, scope, machine)
+}
+
+/// Writes a value to each element of a link, one after another.
+fn write_all(
+    alloc: Global,
+    value: i64,
+    to: &Link,
+    graph: &Sdfg,
+    base: &Base,
+    scope: &Scope,
+    machine: &mut Machine,
+) -> Result<Option<FaultKind>, NoMemory>
+    ensures { IfOk result (λ fault. IsDone (performing (identities (Some value) (link_elements (context_of (graph_tree graph.now) base.now scope.now) to.now))) machine.old fault machine.new) }
+{
+    let mut indices = Indices::of(alloc, scope, to)?;
+    'indices: while indices.next() {
+        let target = cell_at(alloc, graph, base, scope, to.memlet.container, indices.at())?;
+        match write(value, target, None, machine) {
+            None => {}
+            Some(kind) => return Ok(Some(kind)),
+        }
+    }
+    Ok(None)
 }
 
 /// Resolves elements into their targets, one after another.
@@ -136,7 +158,7 @@ pub fn put_target_place(
 }
 
 /// A way through the places of a connector, in row order.
-pub fn places_of(alloc: Global, extents: &[u64]) -> Result<Points, NoMemory>
+pub fn places_of(alloc: Global, extents: &[u128]) -> Result<Points, NoMemory>
     ensures { IfOk result (λ places. places.left ≡ whole extents.now) }
 {
     let mut ranges = Vec::with_capacity(alloc, extents.len())?;
@@ -150,13 +172,14 @@ pub fn places_of(alloc: Global, extents: &[u64]) -> Result<Points, NoMemory>
 }
 
 /// The numbers of a dimension: from 0 to its extent less one.
-fn numbers_below(alloc: Global, extent: u64) -> Result<Range, NoMemory>
+fn numbers_below(alloc: Global, extent: u128) -> Result<Range, NoMemory>
     ensures values { IfOk result (λ range. range_values [] range ≡ counted_from (pos 0) (pos 1) extent) }
     ensures range { IfOk result IsRange }
     ensures evaluable { IfOk result (IsEvaluableRange []) }
 {
+    let last = last_below(extent)?;
     let mut ends = Sequence::new(alloc);
-    ends.push(Affine::constant(alloc, last_below(extent)))?;
+    ends.push(Affine::constant(alloc, last))?;
     Ok(Range {
         begin: Affine::constant(alloc, 0),
         ends,
@@ -165,8 +188,9 @@ fn numbers_below(alloc: Global, extent: u64) -> Result<Range, NoMemory>
 }
 
 /// The last number below an extent.
-fn last_below(extent: u64) -> i128
-    ensures { result ≡ pos extent -ℤ pos 1 }
+fn last_below(extent: u128) -> Result<i128, NoMemory>
+    ensures { IfOk result (λ last. last ≡ pos extent -ℤ pos 1) }
 {
-    i128::from(extent) - 1
+    let extent = i128::try_from(extent).map_err(|_| NoMemory)?;
+    Ok(extent - 1)
 }

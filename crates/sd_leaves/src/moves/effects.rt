@@ -1,5 +1,5 @@
 //! The effects of a tasklet, as things to do.
-ghost use Rattle.std.specs.Prelude.{◌≡◌, ℕ, pos, map, IfOk};
+ghost use Rattle.std.specs.Prelude.{◌≡◌, ◌-◌, ◌^◌, ℕ, min, pos, map, IfOk};
 ghost use Rattle.sd_range.specs.Points.{product};
 ghost use Rattle.sd_graph.specs.PlainTree.{GraphTree};
 ghost use Rattle.sd_graph.specs.TreeFold.{graph_tree, tasklet_tree};
@@ -20,15 +20,25 @@ use sd_scope::{Base, Scope, connector_extents, link_cell, station};
 use sd_tasklet::{Effect, Inputs};
 use std::alloc::Global;
 
-/// How many elements a connector of these extents has.
-fn element_count(extents: &[u64]) -> Result<u64, NoMemory>
-    ensures { IfOk result (λ count. count ≡ product extents.now) }
+/// How many elements a connector of these extents has; from 2^128 on as many as one less.
+fn element_count(extents: &[u128]) -> u128
+    ensures { result ≡ min (product extents.now) (2 ^ 128 - 1) }
 {
-    let mut count: u64 = 1;
+    let mut count = 1_u128;
     for extent in extents {
-        count = count.checked_mul(*extent).ok_or(NoMemory)?;
+        count = count.saturating_mul(*extent);
     }
-    Ok(count)
+    count
+}
+
+/// How many of so many values are the elements of a connector of these extents.
+fn elements_among(extents: &[u128], most: usize) -> usize
+    ensures { result ≡ min (product extents.now) most }
+{
+    match usize::try_from(element_count(extents)) {
+        Ok(count) => count.min(most),
+        Err(_) => most,
+    }
 }
 
 /// The same values once more.
@@ -51,8 +61,7 @@ fn cut_values(
     let mut rest = values;
     for link in ins {
         let extents = connector_extents(alloc, scope, link)?;
-        let count = element_count(extents.as_slice())?;
-        let count = (count as usize).min(rest.len());
+        let count = elements_among(extents.as_slice(), rest.len());
         let (first, others) = rest.split_at(count);
         read.push(copied(alloc, first)?)?;
         rest = others;

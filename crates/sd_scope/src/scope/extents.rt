@@ -30,7 +30,7 @@ fn least_end(ends: &[Affine], values: &[i128]) -> Result<i128, NoMemory>
 }
 
 /// How many numbers there are from `begin` to `last`, a step apart.
-fn count_between(begin: i128, last: i128, step: i128) -> Result<u64, NoMemory>
+fn count_between(begin: i128, last: i128, step: i128) -> Result<u128, NoMemory>
     ensures { IfOk result (λ count. count ≡ count_between begin last step) }
 {
     if last < begin {
@@ -40,12 +40,11 @@ fn count_between(begin: i128, last: i128, step: i128) -> Result<u64, NoMemory>
         return Err(NoMemory);
     }
     let gaps = last.abs_diff(begin) / step.unsigned_abs();
-    let gaps = u64::try_from(gaps).map_err(|_| NoMemory)?;
     gaps.checked_add(1).ok_or(NoMemory)
 }
 
 /// How many values a range has.
-fn range_count(range: &Range, values: &[i128]) -> Result<u64, NoMemory>
+fn range_count(range: &Range, values: &[i128]) -> Result<u128, NoMemory>
     ensures { IfOk result (λ count. count ≡ length (range_values values.now range.now)) }
 {
     let begin = value_of(&range.begin, values)?;
@@ -54,10 +53,10 @@ fn range_count(range: &Range, values: &[i128]) -> Result<u64, NoMemory>
 }
 
 /// How many values each range of a subset has.
-fn span_counts(alloc: Global, dims: &[Dim], values: &[i128]) -> Result<Vec<u64>, NoMemory>
+fn span_counts(alloc: Global, dims: &[Dim], values: &[i128]) -> Result<Vec<u128>, NoMemory>
     ensures { IfOk result (λ counts. counts.items ≡ span_counts dims.now values.now) }
 {
-    let mut counts = Vec::with_capacity(alloc, dims.len())?;
+    let mut counts = Vec::new(alloc);
     for dim in dims {
         if let Dim::Span(range) = dim {
             counts.push(range_count(range, values)?)?;
@@ -66,8 +65,8 @@ fn span_counts(alloc: Global, dims: &[Dim], values: &[i128]) -> Result<Vec<u64>,
     Ok(counts)
 }
 
-/// The extents of the connector of a link.
-pub fn connector_extents(alloc: Global, scope: &Scope, link: &Link) -> Result<Vec<u64>, NoMemory>
+/// The extents of the connector of a link. Takes no memory where the subset has no range.
+pub fn connector_extents(alloc: Global, scope: &Scope, link: &Link) -> Result<Vec<u128>, NoMemory>
     ensures { IfOk result (λ extents. (tree : GraphTree) (base : BaseNow) → extents.items ≡ link_extents (context_of tree base scope.now) link.now) }
 {
     let dims = link.memlet.subset.dims.as_slice();

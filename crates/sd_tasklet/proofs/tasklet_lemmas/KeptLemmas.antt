@@ -29,11 +29,11 @@ behind_filled extents at h =
     ap (λ n. drop n (filled at)) many ∙ (drop-append_seam (map unsigned_abs at) (replicate (4 - length at) 0) ∙ ap (λ n. replicate (4 - n) 0) same)
 
 -- one effect is told as it was meant
-pub told_as_meant : (inputs : meaning.Inputs) (locals : List ℤ) (connector : ℕ) (at : ValueTrees) (value : ValueTree) (place : List ℤ) (number : ℤ) (kept : List ℕ) →
-    meaning.place_of inputs connector (meaning.values_of inputs locals at) ≡ Ok place → inside (meaning.extents_of_connector inputs connector) place ≡ true →
-    meaning.value_of inputs locals value ≡ Ok number → kept ≡ filled place →
-    assignment_of inputs locals connector at value ≡ Ok (told inputs (record { connector = connector; at = kept; value = number }))
-told_as_meant inputs locals connector at value place number kept e h g k =
+pub told_as_meant : (inputs meant : meaning.Inputs) (locals : List ℤ) (connector : ℕ) (at : ValueTrees) (value : ValueTree) (place : List ℤ) (number : ℤ) (kept : List ℕ) →
+    meaning.place_of meant connector (meaning.values_of meant locals at) ≡ Ok place → inside (meaning.extents_of_connector inputs connector) place ≡ true →
+    meaning.value_of meant locals value ≡ Ok number → kept ≡ filled place →
+    assignment_of meant locals connector at value ≡ Ok (told inputs (record { connector = connector; at = kept; value = number }))
+told_as_meant inputs meant locals connector at value place number kept e h g k =
     rw (e, g, k) (λ i. Ok (record { connector = connector; at = sym (front_filled (meaning.extents_of_connector inputs connector) place h) i; value = number }))
 
 -- an assignment adds its effect
@@ -45,10 +45,10 @@ effect_added now connector (Ok at) (Ok value) = refl
 effect_added now connector (Ok at) (Err kind) = refl
 effect_added now connector (Err kind) value = refl
 
-pub assigned : (inputs : meaning.Inputs) (locals : List ℤ) (effects : List Effect) (connector : ℕ) (at : ValueTrees) (value : ValueTree) (effect : Effect) →
-    assignment_of inputs locals connector at value ≡ Ok (told inputs effect) →
-    meaning.act_of inputs (assign connector at value) (come_to inputs locals effects) ≡ Ok (come_to inputs locals (effects ++ effect ∷ []))
-assigned inputs locals effects connector at value effect e =
-    effect_added (come_to inputs locals effects) connector (meaning.place_of inputs connector (meaning.values_of inputs locals at)) (meaning.value_of inputs locals value)
+pub assigned : (inputs meant : meaning.Inputs) (locals : List ℤ) (effects : List Effect) (connector : ℕ) (at : ValueTrees) (value : ValueTree) (effect : Effect) →
+    assignment_of meant locals connector at value ≡ Ok (told inputs effect) →
+    meaning.act_of meant (assign connector at value) (come_to inputs locals effects) ≡ Ok (come_to inputs locals (effects ++ effect ∷ []))
+assigned inputs meant locals effects connector at value effect e =
+    effect_added (come_to inputs locals effects) connector (meaning.place_of meant connector (meaning.values_of meant locals at)) (meaning.value_of meant locals value)
     ∙ (ap (λ meant. meaning.and_then meant (λ effect. Ok (record (come_to inputs locals effects) { effects = map (told inputs) effects ++ effect ∷ [] }))) e
     ∙ ap (λ told. Ok (record { locals = locals; effects = told })) (sym (map-append (told inputs) effects (effect ∷ []))))

@@ -1,7 +1,7 @@
 ghost use Rattle.std.specs.Prelude.{◌≡◌, ◌<◌, true, IsTrue};
 ghost use Rattle.sd_range.specs.Subset.{inside};
-ghost use Rattle.sd_graph.specs.TaskletMeaning.{extents_of_connector, element_of};
-ghost use Rattle.sd_tasklet.specs.tasklet.Given.{given, IsWhole};
+ghost use Rattle.sd_graph.specs.TaskletMeaning.{Inputs as InputsNow, extents_of_connector, element_of};
+ghost use Rattle.sd_tasklet.specs.tasklet.Given.{given, told_inputs, IsWhole};
 
 use crate::tasklet::place::row_number;
 use crate::tasklet::whole::{extents_at, have_few_dimensions, have_room};
@@ -42,7 +42,7 @@ impl Inputs {
     pub(crate) fn element(&self, connector: u32, at: &[i64]) -> i64
         requires whole { IsWhole (given self.now) }
         requires inside { inside (extents_of_connector (given self.now) connector) at.now ≡ true }
-        ensures { result ≡ element_of (given self.now) connector at.now }
+        ensures { (meant : InputsNow) → told_inputs (given self.now) ≡ told_inputs meant → result ≡ element_of meant connector at.now }
     {
         match self.values.as_slice().get(connector as usize) {
             Some(elements) => elements.as_slice()[row_number(self.extents_of(connector), at)],

@@ -1,19 +1,23 @@
-ghost use Rattle.std.specs.Prelude.{◌≡◌, ◌≤◌, ◌<◌, ◌^◌, ◌&&◌, pos, int_le, int_lt, length, true};
+ghost use Rattle.std.specs.Prelude.{◌≡◌, ◌≤◌, ◌<◌, ◌^◌, ◌&&◌, ℕ, List, pos, int_le, int_lt, length, map, true};
 ghost use Rattle.sd_range.specs.Points.{product};
 ghost use Rattle.sd_range.specs.Subset as subset;
 ghost use Rattle.sd_graph.specs.RowOrder as order;
+ghost use Rattle.sd_tasklet.specs.tasklet.Given.{told_extent};
 ghost use Rattle.sd_tasklet.specs.tasklet.Kept as kept;
 
 /// A number of an index is inside its extent.
 fn is_below(number: i64, extent: u64) -> bool
-    ensures { result ≡ (int_le (pos 0) number && int_lt number (pos extent)) }
+    ensures given { result ≡ (int_le (pos 0) number && int_lt number (pos extent)) }
+    ensures meant { (meant : ℕ) → told_extent meant ≡ told_extent extent → result ≡ (int_le (pos 0) number && int_lt number (pos meant)) }
 {
     number >= 0 && (number as u64) < extent
 }
 
-/// An index is inside these extents: it has a number for each, from 0 to the extent less one.
+/// An index is inside these extents: it has a number for each, from 0 to the extent less one. Extents above 2^63 have the same
+/// indices inside, since no number of an index comes up to them.
 pub fn is_inside(extents: &[u64], at: &[i64]) -> bool
-    ensures { result ≡ subset.inside extents.now at.now }
+    ensures given { result ≡ subset.inside extents.now at.now }
+    ensures meant { (meant : List ℕ) → map told_extent meant ≡ map told_extent extents.now → result ≡ subset.inside meant at.now }
 {
     if extents.len() != at.len() {
         return false;

@@ -3,7 +3,7 @@ ghost use Rattle.std.specs.List.{AllByRecursion};
 ghost use Rattle.sd_range.specs.Subset.{inside};
 ghost use Rattle.sd_graph.specs.TreeFold.{act_tree, act_trees, value_tree, value_trees};
 ghost use Rattle.sd_graph.specs.TaskletMeaning as meaning;
-ghost use Rattle.sd_tasklet.specs.tasklet.Given.{given, IsWhole};
+ghost use Rattle.sd_tasklet.specs.tasklet.Given.{given, told_inputs, IsWhole};
 ghost use Rattle.sd_tasklet.specs.tasklet.Kept.{IsFilled, told, come_to, assignment_of};
 ghost use Rattle.sd_tasklet.specs.tasklet.Answer.{AnswersBy, AnswersWith};
 
@@ -36,7 +36,7 @@ fn assign(
     locals: &[i64],
 ) -> Result<Effect, TaskFault>
     requires { IsWhole (given inputs.now) }
-    ensures meaning { AnswersWith (told (given inputs.now)) result (assignment_of (given inputs.now) locals.now connector (value_trees at.now) (value_tree value.now)) }
+    ensures meaning { (meant : meaning.Inputs) → told_inputs (given inputs.now) ≡ told_inputs meant → AnswersWith (told (given inputs.now)) result (assignment_of meant locals.now connector (value_trees at.now) (value_tree value.now)) }
     ensures filled { IfOk result (IsFilled (given inputs.now)) }
 {
     let place = place_of(alloc, connector, at, inputs, locals)?;
@@ -58,7 +58,8 @@ fn do_act(
     effects: &mut Vec<Effect>,
 ) -> Result<(), TaskFault>
     requires { IsWhole (given inputs.now) }
-    ensures meaning { AnswersBy (come_to (given inputs.now) locals.new effects.new.items) result (meaning.act_of (given inputs.now) (act_tree act.now) (come_to (given inputs.now) locals.old effects.old.items)) }
+    ensures meaning { (meant : meaning.Inputs) → told_inputs (given inputs.now) ≡ told_inputs meant
+        → AnswersBy (come_to (given inputs.now) locals.new effects.new.items) result (meaning.act_of meant (act_tree act.now) (come_to (given inputs.now) locals.old effects.old.items)) }
     ensures filled { OnOk result (AllByRecursion (IsFilled (given inputs.now)) effects.old.items → AllByRecursion (IsFilled (given inputs.now)) effects.new.items) }
 {
     match act {
@@ -95,7 +96,8 @@ pub fn do_acts(
     effects: &mut Vec<Effect>,
 ) -> Result<(), TaskFault>
     requires { IsWhole (given inputs.now) }
-    ensures meaning { AnswersBy (come_to (given inputs.now) locals.new effects.new.items) result (meaning.acts_of (given inputs.now) (act_trees acts.now) (come_to (given inputs.now) locals.old effects.old.items)) }
+    ensures meaning { (meant : meaning.Inputs) → told_inputs (given inputs.now) ≡ told_inputs meant
+        → AnswersBy (come_to (given inputs.now) locals.new effects.new.items) result (meaning.acts_of meant (act_trees acts.now) (come_to (given inputs.now) locals.old effects.old.items)) }
     ensures filled { OnOk result (AllByRecursion (IsFilled (given inputs.now)) effects.old.items → AllByRecursion (IsFilled (given inputs.now)) effects.new.items) }
 {
     for act in acts {

@@ -2,7 +2,7 @@ ghost use Rattle.std.specs.Prelude.{◌≡◌, true, pos, IfOk, slice_index_or};
 ghost use Rattle.sd_range.specs.Subset.{inside};
 ghost use Rattle.sd_graph.specs.TreeFold.{value_tree, value_trees};
 ghost use Rattle.sd_graph.specs.TaskletMeaning as meaning;
-ghost use Rattle.sd_tasklet.specs.tasklet.Given.{given, IsWhole};
+ghost use Rattle.sd_tasklet.specs.tasklet.Given.{given, told_inputs, IsWhole};
 ghost use Rattle.sd_tasklet.specs.tasklet.Answer.{Answers};
 
 use crate::tasklet::fault::TaskFault;
@@ -34,7 +34,7 @@ pub fn value_of(
     locals: &[i64],
 ) -> Result<i64, TaskFault>
     requires { IsWhole (given inputs.now) }
-    ensures { Answers result (meaning.value_of (given inputs.now) locals.now (value_tree value.now)) }
+    ensures { (meant : meaning.Inputs) → told_inputs (given inputs.now) ≡ told_inputs meant → Answers result (meaning.value_of meant locals.now (value_tree value.now)) }
 {
     match value {
         Value::Number(value) => Ok(*value),
@@ -72,7 +72,7 @@ fn values_of(
     locals: &[i64],
 ) -> Result<Sequence<i64>, TaskFault>
     requires { IsWhole (given inputs.now) }
-    ensures { Answers result (meaning.values_of (given inputs.now) locals.now (value_trees values.now)) }
+    ensures { (meant : meaning.Inputs) → told_inputs (given inputs.now) ≡ told_inputs meant → Answers result (meaning.values_of meant locals.now (value_trees values.now)) }
 {
     let mut found = Vec::with_capacity(alloc, values.len())?;
     for value in values {
@@ -91,7 +91,7 @@ pub fn place_of(
     locals: &[i64],
 ) -> Result<Sequence<i64>, TaskFault>
     requires { IsWhole (given inputs.now) }
-    ensures place { Answers result (meaning.place_of (given inputs.now) connector (meaning.values_of (given inputs.now) locals.now (value_trees at.now))) }
+    ensures place { (meant : meaning.Inputs) → told_inputs (given inputs.now) ≡ told_inputs meant → Answers result (meaning.place_of meant connector (meaning.values_of meant locals.now (value_trees at.now))) }
     ensures inside { IfOk result (λ place. inside (meaning.extents_of_connector (given inputs.now) connector) place ≡ true) }
 {
     let subscripts = values_of(alloc, at, inputs, locals)?;

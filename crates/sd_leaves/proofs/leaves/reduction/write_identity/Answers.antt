@@ -1,14 +1,11 @@
-use Rattle.std.proofs.Common.{ℤ, List, Option, None, map, option_map, sym, ap, ◌∙◌, subst, rules, FitsSigned, w64}
+use Rattle.std.proofs.Common.{◌≡◌, ℤ, Option, Some, None, IfOk, sym, ap, ◌∙◌, subst, rules, FitsSigned, to_z, of_z, w64}
 use Rattle.std.proofs.lemmas.Int.{to_z-of_z}
-use Rattle.sd_work.specs.Leaf.{Pending, identities}
+use Rattle.sd_work.specs.Leaf.{identities}
 use Rattle.sd_graph.specs.TreeFold.{graph_tree}
 use Rattle.sd_graph.specs.Context.{link_elements}
-use Rattle.sd_mem.specs.machine.Stack.{reference_of}
 use Rattle.sd_scope.specs.scope.Standing.{context_of}
-use Rattle.sd_leaves.specs.leaves.Cells.{writing}
 use Rattle.sd_leaves.specs.leaves.Done.{IsDone, performing}
 use Rattle.sd_leaves.proofs.leaves_lemmas.Doing.{nothing_to_do}
-use Rattle.sd_leaves.proofs.leaves_lemmas.CellLists.{written_to}
 use Rattle.sd_leaves.proofs.leaves.reduction.write_identity.Goals as goal
 
 pub returns-in_default : goal.returns-in_default
@@ -21,8 +18,5 @@ returns c =
     let elements = link_elements (context_of (graph_tree c.args.graph.now) c.args.base.now c.args.scope.now) c.args.to.now in
     let value = c.in-Some.value in
     let fits : FitsSigned w64 value = search rules in
-    let targets = c.as_slice.result.now in
-    let same = ap (λ value. map (writing value) targets) (to_z-of_z w64 value fits)
-    ∙ written_to value targets elements (ap (map (option_map reference_of)) c.as_slice.ensures.value ∙ c.in_ok-targets.ensures) in
-    let done = subst (λ (todo : List Pending). IsDone (performing todo) c.args.machine.now c.write_all.result c.write_all.new.machine) same c.write_all.ensures in
-    subst (λ (identity : Option ℤ). IsDone (performing (identities identity elements)) c.args.machine.now c.write_all.result c.write_all.new.machine) (sym c.in-Some.is) done
+    let same : Some (to_z w64 (of_z w64 value)) ≡ c.args.identity = ap Some (to_z-of_z w64 value fits) ∙ sym c.in-Some.is in
+    subst (λ (identity : Option ℤ). IfOk c.write_all.result (λ fault. IsDone (performing (identities identity elements)) c.args.machine.now fault c.write_all.new.machine)) same c.write_all.ensures

@@ -16,9 +16,9 @@ loop-link-preserved c = λ tree base.
     let link = c.link-item.result in
     let rest = c.loop-link.rest.now in
     let read = c.loop-link.read.items in
-    let few = c.min-count.result in
+    let few = c.elements_among-count.result in
     let there : link ≡ get_or ins number link = search rules in
-    let is = c.min-count.ensures ∙ ap (λ n. min n (length rest)) (c.in_ok-count.ensures ∙ ap product (c.as_slice.ensures.value ∙ c.in_ok-extents.ensures tree base)) in
+    let is = c.elements_among-count.ensures ∙ ap (λ extents. min (product extents) (length rest)) (c.as_slice.ensures.value ∙ c.in_ok-extents.ensures tree base) in
     let part : c.in_ok-copied.field-0 ≡ take few rest = c.in_ok-copied.ensures ∙ c.split_at.ensures.front in
     cut-more count (drop number ins) (drop (number + 1) ins) link rest read (cut (map count ins) c.args.values.now) few (from_here ins number link c.loop-link-test.true there) is (c.loop-link.invariant tree base)
     ∙ ap (λ part. (read ++ part ∷ []) ++ cut (map count (drop (number + 1) ins)) (drop few rest)) (sym part)

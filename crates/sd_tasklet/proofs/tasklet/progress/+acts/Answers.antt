@@ -30,12 +30,12 @@ do_acts-do_act-requires t c =
     (search rules, c.requires)
 
 pub do_act-returns-in_ok-push-in-Out-clause-meaning : goal.do_act-returns-in_ok-push-in-Out-clause-meaning
-do_act-returns-in_ok-push-in-Out-clause-meaning t c =
+do_act-returns-in_ok-push-in-Out-clause-meaning t c = λ meant same.
     let inputs = given c.args.inputs.now in
     let locals = c.args.locals.now in
     let effects = c.args.effects.now.items in
     let tree : act_tree c.args.act.now ≡ assign c.in-Out.connector (value_trees c.in-Out.at.items) (value_tree c.in-Out.value) = ap act_tree c.in-Out.is ∙ out_tree c.in-Out.connector c.in-Out.at c.in-Out.value in
-    let told = subst (λ l. assignment_of inputs locals c.in-Out.connector (value_trees l) (value_tree c.in-Out.value) ≡ Ok (told inputs c.in_ok-assign-in-Out.field-0)) c.deref.ensures.value c.in_ok-assign-in-Out.ensures.meaning in
-    ap (λ a. meaning.act_of inputs a (come_to inputs locals effects)) tree
-    ∙ (assigned inputs locals effects c.in-Out.connector (value_trees c.in-Out.at.items) (value_tree c.in-Out.value) c.in_ok-assign-in-Out.field-0 told
+    let told = subst (λ l. assignment_of meant locals c.in-Out.connector (value_trees l) (value_tree c.in-Out.value) ≡ Ok (told inputs c.in_ok-assign-in-Out.field-0)) c.deref.ensures.value (c.in_ok-assign-in-Out.ensures.meaning meant same) in
+    ap (λ a. meaning.act_of meant a (come_to inputs locals effects)) tree
+    ∙ (assigned inputs meant locals effects c.in-Out.connector (value_trees c.in-Out.at.items) (value_tree c.in-Out.value) c.in_ok-assign-in-Out.field-0 told
     ∙ ap (λ l. Ok (come_to inputs locals l)) (sym c.in_ok-push-in-Out.ensures.items))

@@ -3,15 +3,16 @@ use Rattle.std.specs.List.{AllByRecursion}
 use Rattle.sd_graph.specs.TaskletMeaning as meaning
 use Rattle.sd_graph.specs.TreeFold.{act_tree, act_trees}
 use Rattle.sd_tasklet.proofs.tasklet_lemmas.Sizes.{act_size, acts_size}
-use Rattle.sd_tasklet.specs.tasklet.Given.{given}
+use Rattle.sd_tasklet.specs.tasklet.Given.{given, told_inputs}
 use Rattle.sd_tasklet.specs.tasklet.Kept.{IsFilled, come_to}
 use Rattle.sd_tasklet.proofs.tasklet.progress.+acts.Given as goal
 
 -- what is left does to what there is what all does to what there was
 abbrev pub invariant-do_acts-loop-act : goal.invariant-do_acts-loop-act
 invariant-do_acts-loop-act l = record {
-  left : meaning.acts_of (given l.inputs) (act_trees l.acts) (come_to (given l.inputs) l.fn.locals l.fn.effects.items)
-      ≡ meaning.acts_of (given l.inputs) (act_trees (drop l.act-index l.acts)) (come_to (given l.inputs) l.locals l.effects.items);
+  left : (meant : meaning.Inputs) → told_inputs (given l.inputs) ≡ told_inputs meant →
+      meaning.acts_of meant (act_trees l.acts) (come_to (given l.inputs) l.fn.locals l.fn.effects.items)
+      ≡ meaning.acts_of meant (act_trees (drop l.act-index l.acts)) (come_to (given l.inputs) l.locals l.effects.items);
   filled : AllByRecursion (IsFilled (given l.inputs)) l.fn.effects.items → AllByRecursion (IsFilled (given l.inputs)) l.effects.items;
 }
 

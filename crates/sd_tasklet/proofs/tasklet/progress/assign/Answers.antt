@@ -16,11 +16,11 @@ filled-requires c =
     rw c.as_slice.ensures (omega (arith, few, many))
 
 pub returns-clause-meaning : goal.returns-clause-meaning
-returns-clause-meaning c =
+returns-clause-meaning c = λ meant same.
     let fits : FitsSigned w64 c.in_ok-value.value = search rules in
     rw (to_z-of_z w64 c.in_ok-value.value fits)
-    (told_as_meant (given c.args.inputs.now) c.args.locals.now c.args.connector (value_trees c.args.at.now) (value_tree c.args.value.now) c.in_ok-place.place c.in_ok-value.value c.filled.result
-    c.in_ok-place.ensures.place c.in_ok-place.ensures.inside c.in_ok-value.ensures (c.filled.ensures ∙ ap filled c.as_slice.ensures))
+    (told_as_meant (given c.args.inputs.now) meant c.args.locals.now c.args.connector (value_trees c.args.at.now) (value_tree c.args.value.now) c.in_ok-place.place c.in_ok-value.value c.filled.result
+    (c.in_ok-place.ensures.place meant same) c.in_ok-place.ensures.inside (c.in_ok-value.ensures meant same) (c.filled.ensures ∙ ap filled c.as_slice.ensures))
 
 pub returns-clause-filled : goal.returns-clause-filled
 returns-clause-filled c =

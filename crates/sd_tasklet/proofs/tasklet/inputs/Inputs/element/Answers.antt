@@ -1,9 +1,11 @@
-use Rattle.std.proofs.Common.{◌≡◌, ◌<◌, ◌∙◌, ap, subst, length, [], slice_index_or, arith}
+use Rattle.std.proofs.Common.{◌≡◌, ◌<◌, ◌^◌, ◌∙◌, ℕ, List, ap, subst, length, [], slice_index_or, rules, arith}
 use Rattle.std.proofs.lemmas.Grind.{common_steps}
+use Rattle.sd_range.specs.Points.{product}
 use Rattle.sd_graph.specs.RowOrder.{row_number}
 use Rattle.sd_graph.specs.TaskletMeaning as meaning
 use Rattle.sd_graph.proofs.RowNumbers.{row_number_below}
 use Rattle.sd_tasklet.specs.tasklet.Given.{given}
+use Rattle.sd_tasklet.proofs.tasklet_lemmas.Told.{same_element}
 use Rattle.sd_tasklet.proofs.tasklet.inputs.Inputs.element.Goals as goal
 
 below : (c : goal.After-row_number) → c.row_number.result < length c.as_slice-in-Some.result.now
@@ -24,3 +26,10 @@ pub offset_bounds-as_slice-row_number : goal.offset_bounds-as_slice-row_number
 offset_bounds-as_slice-row_number c =
     let low = below c in
     grind (arith, common_steps)
+
+pub returns-in-Some : goal.returns-in-Some
+returns-in-Some c = λ meant same.
+    let inputs = given c.args.self.now in
+    let few_here : product c.extents_of.result.now < 2 ^ 63 = search rules in
+    let few : product (meaning.extents_of_connector inputs c.args.connector) < 2 ^ 63 = subst (λ (extents : List ℕ). product extents < 2 ^ 63) c.extents_of.ensures few_here in
+    same_element inputs meant same c.args.connector c.args.at.now c.requires.inside few _ (search rules)
