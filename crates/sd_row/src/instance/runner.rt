@@ -78,6 +78,20 @@ pub fn ones(alloc: Global, count: usize) -> Result<Vec<u64>, NoMemory>
     Ok(vec![in alloc; 1u64; count]?)
 }
 
+/// The same numbers in 64 bits; `None` where one is too large.
+fn narrowed(alloc: Global, numbers: &[u128]) -> Result<Option<Vec<u64>>, NoMemory>
+    ensures { IfOk result (λ narrow. MatchOption narrow ⊤ (λ narrow. narrow.items ≡ numbers.now)) }
+{
+    let mut narrow = Vec::with_capacity(alloc, numbers.len())?;
+    for number in numbers {
+        match u64::try_from(*number) {
+            Ok(number) => narrow.push(number)?,
+            Err(_) => return Ok(None),
+        }
+    }
+    Ok(Some(narrow))
+}
+
 /// Gives the connectors from one on the extents of these links where a scope stands; `false` where one may not have them.
 fn shape_links(
     alloc: Global,
@@ -96,6 +110,9 @@ fn shape_links(
     let mut connector = first;
     for link in links {
         let extents = connector_extents(alloc, scope, link)?;
+        let Some(extents) = narrowed(alloc, extents.as_slice())? else {
+            return Ok(false);
+        };
         if !frame.shape(connector, extents.as_slice()) {
             return Ok(false);
         }

@@ -181,7 +181,7 @@ fn gaps_of_places(alloc: Global, link: &Link, here: &Scope) -> Result<Option<u32
 }
 
 /// The number of a list that has one.
-fn only_one(numbers: &[u64]) -> Option<u64>
+fn only_one(numbers: &[u128]) -> Option<u128>
     ensures { MatchOption result ⊤ (λ number. numbers.now ≡ number ∷ []) }
 {
     if numbers.len() != 1 {
@@ -191,7 +191,7 @@ fn only_one(numbers: &[u64]) -> Option<u64>
 }
 
 /// One less than a number that is not 0, where that is small.
-fn gaps_of(count: u64) -> Option<u32>
+fn gaps_of(count: u128) -> Option<u32>
     ensures { MatchOption result ⊤ (λ gaps. count ≡ gaps + 1) }
 {
     let gaps = count.checked_sub(1)?;

@@ -6,6 +6,7 @@ use Rattle.sd_graph.specs.TaskletMeaning.{Inputs}
 use Rattle.sd_tcode.specs.tcode.Held.{given, with_extents}
 use Rattle.sd_scope.specs.scope.Standing.{context_of}
 use Rattle.sd_row.proofs.row_lemmas.Registers.{one_more}
+use Rattle.sd_row.proofs.instance_lemmas.Matched.{found_so}
 use Rattle.sd_row.proofs.instance_lemmas.Zeros.{shaped, has_connector}
 use Rattle.sd_row.proofs.instance.runner.shape_links.Goals as goal
 
@@ -19,7 +20,8 @@ loop-link-preserved c =
     let start = given c.args.frame.now in
     let connector = c.loop-link.connector in
     let number = c.loop-link.link-index in
-    let extents = c.as_slice.result.now in
+    let extents = c.as_slice-in-loop-link.result.now in
+    let narrow : c.in-Some.extents.items ≡ c.as_slice.result.now = found_so _ c.in_ok-extents-2.field-0 c.in-Some.extents c.in-Some.is c.in_ok-extents-2.ensures in
     let done : c.shape.result ≡ true = search rules in
     let same : new ≡ with_extents old connector extents = shaped old new connector extents c.shape.result done c.shape.ensures.given in
     let here : connector ≡ c.args.first + number = c.loop-link.invariant.here in
@@ -29,7 +31,7 @@ loop-link-preserved c =
       set = λ program base.
           ap (take (c.args.first + (number + 1))) set
           ∙ one_more (link_extents (context_of program base c.args.scope.now)) (take c.args.first start.extents) old.extents c.args.first number c.args.links.now c.link-item.result extents c.loop-link-test.true room c.link-item.is
-          (c.as_slice.ensures.value ∙ c.in_ok-extents.ensures program base) (c.loop-link.invariant.set program base);
+          (c.as_slice-in-loop-link.ensures.value ∙ narrow ∙ c.as_slice.ensures.value ∙ c.in_ok-extents.ensures program base) (c.loop-link.invariant.set program base);
       count = ap length set ∙ length-set old.extents (c.args.first + number) extents ∙ c.loop-link.invariant.count;
       values = ap (λ (inputs : Inputs). inputs.values) same ∙ c.loop-link.invariant.values;
       variables = ap (λ (inputs : Inputs). inputs.variables) same ∙ c.loop-link.invariant.variables;
