@@ -749,7 +749,7 @@ FOUR = {"A": [1, 2, 3, 4], "B": [0, 0, 0, 0]}
 END = 2**40 - 1
 
 
-@far
+@case
 def an_extent_above_64_bits() -> Calls:
     heads = [f"for a in dace.map[{2**39}:{2**39 + 1}]:"]
     heads += ["    " * (n + 1) + f"for {it} in dace.map[1023*{last}:1023*{last}+1]:" for n, (last, it) in enumerate(("ab", "bc", "cd"))]
@@ -757,7 +757,7 @@ def an_extent_above_64_bits() -> Calls:
     yield small("an output of 5.9e20 elements", heads + body, FOUR, 0, printed(A=FOUR["A"], B=[42, 0, 0, 0]))
 
 
-@far
+@case
 def a_read_far_outside() -> Calls:
     body = ["with dace.tasklet:", f"    x << A[0:{END}]", "    y >> B[0]", "    y = x[0]"]
     yield small("an input of 2^40 elements", body, FOUR, 7, b"fault subscript at line 3\n")
@@ -765,7 +765,7 @@ def a_read_far_outside() -> Calls:
     yield small("inputs of 30,000,000 elements in a map", body, FOUR, 7, b"fault subscript at line 4: i=0\n")
 
 
-@far
+@case
 def a_copy_far_outside() -> Calls:
     yield small("a copy of 2^40 elements", [f"B[0:{END}] = A[0:{END}]"], FOUR, 7, b"fault subscript at line 3\n")
 

@@ -6,8 +6,8 @@ output is written: each line is one write, and one of more than 4,096 bytes goes
 keep writes apart, a line says so, and bytes alone are compared. Standard error must be empty. Each call that differs has a line, and
 the last line is 'N passed, M failed'. The status is 0 where there are calls and none failed.
 
-With --far it runs cases with far more elements or points than any memory holds too, each with little time and memory: the program
-does not answer these as it should yet. With --times each call has a line with its seconds. A word more picks the calls in whose
+With --far it runs cases with far more points than any memory holds too, each with little time and memory: the program does not answer
+these as it should yet. With --times each call has a line with its seconds. A word more picks the calls in whose
 place it stands.
 """
 from __future__ import annotations
@@ -105,7 +105,7 @@ def told(call: Call, status: int, found: list[bytes], error: bytes) -> str:
 
 def main() -> int:
     words = argparse.ArgumentParser(description=__doc__, formatter_class=argparse.RawDescriptionHelpFormatter)
-    words.add_argument("--far", action="store_true", help="run the cases with far more elements or points than any memory holds too")
+    words.add_argument("--far", action="store_true", help="run the cases with far more points than any memory holds too")
     words.add_argument("--times", action="store_true", help="show how long each call took")
     words.add_argument("words", nargs="*", metavar="WORD", help="run the calls in whose place each of these stands")
     words = words.parse_args()
