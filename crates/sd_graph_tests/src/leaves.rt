@@ -1,11 +1,11 @@
 //! What leaves do that no source has: a copy within one container, and a state of whose exits none may be taken.
-use crate::written::{read_graph, sure};
-use sd_graph::{Item, ItemKind, Sdfg};
+use crate::written::read_graph;
+use sd_graph::{ItemKind, Sdfg};
 use sd_leaves::{Next, next_exit, run_copy};
 use sd_mem::{Cell, End, Machine, Memory, Station};
 use sd_scope::{Base, Scope};
 use std::alloc::Global;
-use std::process::Abort;
+use std::test::Fail;
 
 /// Container 0 is an array of three elements. The item is a copy of its first two elements to its last two. Two exits lead from
 /// the state, each where an element is below 1.
@@ -22,49 +22,45 @@ fn cell(element: u64) -> Cell {
 }
 
 /// At the begin of a run without turns, in which the elements are 1, 2 and 3.
-fn begun(rt: &impl Abort, alloc: Global, graph: &Sdfg) -> Machine {
-    let memory = sure(rt, Memory::of_run(alloc, &graph.containers));
-    let mut machine = sure(rt, Machine::new(alloc, memory, 0));
+fn begun(alloc: Global, graph: &Sdfg) -> Result<Machine, Fail> {
+    let memory = Memory::of_run(alloc, &graph.containers)?;
+    let mut machine = Machine::new(alloc, memory, 0)?;
     for element in 0..3 {
         machine.write(cell(element), None, element as i64 + 1);
     }
-    machine
+    Ok(machine)
 }
 
-/// Runs the copies of a state, each to its end.
-fn copy(rt: &impl Abort, alloc: Global, graph: &Sdfg, items: &[Item], machine: &mut Machine) {
+#[test]
+fn a_copy_goes_element_by_element(rt: HostRuntime) -> Result<(), Fail> {
+    let alloc = rt.alloc();
+    let graph = read_graph(alloc, GRAPH)?;
     let base = Base::outermost(alloc);
-    let scope = sure(rt, Scope::at_state(alloc, 0, &[]));
-    for item in items {
-        if let ItemKind::Copy { from, to } = &item.kind {
-            let end = sure(
-                rt,
-                run_copy(alloc, from, to, 7, graph, &base, &scope, machine),
-            );
-            assert!(rt; matches!(end, End::Finished));
+    let scope = Scope::at_state(alloc, 0, &[])?;
+    let mut machine = begun(alloc, &graph)?;
+    for state in &graph.states {
+        for item in &state.items {
+            if let ItemKind::Copy { from, to } = &item.kind {
+                let end = run_copy(alloc, from, to, 7, &graph, &base, &scope, &mut machine)?;
+                assert!(rt; matches!(end, End::Finished));
+            }
         }
     }
+    assert_eq!(rt; machine.look(cell(1)), 1);
+    assert_eq!(rt; machine.look(cell(2)), 1);
+    Ok(())
 }
 
 #[test]
-fn a_copy_goes_element_by_element(rt: HostRuntime) {
-    let graph = read_graph(&rt, rt.alloc(), GRAPH);
-    let mut machine = begun(&rt, rt.alloc(), &graph);
-    for state in &graph.states {
-        copy(&rt, rt.alloc(), &graph, &state.items, &mut machine);
-    }
-    assert!(rt; machine.look(cell(1)) == 1 && machine.look(cell(2)) == 1);
-}
-
-#[test]
-fn without_an_exit_that_may_be_taken_a_run_goes_nowhere(rt: HostRuntime) {
+fn without_an_exit_that_may_be_taken_a_run_goes_nowhere(rt: HostRuntime) -> Result<(), Fail> {
     let alloc = rt.alloc();
-    let graph = read_graph(&rt, alloc, GRAPH);
+    let graph = read_graph(alloc, GRAPH)?;
     let base = Base::outermost(alloc);
-    let scope = sure(&rt, Scope::at_state(alloc, 0, &[]));
-    let machine = begun(&rt, alloc, &graph);
+    let scope = Scope::at_state(alloc, 0, &[])?;
+    let machine = begun(alloc, &graph)?;
     for state in &graph.states {
-        let next = next_exit(alloc, &state.exits, &graph, &base, &scope, &machine);
-        assert!(rt; matches!(sure(&rt, next), Next::Nowhere));
+        let next = next_exit(alloc, &state.exits, &graph, &base, &scope, &machine)?;
+        assert!(rt; matches!(next, Next::Nowhere));
     }
+    Ok(())
 }

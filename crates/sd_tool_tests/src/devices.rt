@@ -1,7 +1,7 @@
-use crate::call::{answer, cut, note, number, sure};
+use crate::call::{answer, cut, note, number};
 use crate::sources::source;
 use std::alloc::Global;
-use std::process::Abort;
+use std::test::Fail;
 
 /// The number of a call that no device comes to.
 const NONE: u64 = 255;
@@ -53,7 +53,7 @@ source error 6 at line 7
 ";
 
 /// The rows that have another answer.
-fn wrong_reads(rt: &impl Abort, alloc: Global) -> String {
+fn wrong_reads(alloc: Global) -> Result<String, Fail> {
     let mut wrong = String::new(alloc);
     for row in READS.split("===\n") {
         let (name, row) = cut(row);
@@ -61,15 +61,16 @@ fn wrong_reads(rt: &impl Abort, alloc: Global) -> String {
         let (numbers, text) = cut(row);
         let files = [("a.py", source(name)), ("a.json", ARRAYS), ("p", "")];
         let (read, write) = (number(numbers, 0), number(numbers, 1));
-        let found = answer(rt, alloc, words, &files, read, write);
-        note(rt, &mut wrong, numbers, &found, number(numbers, 2), text);
+        let found = answer(alloc, words, &files, read, write)?;
+        note(&mut wrong, numbers, &found, number(numbers, 2), text)?;
     }
-    wrong
+    Ok(wrong)
 }
 
 #[test]
-fn each_failing_call_ends_the_run(rt: HostRuntime) {
-    assert_eq!(rt; wrong_reads(&rt, rt.alloc()).as_str(), "");
+fn each_failing_call_ends_the_run(rt: HostRuntime) -> Result<(), Fail> {
+    assert_eq!(rt; wrong_reads(rt.alloc())?.as_str(), "");
+    Ok(())
 }
 
 /// Calls with the text that they write. Each row has the name of the source that `a.py` holds, the words, what `a.json` holds, what
@@ -161,25 +162,8 @@ run
 bad words
 "#;
 
-/// Adds to a text what is wrong where the write of a line of this text fails: the status is 10, and the sink has the lines before it.
-fn note_writes(
-    rt: &impl Abort,
-    alloc: Global,
-    wrong: &mut String,
-    words: &str,
-    files: &[(&str, &str)],
-    text: &str,
-) {
-    let mut front = String::new(alloc);
-    for (place, line) in text.split_inclusive('\n').enumerate() {
-        let found = answer(rt, alloc, words, files, NONE, place as u64);
-        note(rt, wrong, line, &found, 10, front.as_str());
-        sure(rt, front.push_str(line));
-    }
-}
-
-/// What is wrong where a write of a line fails.
-fn wrong_writes(rt: &impl Abort, alloc: Global) -> String {
+/// What is wrong where a write of a line fails: the status is 10, and the sink has the lines before it.
+fn wrong_writes(alloc: Global) -> Result<String, Fail> {
     let mut wrong = String::new(alloc);
     for row in WRITES.split("===\n") {
         let (name, row) = cut(row);
@@ -187,24 +171,32 @@ fn wrong_writes(rt: &impl Abort, alloc: Global) -> String {
         let (arrays, row) = cut(row);
         let (picks, text) = cut(row);
         let files = [("a.py", source(name)), ("a.json", arrays), ("p", picks)];
-        note_writes(rt, alloc, &mut wrong, words, &files, text);
+        let mut front = String::new(alloc);
+        for (place, line) in text.split_inclusive('\n').enumerate() {
+            let found = answer(alloc, words, &files, NONE, place as u64)?;
+            note(&mut wrong, line, &found, 10, front.as_str())?;
+            front.push_str(line)?;
+        }
     }
-    wrong
+    Ok(wrong)
 }
 
 #[test]
-fn each_line_is_one_write(rt: HostRuntime) {
-    assert_eq!(rt; wrong_writes(&rt, rt.alloc()).as_str(), "");
+fn each_line_is_one_write(rt: HostRuntime) -> Result<(), Fail> {
+    assert_eq!(rt; wrong_writes(rt.alloc())?.as_str(), "");
+    Ok(())
 }
 
 /// The arrays of the source with long names, of 5,000 zeros each.
-fn long_arrays(rt: &impl Abort, alloc: Global) -> String {
-    let zeros = sure(rt, "0,".repeat(alloc, 4999));
+fn long_arrays(alloc: Global) -> Result<String, Fail> {
+    let mut zeros = String::from_str(alloc, "0")?;
+    for _ in 1..5000 {
+        zeros.push_str(",0")?;
+    }
     let (given, found) = ("numbers_given", "results_found");
-    let text = format!(in alloc;
-        "{{\"Number_of_elements\":5000,\"{given}\":[{zeros}0],\"{found}\":[{zeros}0]}}"
-    );
-    sure(rt, text)
+    Ok(format!(in alloc;
+        "{{\"Number_of_elements\":5000,\"{given}\":[{zeros}],\"{found}\":[{zeros}]}}"
+    )?)
 }
 
 /// The first write that fails, the status, and how many bytes the sink has then. Each of the two lines has 21 bytes before its
@@ -218,21 +210,23 @@ const PIECES: &str = "0 10 0
 6 0 20044";
 
 /// The pieces that are others.
-fn wrong_pieces(rt: &impl Abort, alloc: Global) -> String {
+fn wrong_pieces(alloc: Global) -> Result<String, Fail> {
     let mut wrong = String::new(alloc);
-    let arrays = long_arrays(rt, alloc);
-    let files = [("a.py", source("LONG")), ("a.json", arrays.as_str())];
+    let text = format!(in alloc; "{}\n{}", long_arrays(alloc)?, source("LONG"))?;
+    let (arrays, source) = cut(text.as_str());
+    let files = [("a.py", source), ("a.json", arrays)];
     for line in PIECES.lines() {
-        let (status, written) = answer(rt, alloc, "run,a.py,a.json", &files, NONE, number(line, 0));
+        let (status, written) = answer(alloc, "run,a.py,a.json", &files, NONE, number(line, 0))?;
         let bytes = written.len();
         if u64::from(status) != number(line, 1) || bytes as u64 != number(line, 2) {
-            sure(rt, write!(&mut wrong, "{line}: {status} {bytes}; "));
+            write!(&mut wrong, "{line}: {status} {bytes}; ")?;
         }
     }
-    wrong
+    Ok(wrong)
 }
 
 #[test]
-fn a_long_line_is_written_in_pieces_of_4096_bytes(rt: HostRuntime) {
-    assert_eq!(rt; wrong_pieces(&rt, rt.alloc()).as_str(), "");
+fn a_long_line_is_written_in_pieces_of_4096_bytes(rt: HostRuntime) -> Result<(), Fail> {
+    assert_eq!(rt; wrong_pieces(rt.alloc())?.as_str(), "");
+    Ok(())
 }

@@ -7,140 +7,121 @@
 //! 1, and the values before that are its subscripts; `=l0` assigns to a local. `+v2` puts variable 2 at the
 //! end of the list of variables, by whose places `v0` goes, and `+l` is one local more. Where the value
 //! before `when` is not 0, all statements before it are done.
-use crate::written::links::{link, name};
-use crate::written::sure;
+use crate::written::links::link;
 use sd_graph::{Act, Link, OneSign, Port, Tasklet, TwoSign, Value};
 use sd_list::Text;
 use std::alloc::Global;
-use std::mem::replace;
-use std::process::Abort;
+use std::test::Fail;
 
 /// Connectors and their links, with blanks between them.
-fn connect(rt: &impl Abort, alloc: Global, text: &str) -> (Vec<Port>, Vec<Link>) {
-    let mut ports = Vec::new(alloc);
-    let mut links = Vec::new(alloc);
+fn connect(
+    alloc: Global,
+    text: &str,
+    ports: &mut Vec<Port>,
+    links: &mut Vec<Link>,
+) -> Result<(), Fail> {
     for word in text.split_ascii_whitespace() {
         let (place, dims) = word.split_once('/').unwrap_or((word, "0"));
         if !place.is_empty() {
-            sure(rt, links.push(link(rt, alloc, place)));
+            links.push(link(alloc, place)?)?;
         }
         if !dims.is_empty() {
             let connector = Text::from(String::new(alloc));
-            let dims = name(dims);
-            sure(rt, ports.push(Port { connector, dims }));
+            let dims = dims.parse()?;
+            ports.push(Port { connector, dims })?;
         }
     }
-    (ports, links)
+    Ok(())
 }
 
 /// The last value that no word has taken yet.
-fn last(rt: &impl Abort, values: &mut Vec<Value>) -> Value {
-    values.pop().expect(rt, "no value")
-}
-
-/// The same in a box.
-fn boxed(rt: &impl Abort, alloc: Global, values: &mut Vec<Value>) -> Box<Value> {
-    sure(rt, Box::new(alloc, last(rt, values)))
+fn last(values: &mut Vec<Value>) -> Result<Value, Fail> {
+    Ok(values.pop().ok_or("no value")?)
 }
 
 /// The last two values with a sign between them.
-fn two(rt: &impl Abort, alloc: Global, values: &mut Vec<Value>, sign: TwoSign) -> Value {
-    let right = boxed(rt, alloc, values);
-    let left = boxed(rt, alloc, values);
-    Value::Two { sign, left, right }
+fn two(alloc: Global, values: &mut Vec<Value>, sign: TwoSign) -> Result<Value, Fail> {
+    let right = Box::new(alloc, last(values)?)?;
+    let left = Box::new(alloc, last(values)?)?;
+    Ok(Value::Two { sign, left, right })
 }
 
 /// The value that a word makes.
-fn value(rt: &impl Abort, alloc: Global, values: &mut Vec<Value>, word: &str) -> Value {
+fn value(alloc: Global, values: &mut Vec<Value>, word: &str) -> Result<Value, Fail> {
     let (sign, rest) = word.split_at_checked(1).unwrap_or((word, ""));
     match sign {
-        "v" => Value::Variable(name(rest)),
-        "l" => Value::Local(name(rest)),
-        "i" => Value::Input {
-            connector: name(rest),
+        "v" => Ok(Value::Variable(rest.parse()?)),
+        "l" => Ok(Value::Local(rest.parse()?)),
+        "i" => Ok(Value::Input {
+            connector: rest.parse()?,
             at: Vec::new(alloc),
-        },
-        "~" => Value::One {
+        }),
+        "~" => Ok(Value::One {
             sign: OneSign::Inv,
-            of: boxed(rt, alloc, values),
-        },
-        "*" => two(rt, alloc, values, TwoSign::Mul),
-        "<" if rest.is_empty() => two(rt, alloc, values, TwoSign::Less),
-        "<" => two(rt, alloc, values, TwoSign::LessEqual),
-        _ => Value::Number(word.parse().unwrap_or(i64::MAX)),
-    }
-}
-
-/// A statement that a word makes of the last values, or of all statements before it.
-fn act(
-    rt: &impl Abort,
-    alloc: Global,
-    body: &mut Vec<Act>,
-    values: &mut Vec<Value>,
-    word: &str,
-) -> Act {
-    let (sign, rest) = word.split_at_checked(2).unwrap_or((word, ""));
-    let value = last(rt, values);
-    match sign {
-        "=l" => Act::Local {
-            local: name(rest),
-            value,
-        },
-        "=o" => Act::Out {
-            connector: name(rest),
-            value,
-            at: replace(values, Vec::new(alloc)),
-        },
-        _ => Act::When {
-            when: value,
-            body: replace(body, Vec::new(alloc)),
-            other: Vec::new(alloc),
-        },
+            of: Box::new(alloc, last(values)?)?,
+        }),
+        "*" => two(alloc, values, TwoSign::Mul),
+        "<" if rest.is_empty() => two(alloc, values, TwoSign::Less),
+        "<" => two(alloc, values, TwoSign::LessEqual),
+        _ => Ok(Value::Number(word.parse()?)),
     }
 }
 
 /// One word more.
 fn put_word(
-    rt: &impl Abort,
     alloc: Global,
     code: &mut Tasklet,
     values: &mut Vec<Value>,
     word: &str,
-) {
-    if word == "+l" {
-        code.locals = code.locals.saturating_add(1);
-    } else if word.starts_with("+v") {
-        let variable = name(word.trim_start_matches("+v"));
-        sure(rt, code.variables.push(variable));
-    } else if word.starts_with('=') || word == "when" {
-        let act = act(rt, alloc, &mut code.body, values, word);
-        sure(rt, code.body.push(act));
-    } else {
-        let value = value(rt, alloc, values, word);
-        sure(rt, values.push(value));
+) -> Result<(), Fail> {
+    let (sign, rest) = word.split_at_checked(2).unwrap_or((word, ""));
+    match sign {
+        "+v" => code.variables.push(rest.parse()?)?,
+        "+l" => code.locals = code.locals.saturating_add(1),
+        "=l" => code.body.push(Act::Local {
+            local: rest.parse()?,
+            value: last(values)?,
+        })?,
+        "=o" => code.body.push(Act::Out {
+            connector: rest.parse()?,
+            value: last(values)?,
+            at: std::mem::replace(values, Vec::new(alloc)),
+        })?,
+        "wh" => {
+            let when = last(values)?;
+            let body = std::mem::replace(&mut code.body, Vec::new(alloc));
+            let other = Vec::new(alloc);
+            code.body.push(Act::When { when, body, other })?;
+        }
+        _ => {
+            let made = value(alloc, values, word)?;
+            values.push(made)?;
+        }
     }
+    Ok(())
 }
 
 /// Code, and the links of its inputs and outputs.
 pub(crate) fn read_code(
-    rt: &impl Abort,
     alloc: Global,
     text: &str,
-) -> (Tasklet, Vec<Link>, Vec<Link>) {
+) -> Result<(Tasklet, Vec<Link>, Vec<Link>), Fail> {
     let (sides, words) = text.split_once('|').unwrap_or((text, ""));
     let (before, behind) = sides.split_once('>').unwrap_or((sides, ""));
-    let (ins, from) = connect(rt, alloc, before);
-    let (outs, to) = connect(rt, alloc, behind);
     let mut code = Tasklet {
-        ins,
-        outs,
+        ins: Vec::new(alloc),
+        outs: Vec::new(alloc),
         variables: Vec::new(alloc),
         locals: 0,
         body: Vec::new(alloc),
     };
+    let mut ins = Vec::new(alloc);
+    let mut outs = Vec::new(alloc);
+    connect(alloc, before, &mut code.ins, &mut ins)?;
+    connect(alloc, behind, &mut code.outs, &mut outs)?;
     let mut values = Vec::new(alloc);
     for word in words.split_ascii_whitespace() {
-        put_word(rt, alloc, &mut code, &mut values, word);
+        put_word(alloc, &mut code, &mut values, word)?;
     }
-    (code, from, to)
+    Ok((code, ins, outs))
 }

@@ -6,103 +6,91 @@
 //! leads to state 2 and sets a variable, where a condition holds that is written as a task is, and `back` is
 //! marked.
 use crate::written::code::read_code;
-use crate::written::links::{affine, name, range};
-use crate::written::sure;
-use sd_graph::{Exit, Guard, Item, ItemKind, Sdfg};
+use crate::written::empty;
+use crate::written::links::{affine, range};
+use sd_graph::{Exit, Guard, ItemKind};
 use sd_list::Sequence;
 use sd_num::Resolution;
 use std::alloc::Global;
-use std::process::Abort;
+use std::test::Fail;
 
-/// A task, a copy, or a reduction by sums.
-pub(crate) fn leaf(rt: &impl Abort, alloc: Global, word: &str, text: &str) -> ItemKind {
-    let (mut code, mut ins, mut outs) = read_code(rt, alloc, text);
+/// A task, a copy, a reduction by sums, or a graph without anything in it.
+pub(crate) fn leaf(alloc: Global, word: &str, text: &str) -> Result<ItemKind, Fail> {
+    let (mut code, mut ins, mut outs) = read_code(alloc, text)?;
     if word == "task" {
-        return ItemKind::Task { code, ins, outs };
+        return Ok(ItemKind::Task { code, ins, outs });
     }
-    let from = ins.pop().expect(rt, "no side");
-    let to = outs.pop().expect(rt, "no side");
+    if word == "nested" {
+        let graph = Box::new(alloc, empty(alloc)?)?;
+        return Ok(ItemKind::Nested { graph, links: ins });
+    }
+    let from = ins.pop().ok_or("no side")?;
+    let to = outs.pop().ok_or("no side")?;
     if word == "copy" {
-        return ItemKind::Copy { from, to };
+        return Ok(ItemKind::Copy { from, to });
     }
-    ItemKind::Reduce {
+    Ok(ItemKind::Reduce {
         resolution: Resolution::Sum,
         axis: code.variables.pop(),
         identity: None,
         from,
         to,
-    }
+    })
 }
 
-/// A graph as an item, with these links.
-pub(crate) fn nested(rt: &impl Abort, alloc: Global, text: &str, graph: Sdfg) -> ItemKind {
-    let (_, links, _) = read_code(rt, alloc, text);
-    let graph = sure(rt, Box::new(alloc, graph));
-    ItemKind::Nested { graph, links }
-}
-
-/// A scope with these items in it.
-pub(crate) fn scope(
-    rt: &impl Abort,
-    alloc: Global,
-    word: &str,
-    text: &str,
-    body: Vec<Item>,
-) -> ItemKind {
+/// A scope without anything in it.
+pub(crate) fn scope(alloc: Global, word: &str, text: &str) -> Result<ItemKind, Fail> {
     let mut params = Vec::new(alloc);
     let mut private = Vec::new(alloc);
     for word in text.split_ascii_whitespace() {
         match word.split_once('=') {
-            Some((variable, values)) => {
-                let variable = name(variable.trim_start_matches('v'));
-                sure(rt, params.push((variable, range(rt, alloc, values))));
+            Some((name, values)) => {
+                let variable = name.trim_start_matches('v').parse()?;
+                params.push((variable, range(alloc, values)?))?;
             }
-            None => sure(rt, private.push(name(word))),
+            None => private.push(word.parse()?)?,
         }
     }
+    let body = Vec::new(alloc);
     if word == "map" {
-        return ItemKind::Map {
+        return Ok(ItemKind::Map {
             params,
             private,
             body,
-        };
+        });
     }
-    ItemKind::Consume {
-        stream: private.pop().expect(rt, "no stream"),
-        element: private.pop().expect(rt, "no element"),
+    Ok(ItemKind::Consume {
+        stream: private.pop().ok_or("no stream")?,
+        element: private.pop().ok_or("no element")?,
         private,
         body,
-    }
-}
-
-/// A condition; none in an empty text.
-fn guard(rt: &impl Abort, alloc: Global, text: &str) -> Option<Guard> {
-    if text.is_empty() {
-        return None;
-    }
-    let (code, ins, _) = read_code(rt, alloc, text);
-    let reads = Sequence::from(ins);
-    Some(Guard {
-        line: 1,
-        reads,
-        code,
     })
 }
 
 /// A transition; `back` is a marked one.
-pub(crate) fn exit(rt: &impl Abort, alloc: Global, word: &str, text: &str) -> Exit {
+pub(crate) fn exit(alloc: Global, word: &str, text: &str) -> Result<Exit, Fail> {
     let (way, condition) = text.split_once(" if ").unwrap_or((text, ""));
     let (to, assignments) = way.split_once(' ').unwrap_or((way, ""));
     let mut set = Sequence::new(alloc);
     for word in assignments.split_ascii_whitespace() {
-        let (variable, value) = word.split_once('=').unwrap_or((word, ""));
-        let variable = name(variable.trim_start_matches('v'));
-        sure(rt, set.push((variable, affine(rt, alloc, value))));
+        let (name, value) = word.split_once('=').ok_or("no value")?;
+        let variable = name.trim_start_matches('v').parse()?;
+        set.push((variable, affine(alloc, value)?))?;
     }
-    Exit {
-        to: name(to),
+    let mut when = None;
+    if !condition.is_empty() {
+        let (code, ins, _) = read_code(alloc, condition)?;
+        let reads = Sequence::from(ins);
+        when = Some(Guard {
+            line: 1,
+            reads,
+            code,
+        });
+    }
+    Ok(Exit {
+        to: to.parse()?,
         back: word == "back",
-        when: guard(rt, alloc, condition),
+        when,
         set,
-    }
+    })
 }

@@ -1,79 +1,66 @@
 //! Affine expressions, ranges and links. An expression is `5`, `v0`, `v0+1`, `v0+-1`, `1024v2` or `-3v2+7`.
 //! `0:2` is the range from 0 to 2, `0:2:3` has the step 3, and `0:2&v0` two ends. `1[0,0:2]` is a link to a
 //! row of container 1, and `3` one to a stream.
-use crate::written::sure;
 use sd_graph::{Link, Memlet};
 use sd_list::{Sequence, Text};
 use sd_range::{Affine, Dim, Range, Subset};
 use std::alloc::Global;
-use std::process::Abort;
+use std::test::Fail;
 
-/// A number; what is none is the greatest.
-fn number(word: &str) -> i128 {
-    word.parse().unwrap_or(i128::MAX)
-}
-
-/// The number of a container, a variable or a connector.
-pub(crate) fn name(word: &str) -> u32 {
-    word.parse().unwrap_or(u32::MAX)
-}
-
-pub(crate) fn affine(rt: &impl Abort, alloc: Global, word: &str) -> Affine {
+pub(crate) fn affine(alloc: Global, word: &str) -> Result<Affine, Fail> {
     let Some((factor, rest)) = word.split_once('v') else {
-        return Affine::constant(alloc, number(word));
+        return Ok(Affine::constant(alloc, word.parse()?));
     };
     let (variable, constant) = rest.split_once('+').unwrap_or((rest, "0"));
-    let mut sum = Affine::constant(alloc, number(constant));
-    let coefficient = if factor.is_empty() { 1 } else { number(factor) };
+    let mut sum = Affine::constant(alloc, constant.parse()?);
+    let coefficient = if factor.is_empty() {
+        1
+    } else {
+        factor.parse()?
+    };
     if coefficient != 0 {
-        sure(rt, sum.terms.push(name(variable), coefficient));
+        sum.terms.push(variable.parse()?, coefficient)?;
     }
-    sum
+    Ok(sum)
 }
 
 /// Affine expressions with this sign between them; none in an empty text.
-pub(crate) fn affines(rt: &impl Abort, alloc: Global, text: &str, sign: char) -> Sequence<Affine> {
+pub(crate) fn affines(alloc: Global, text: &str, sign: char) -> Result<Sequence<Affine>, Fail> {
     let mut all = Sequence::new(alloc);
     for word in text.split(sign) {
         if !word.is_empty() {
-            sure(rt, all.push(affine(rt, alloc, word)));
+            all.push(affine(alloc, word)?)?;
         }
     }
-    all
+    Ok(all)
 }
 
-pub(crate) fn range(rt: &impl Abort, alloc: Global, word: &str) -> Range {
+pub(crate) fn range(alloc: Global, word: &str) -> Result<Range, Fail> {
     let (begin, rest) = word.split_once(':').unwrap_or((word, ""));
     let (ends, step) = rest.split_once(':').unwrap_or((rest, "1"));
-    Range {
-        begin: affine(rt, alloc, begin),
-        ends: affines(rt, alloc, ends, '&'),
-        step: number(step),
-    }
+    Ok(Range {
+        begin: affine(alloc, begin)?,
+        ends: affines(alloc, ends, '&')?,
+        step: step.parse()?,
+    })
 }
 
-fn dimension(rt: &impl Abort, alloc: Global, word: &str) -> Dim {
-    if word.contains(':') {
-        Dim::Span(range(rt, alloc, word))
-    } else {
-        Dim::Index(affine(rt, alloc, word))
-    }
-}
-
-pub(crate) fn link(rt: &impl Abort, alloc: Global, word: &str) -> Link {
+pub(crate) fn link(alloc: Global, word: &str) -> Result<Link, Fail> {
     let (container, at) = word.split_once('[').unwrap_or((word, ""));
     let mut dims = Sequence::new(alloc);
     for word in at.trim_end_matches(']').split(',') {
-        if !word.is_empty() {
-            sure(rt, dims.push(dimension(rt, alloc, word)));
+        if word.contains(':') {
+            dims.push(Dim::Span(range(alloc, word)?))?;
+        } else if !word.is_empty() {
+            dims.push(Dim::Index(affine(alloc, word)?))?;
         }
     }
     let memlet = Memlet {
-        container: name(container),
+        container: container.parse()?,
         subset: Subset { dims },
         volume: 1,
         resolution: None,
     };
     let connector = Text::from(String::new(alloc));
-    Link { connector, memlet }
+    Ok(Link { connector, memlet })
 }
