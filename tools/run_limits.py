@@ -1,5 +1,7 @@
 #!/usr/bin/env python3
-"""Runs calls at the limits of the language and of its files (limit_cases.py), and compares what is written with what Python works out.
+"""Runs calls at the limits of the language and of its files, and compares what is written with what Python works out.
+
+limit_cases.py and limit_sources.py have the calls.
 
 Each call runs in a new folder, with no input, within 120 seconds. Its status and its output are compared byte for byte, and how the
 output is written: each line is one write, and one of more than 4,096 bytes goes in pieces of 4,096. Where the system has no pipes that
@@ -22,7 +24,9 @@ from concurrent.futures import ThreadPoolExecutor
 from pathlib import Path
 from threading import Timer
 
-from limit_cases import CASES, FAR, Call
+import limit_cases  # noqa: F401
+import limit_sources  # noqa: F401
+from limit_calls import CASES, FAR, Call
 
 TOP = Path(__file__).resolve().parent.parent
 SDFG = TOP / "sdfg"

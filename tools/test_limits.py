@@ -13,7 +13,8 @@ from unittest import mock
 
 sys.path.insert(0, str(Path(__file__).resolve().parent))
 
-from limit_cases import Call, json_of, moves, printed, wrapped  # noqa: E402
+from limit_calls import Call, json_of, printed, wrapped  # noqa: E402
+from limit_cases import moves  # noqa: E402
 import run_limits  # noqa: E402
 from run_limits import PACKETS, difference, pieces  # noqa: E402
 
