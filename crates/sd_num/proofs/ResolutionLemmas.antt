@@ -18,6 +18,7 @@ use Rattle.sd_num.proofs.FoldLemmas.{fold-permutation}
 use Rattle.sd_num.specs.Wrapped.{wrapped}
 use Rattle.sd_num.specs.Resolution.{resolved, resolved_all, identity_of}
 use Rattle.sd_num.specs.declared.resolution.Resolution.{Resolution}
+use Rattle.sd_num.specs.declared.width.Width.TheVariants.{W64}
 use Rattle.sd_num.specs.declared.resolution.Resolution.TheVariants.{Sum, Product, Min, Max, And, Or, Xor, Last}
 
 int_min_comm : (a b : ℤ) → int_min a b ≡ int_min b a
@@ -131,7 +132,7 @@ resolved-resolved_all r a b (x ∷ xs) p q h =
     ∙ ap (λ z. resolved_all r z xs) (sym (resolved_assoc r a b x p q s))
 
 -- the identity changes nothing where it is the old one
-identity_first : (r : Resolution) (a : ℤ) → FitsSigned w64 a → IfSome (identity_of r) (λ e. resolved r e a ≡ a)
+identity_first : (r : Resolution) (a : ℤ) → FitsSigned w64 a → IfSome (identity_of r W64) (λ e. resolved r e a ≡ a)
 identity_first Sum a p = grind (arith, common_steps)
 identity_first Product a p = grind (arith, common_steps)
 identity_first Min a p = grind (arith, common_steps)
@@ -142,15 +143,15 @@ identity_first Xor a p = grind (arith, common_steps)
 identity_first Last a p = tt
 
 -- the last one has no identity
-unlike_last : (r : Resolution) (e : ℤ) → identity_of r ≡ Some e → r ≢ Last
-unlike_last r e is last = cc (ap identity_of last)
+unlike_last : (r : Resolution) (e : ℤ) → identity_of r W64 ≡ Some e → r ≢ Last
+unlike_last r e is last = cc (ap (λ x. identity_of x W64) last)
 
 -- the identity changes nothing where it is the new one
-pub resolved-identity : (r : Resolution) (e a : ℤ) → identity_of r ≡ Some e → FitsSigned w64 a → resolved r a e ≡ a
+pub resolved-identity : (r : Resolution) (e a : ℤ) → identity_of r W64 ≡ Some e → FitsSigned w64 a → resolved r a e ≡ a
 resolved-identity r e a is p = resolved_comm r a e (unlike_last r e is) ∙ subst (λ o. IfSome o (λ x. resolved r x a ≡ a)) is (identity_first r a p)
 
 -- each identity is an element
-identities_fit : (r : Resolution) → IfSome (identity_of r) (FitsSigned w64)
+identities_fit : (r : Resolution) → IfSome (identity_of r W64) (FitsSigned w64)
 identities_fit Sum = search rules
 identities_fit Product = search rules
 identities_fit Min = search rules
@@ -160,17 +161,17 @@ identities_fit Or = search rules
 identities_fit Xor = search rules
 identities_fit Last = tt
 
-pub FitsSigned-identity : (r : Resolution) (e : ℤ) → identity_of r ≡ Some e → FitsSigned w64 e
+pub FitsSigned-identity : (r : Resolution) (e : ℤ) → identity_of r W64 ≡ Some e → FitsSigned w64 e
 FitsSigned-identity r e is = subst (λ o. IfSome o (FitsSigned w64)) is (identities_fit r)
 
 -- a partial result, which starts at the identity e, stands for all the values in it
-pub resolved-partial : (r : Resolution) (e old : ℤ) (values : List ℤ) → identity_of r ≡ Some e → FitsSigned w64 old → All (FitsSigned w64) values → resolved r old (resolved_all r e values) ≡ resolved_all r old values
+pub resolved-partial : (r : Resolution) (e old : ℤ) (values : List ℤ) → identity_of r W64 ≡ Some e → FitsSigned w64 old → All (FitsSigned w64) values → resolved r old (resolved_all r e values) ≡ resolved_all r old values
 resolved-partial r e old values is p h =
     resolved-resolved_all r old e values p (FitsSigned-identity r e is) h
     ∙ ap (λ z. resolved_all r z values) (resolved-identity r e old is p)
 
 -- partial results are resolved one after another as all their values are
-pub resolved_all-partials : (r : Resolution) (e old : ℤ) (parts : List (List ℤ)) → identity_of r ≡ Some e → FitsSigned w64 old → All (All (FitsSigned w64)) parts → resolved_all r old (map (resolved_all r e) parts) ≡ resolved_all r old (flat_map (λ values. values) parts)
+pub resolved_all-partials : (r : Resolution) (e old : ℤ) (parts : List (List ℤ)) → identity_of r W64 ≡ Some e → FitsSigned w64 old → All (All (FitsSigned w64)) parts → resolved_all r old (map (resolved_all r e) parts) ≡ resolved_all r old (flat_map (λ values. values) parts)
 resolved_all-partials r e old [] is p h = refl
 resolved_all-partials r e old (values ∷ parts) is p h =
     let fit = All-head (All (FitsSigned w64)) values parts h in

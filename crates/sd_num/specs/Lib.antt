@@ -1,3 +1,4 @@
 pub mod Wrapped
+pub mod Width
 pub mod Resolution
 pub mod Floor

@@ -4,7 +4,7 @@ ghost use Rattle.std.specs.Int.{w64};
 ghost use Rattle.sd_num.specs.Floor.{IsFloorDivision, floor_quotient, floor_remainder};
 ghost use Rattle.sd_num.specs.Resolution.{IsCommuting, resolved, resolved_all, identity_of};
 
-use crate::Resolution;
+use crate::{Resolution, Width};
 
 /// A division that rounds down has one quotient and one remainder.
 pub fn a_floor_division_has_one_result()
@@ -35,7 +35,7 @@ pub fn resolving_associates(resolution: Resolution, a: i64, b: i64, c: i64)
 
 /// An identity changes nothing.
 pub fn an_identity_changes_nothing(resolution: Resolution, value: i64)
-    ensures { IfSome (identity_of resolution) (λ identity. resolved resolution identity value ≡ value) }
+    ensures { IfSome (identity_of resolution Width.W64) (λ identity. resolved resolution identity value ≡ value) }
 {}
 
 /// Values resolved one after another give the same in every order, but by the last one.
@@ -56,11 +56,11 @@ pub fn resolving_part_by_part(resolution: Resolution, old: i64)
 /// Partial results, which start at the identity, are resolved as all the values in them.
 pub fn partial_results_merge(resolution: Resolution, old: i64)
     ensures one { (identity : ℤ) (values : List ℤ)
-        → identity_of resolution ≡ Some identity → All (FitsSigned w64) values
+        → identity_of resolution Width.W64 ≡ Some identity → All (FitsSigned w64) values
         → resolved resolution old (resolved_all resolution identity values)
         ≡ resolved_all resolution old values }
     ensures several { (identity : ℤ) (parts : List (List ℤ))
-        → identity_of resolution ≡ Some identity → All (All (FitsSigned w64)) parts
+        → identity_of resolution Width.W64 ≡ Some identity → All (All (FitsSigned w64)) parts
         → resolved_all resolution old (map (resolved_all resolution identity) parts)
         ≡ resolved_all resolution old (flat_map (λ values. values) parts) }
 {}

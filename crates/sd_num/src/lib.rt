@@ -1,15 +1,17 @@
-//! Element values: 64-bit two's complement numbers.
+//! Element values: two's complement numbers of 64 and of 32 bits.
 //!
 //! Sum, difference, product and quotient are the exact ones, taken modulo 2^64 as signed
 //! numbers (`specs/Wrapped.antt`), and so is a wider number; division rounds down and refuses a
 //! divisor of 0 alone (`specs/Floor.antt`). A resolution makes one value of an old and a new one
 //! (`specs/Resolution.antt`); by `laws`, many values give the same in every order, but by the
-//! last one, and through partial results. Nothing here takes memory or faults.
+//! last one, and through partial results. What is stored is wrapped to the width of its element
+//! (`specs/Width.antt`). Nothing here takes memory or faults.
 #![tactic(auto)]
 
 mod floor;
 mod laws;
 mod resolution;
+mod width;
 mod wrapping;
 
 pub use floor::{floor_div, floor_mod};
@@ -18,5 +20,6 @@ pub use laws::{
     partial_results_merge, resolving_associates, resolving_commutes, resolving_in_any_order,
     resolving_part_by_part,
 };
-pub use resolution::{Resolution, identity, resolve};
-pub use wrapping::{add, mul, sub, wrap};
+pub use resolution::{Resolution, identity, resolve, store};
+pub use width::{Cell, Width, wrap};
+pub use wrapping::{add, element_of, mul, sub};

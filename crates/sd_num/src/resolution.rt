@@ -1,7 +1,8 @@
 ghost use Rattle.std.specs.Prelude.{◌≡◌, ◌↔◌, None};
-ghost use Rattle.sd_num.specs.Resolution.{resolved, identity_of};
+ghost use Rattle.sd_num.specs.Resolution.{resolved, stored, identity_of};
 
-use crate::{add, mul};
+use crate::width::{greatest, least};
+use crate::{Width, add, mul, wrap};
 
 /// How two values that are written to one element become one.
 #[derive(Clone, Copy, Debug, PartialEq, Eq)]
@@ -40,16 +41,28 @@ pub fn resolve(resolution: Resolution, old: i64, new: i64) -> i64
     }
 }
 
-/// The element that changes nothing. `Last` has none.
-pub fn identity(resolution: Resolution) -> Option<i64>
-    ensures value { result ≡ identity_of resolution }
+/// The element that an old one becomes where a new value is stored: with no resolution the new
+/// value, wrapped; else both are wrapped, then resolved, and the result is wrapped.
+pub fn store(width: Width, by: Option<Resolution>, old: i64, new: i64) -> i64
+    ensures { result ≡ stored width by old new }
+{
+    let new = wrap(width, new);
+    match by {
+        None => new,
+        Some(resolution) => wrap(width, resolve(resolution, wrap(width, old), new)),
+    }
+}
+
+/// The element that changes no element of the width. `Last` has none.
+pub fn identity(resolution: Resolution, width: Width) -> Option<i64>
+    ensures value { result ≡ identity_of resolution width }
     ensures none { result ≡ None ↔ resolution ≡ Resolution.Last }
 {
     match resolution {
         Resolution::Sum | Resolution::Or | Resolution::Xor => Some(0),
         Resolution::Product => Some(1),
-        Resolution::Min => Some(i64::MAX),
-        Resolution::Max => Some(i64::MIN),
+        Resolution::Min => Some(greatest(width)),
+        Resolution::Max => Some(least(width)),
         Resolution::And => Some(-1),
         Resolution::Last => None,
     }

@@ -23,7 +23,7 @@ pub fn mul(a: i64, b: i64) -> i64
 }
 
 /// The element that a wider number stands for: the number taken modulo 2^64 as a signed one.
-pub fn wrap(value: i128) -> i64
+pub fn element_of(value: i128) -> i64
     ensures { result ≡ wrapped value }
 {
     (value.rem_euclid(1 << 64) as u64).cast_signed()

@@ -13,7 +13,7 @@ ghost use Rattle.sd_leaves.specs.leaves.Given.{given_at, told_by};
 
 use sd_graph::{FaultKind, Link, Tasklet};
 use sd_list::{NoMemory, Sequence};
-use sd_num::wrap;
+use sd_num::element_of;
 use sd_range::Env;
 use sd_scope::{Scope, connector_extents};
 use sd_tasklet::{Effects, Inputs, TaskFault, eval};
@@ -95,7 +95,7 @@ fn value_of_variable(variable: u32, values: &Env) -> i64
     ensures { result ≡ wrapped (variable_value values.now.values variable) }
 {
     match values.values.as_slice().get(variable as usize) {
-        Some(value) => wrap(*value),
+        Some(value) => element_of(*value),
         None => 0,
     }
 }

@@ -10,7 +10,7 @@ ghost use Rattle.sd_scope.specs.even.Even.{is_scalar};
 ghost use Rattle.sd_row.specs.instance.Fit.{AreFor};
 
 use sd_graph::{ContainerKind, Link, Port, Sdfg, Tasklet};
-use sd_num::wrap;
+use sd_num::element_of;
 use sd_range::Env;
 use sd_scope::has_one_element;
 
@@ -60,7 +60,7 @@ pub fn element_of_variable(variable: u32, values: &Env) -> i64
     ensures { result ≡ wrapped (variable_value values.now.values variable) }
 {
     match values.values.as_slice().get(variable as usize) {
-        Some(value) => wrap(*value),
+        Some(value) => element_of(*value),
         None => 0,
     }
 }

@@ -2,7 +2,7 @@ use Rattle.std.proofs.Common.{ap, ◌∙◌, ◌^◌, w64, pos}
 use Rattle.std.specs.Int.{w128, cast_signed, int_rem_euclid, int_wrap}
 use Rattle.std.specs.Int.RustNames.{unsigned_abs}
 use Rattle.std.proofs.lemmas.Int.{to_z-of_z}
-use Rattle.sd_num.proofs.wrapping.wrap.Goals as goal
+use Rattle.sd_num.proofs.wrapping.element_of.Goals as goal
 
 pub returns : goal.returns
 unfolding int_wrap
