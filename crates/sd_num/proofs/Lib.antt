@@ -4,3 +4,4 @@ pub mod FloorLemmas
 pub mod FoldLemmas
 pub mod FloorUnique
 pub mod FloorValues
+pub mod StoredLemmas

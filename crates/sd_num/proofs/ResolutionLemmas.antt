@@ -39,7 +39,7 @@ resolved_comm Last a b commutes = elim (commutes refl) [ ]
 
 -- ---- the bits of an element
 
-small : (a : ℤ) → FitsSigned w64 a → cast_unsigned w64 a < 2 ^ 64
+pub small : (a : ℤ) → FitsSigned w64 a → cast_unsigned w64 a < 2 ^ 64
 small a fits = search rules
 
 same_digits : (m n : ℕ) → m / 2 ≡ n / 2 → m % 2 ≡ n % 2 → m ≡ n

@@ -46,10 +46,12 @@ pub fn resolve(resolution: Resolution, old: i64, new: i64) -> i64
 pub fn store(width: Width, by: Option<Resolution>, old: i64, new: i64) -> i64
     ensures { result ≡ stored width by old new }
 {
-    let new = wrap(width, new);
     match by {
-        None => new,
-        Some(resolution) => wrap(width, resolve(resolution, wrap(width, old), new)),
+        None => wrap(width, new),
+        Some(resolution) => {
+            let resolved = resolve(resolution, wrap(width, old), wrap(width, new));
+            wrap(width, resolved)
+        }
     }
 }
 
