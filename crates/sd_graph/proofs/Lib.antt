@@ -9,6 +9,7 @@ pub mod Compatible
 pub mod EffectsInside
 pub mod RowNumbers
 pub mod ElementPlaces
+pub mod InSequence
 pub mod UnfoldedOrder
 pub mod UnfoldedNew
 pub mod UnfoldedCycles

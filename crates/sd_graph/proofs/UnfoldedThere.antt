@@ -38,7 +38,7 @@ mutual
       KindHasStreamsInPlace kind context.containers → IsKindLinked kind → TouchesWhatIsThere memories (unfold_kind kind line context)
   kind_there (task code ins outs) line memories private context reached force streams linked =
       λ touch touched. task_there memories private context code ins outs touch reached force.0 force.1 streams touched
-  kind_there (map_scope params own body) line memories private context reached force streams linked =
+  kind_there (map_scope sequential params own body) line memories private context reached force streams linked =
       points_there memories _ (λ point.
       items_there body (private_memory context.containers own ∷ memories) (own ++ private) (at_point context params own point)
       (entered_reached (private_memory context.containers own) memories own private context _ _ (private_has context.containers own) reached) force streams linked) _

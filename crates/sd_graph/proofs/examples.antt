@@ -6,6 +6,7 @@ pub mod ReachExamples
 pub mod ScopeExamples
 pub mod GraphExamples
 pub mod OrderExamples
+pub mod SequenceExamples
 pub mod PlaceExamples
 pub mod ElementExamples
 pub mod ThereExamples

@@ -43,7 +43,7 @@ IsElement containers number = ((container_at containers number).kind ≡ Private
 abbrev mutual
   pub IsKindInForce : KindTree → Containers → (private : List ℕ) → Type 0
   IsKindInForce (task code ins outs) containers private = AreLinksInForce containers private ins × AreLinksInForce containers private outs
-  IsKindInForce (map_scope params own body) containers private = AreItemsInForce body containers (own ++ private)
+  IsKindInForce (map_scope sequential params own body) containers private = AreItemsInForce body containers (own ++ private)
   IsKindInForce (consume_scope stream element own body) containers private =
       IsInForce containers private stream × IsElement containers element × AreItemsInForce body containers (element ∷ own ++ private)
   IsKindInForce (nested_graph inner links) containers private = AreLinksInForce containers private links × AreContainersInForce inner

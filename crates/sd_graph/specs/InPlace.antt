@@ -24,7 +24,7 @@ AreExitsOnArrays containers exits = AllByRecursion (λ exit. IsConditionOnArrays
 abbrev mutual
   pub KindHasStreamsInPlace : KindTree → Containers → Type 0
   KindHasStreamsInPlace (task code ins outs) containers = AreToArrays containers ins
-  KindHasStreamsInPlace (map_scope params private body) containers = ItemsHaveStreamsInPlace body containers
+  KindHasStreamsInPlace (map_scope sequential params private body) containers = ItemsHaveStreamsInPlace body containers
   KindHasStreamsInPlace (consume_scope stream element private body) containers =
       (is_stream (container_at containers stream).kind ≡ true) × ItemsHaveStreamsInPlace body containers
   KindHasStreamsInPlace (nested_graph inner links) containers = AreToArrays containers links × HasStreamsInPlace inner
@@ -61,7 +61,7 @@ ArgumentsComeFirst (suc arguments) (entry ∷ entries) = (is_argument entry.1.ki
 abbrev mutual
   pub IsKindLinked : KindTree → Type 0
   IsKindLinked (task code ins outs) = ⊤
-  IsKindLinked (map_scope params private body) = AreItemsLinked body
+  IsKindLinked (map_scope sequential params private body) = AreItemsLinked body
   IsKindLinked (consume_scope stream element private body) = AreItemsLinked body
   IsKindLinked (nested_graph inner links) = (length links ≡ arguments_of inner) × IsLinked inner
   IsKindLinked (reduction resolution axis identity from to) = ⊤

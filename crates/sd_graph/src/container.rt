@@ -1,6 +1,7 @@
 ghost use Rattle.std.specs.Prelude.{◌≡◌, IfOk};
 
 use sd_list::{NoMemory, Sequence};
+use sd_num::Width;
 use sd_range::Affine;
 use std::alloc::Global;
 
@@ -9,6 +10,8 @@ use std::alloc::Global;
 pub struct Container {
     pub extents: Sequence<Affine>,
     pub kind: ContainerKind,
+    /// How many bits an element has, or a value of a stream.
+    pub width: Width,
 }
 
 impl Container {
@@ -23,6 +26,7 @@ impl Container {
         Ok(Container {
             extents: Sequence::from(extents),
             kind: self.kind,
+            width: self.width,
         })
     }
 }

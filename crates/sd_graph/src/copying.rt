@@ -26,10 +26,12 @@ impl ItemKind {
                 params,
                 private,
                 body,
+                sequential,
             } => Ok(ItemKind::Map {
                 params: copied_params(alloc, params)?,
                 private: private.as_slice().to_vec(alloc)?,
                 body: copied_items(alloc, body)?,
+                sequential: *sequential,
             }),
             ItemKind::Consume {
                 stream,

@@ -52,11 +52,12 @@ pub enum ItemKind {
         ins: Vec<Link>,
         outs: Vec<Link>,
     },
-    /// Its body for each point of the ranges.
+    /// Its body for each point of the ranges: in any order, or each point behind the one before it where it is sequential.
     Map {
         params: Vec<(u32, Range)>,
         private: Vec<u32>,
         body: Vec<Item>,
+        sequential: bool,
     },
     /// Its body for each value of the stream, which stands in the container `element`.
     Consume {

@@ -49,7 +49,7 @@ wide_graph =
     (and_state no_item (transition 1 false None [] ∷ [])
     (and_state
     (and_item 4
-    (map_scope ((0, from_to (pos 0) (pos 1)) ∷ []) []
+    (map_scope false ((0, from_to (pos 0) (pos 1)) ∷ []) []
     (and_item 5
     (task
     (code_of (port_of (codes "a") 1 ∷ []) (port_of (codes "b") 1 ∷ []) [] 0
@@ -81,23 +81,23 @@ large_graph =
     (and_state no_item (transition 1 false None [] ∷ [])
     (and_state
     (and_item 4
-    (map_scope ((0, from_to (pos 549755813889) (pos 549755813889)) ∷ []) []
+    (map_scope false ((0, from_to (pos 549755813889) (pos 549755813889)) ∷ []) []
     (and_item 5
-    (map_scope
+    (map_scope false
     ((
       1,
       range_of (affine (pos 0) ((0, pos 1024) ∷ [])) (affine (pos 0) ((0, pos 1024) ∷ []) ∷ [])
           (pos 1),
     ) ∷ []) []
     (and_item 6
-    (map_scope
+    (map_scope false
     ((
       2,
       range_of (affine (pos 0) ((1, pos 1024) ∷ [])) (affine (pos 0) ((1, pos 1024) ∷ []) ∷ [])
           (pos 1),
     ) ∷ []) []
     (and_item 7
-    (map_scope
+    (map_scope false
     ((
       3,
       range_of (affine (pos 0) ((2, pos 1024) ∷ []))
@@ -127,7 +127,7 @@ owned_graph =
     (and_state no_item (transition 1 false None [] ∷ [])
     (and_state
     (and_item 10
-    (map_scope ((0, from_to (pos 0) (pos 1)) ∷ []) []
+    (map_scope false ((0, from_to (pos 0) (pos 1)) ∷ []) []
     (and_item 11
     (nested_graph
     (graph (codes "inner")
@@ -138,7 +138,7 @@ owned_graph =
     (and_state no_item (transition 1 false None [] ∷ [])
     (and_state
     (and_item 5
-    (map_scope ((0, from_to (pos 0) (pos 1)) ∷ []) []
+    (map_scope false ((0, from_to (pos 0) (pos 1)) ∷ []) []
     (and_item 6
     (task
     (code_of (port_of (codes "_in0") 0 ∷ []) (port_of (codes "_out") 0 ∷ []) [] 0
@@ -191,7 +191,7 @@ short_graph =
     (and_state no_item (transition 1 false None [] ∷ [])
     (and_state
     (and_item 4
-    (map_scope ((0, from_to (pos 0) (pos 2)) ∷ []) []
+    (map_scope false ((0, from_to (pos 0) (pos 2)) ∷ []) []
     (and_item 5
     (task
     (code_of (port_of (codes "_in0") 0 ∷ []) (port_of (codes "_out") 0 ∷ []) [] 0

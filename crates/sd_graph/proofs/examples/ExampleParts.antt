@@ -1,6 +1,7 @@
 -- Short words for the parts of plain trees, and their runs.
 use Rattle.std.proofs.Common.{◌≡◌, ℕ, ℤ, pos, List, [], ◌∷◌, Option, Some, Bool}
 use Rattle.sd_num.specs.declared.resolution.Resolution.{Resolution}
+use Rattle.sd_num.specs.declared.width.Width.TheVariants.{W64}
 use Rattle.sd_range.specs.declared.affine.Affine.{Affine}
 use Rattle.sd_range.specs.declared.range.Range.{Range}
 use Rattle.sd_range.specs.declared.subset.Dim.{Dim}
@@ -49,7 +50,7 @@ abbrev pub code_of : (ins outs : List Port) → (variables : List ℕ) → (loca
 code_of ins outs variables locals body = record { ins = ins; outs = outs; variables = variables; locals = locals; body = body }
 
 abbrev pub container_of : List Affine → ContainerKind → Container
-container_of extents kind = record { extents = extents; kind = kind }
+container_of extents kind = record { extents = extents; kind = kind; width = W64 }
 
 abbrev pub condition_of : (line : ℕ) → List Link → TaskletTree → GuardTree
 condition_of line reads code = record { line = line; reads = reads; code = code }

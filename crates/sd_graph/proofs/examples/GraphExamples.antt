@@ -21,7 +21,7 @@ rows_graph =
     (and_state no_item (transition 1 false None [] ∷ [])
     (and_state
     (and_item 9
-    (map_scope ((1, from_to (pos 0) (pos 1)) ∷ []) []
+    (map_scope false ((1, from_to (pos 0) (pos 1)) ∷ []) []
     (and_item 10
     (nested_graph
     (graph (codes "dbl")
@@ -31,7 +31,7 @@ rows_graph =
     (and_state no_item (transition 1 false None [] ∷ [])
     (and_state
     (and_item 5
-    (map_scope ((1, from_to (pos 0) (pos 1)) ∷ []) []
+    (map_scope false ((1, from_to (pos 0) (pos 1)) ∷ []) []
     (and_item 6
     (task
     (code_of (port_of (codes "_in0") 0 ∷ []) (port_of (codes "_out") 0 ∷ []) [] 0
@@ -91,7 +91,7 @@ two_graph =
     (and_state no_item (transition 1 false None [] ∷ [])
     (and_state
     (and_item 4
-    (map_scope ((0, from_to (pos 0) (pos 2)) ∷ []) []
+    (map_scope false ((0, from_to (pos 0) (pos 2)) ∷ []) []
     (and_item 5
     (task
     (code_of (port_of (codes "_in0") 0 ∷ []) (port_of (codes "_out") 0 ∷ []) [] 0
@@ -101,7 +101,7 @@ two_graph =
     (transition 2 false None [] ∷ [])
     (and_state
     (and_item 6
-    (map_scope ((1, from_to (pos 0) (pos 2)) ∷ []) []
+    (map_scope false ((1, from_to (pos 0) (pos 2)) ∷ []) []
     (and_item 7
     (task
     (code_of (port_of (codes "_in0") 0 ∷ []) (port_of (codes "_out") 0 ∷ []) [] 0
@@ -137,7 +137,7 @@ jac_graph =
     (and_state no_item (transition 3 false None [] ∷ [])
     (and_state
     (and_item 6
-    (map_scope ((2, from_to (pos 1) (pos 2)) ∷ []) []
+    (map_scope false ((2, from_to (pos 1) (pos 2)) ∷ []) []
     (and_item 7
     (task
     (code_of
@@ -155,7 +155,7 @@ jac_graph =
     no_item) (transition 4 false None [] ∷ [])
     (and_state
     (and_item 8
-    (map_scope ((3, from_to (pos 1) (pos 2)) ∷ []) []
+    (map_scope false ((3, from_to (pos 1) (pos 2)) ∷ []) []
     (and_item 9
     (task
     (code_of (port_of (codes "_in0") 0 ∷ []) (port_of (codes "_out") 0 ∷ []) [] 0

@@ -57,7 +57,7 @@ from_to from to = task moves_one (from ∷ []) (to ∷ [])
 
 -- two points, with these private containers
 abbrev map_with : (private : List ℕ) → ItemTrees → KindTree
-map_with private body = map_scope ((0, range_of (constant (pos 0)) (constant (pos 1) ∷ []) (pos 1)) ∷ []) private body
+map_with private body = map_scope false ((0, range_of (constant (pos 0)) (constant (pos 1) ∷ []) (pos 1)) ∷ []) private body
 
 abbrev one_item : KindTree → ItemTrees
 one_item kind = and_item 1 kind no_item

@@ -20,7 +20,7 @@ pushes_graph =
     (and_state no_item (transition 1 false None [] ∷ [])
     (and_state
     (and_item 5
-    (map_scope ((0, from_to (pos 0) (pos 0)) ∷ []) []
+    (map_scope false ((0, from_to (pos 0) (pos 0)) ∷ []) []
     (and_item 6
     (task
     (code_of (port_of (codes "a") 0 ∷ []) (port_of (codes "s") 0 ∷ []) [] 0
@@ -57,7 +57,7 @@ sums_graph =
     (and_state no_item (transition 1 false None [] ∷ [])
     (and_state
     (and_item 4
-    (map_scope ((0, from_to (pos 0) (pos 0)) ∷ []) []
+    (map_scope false ((0, from_to (pos 0) (pos 0)) ∷ []) []
     (and_item 5
     (task
     (code_of (port_of (codes "_in0") 0 ∷ []) (port_of (codes "_out") 0 ∷ []) [] 0
@@ -101,14 +101,14 @@ middle_graph =
     (and_state no_item (transition 1 false None [] ∷ [])
     (and_state
     (and_item 4
-    (map_scope ((0, from_to (pos 0) (pos 0)) ∷ []) []
+    (map_scope false ((0, from_to (pos 0) (pos 0)) ∷ []) []
     (and_item 5
     (task
     (code_of [] (port_of (codes "_out") 0 ∷ []) [] 0
     (and_act (assign 0 no_value (literal (pos 5))) no_act)) []
     (link_of (codes "_out") 0 (Index (constant (pos 0)) ∷ []) None ∷ []))
     (and_item 6
-    (map_scope ((1, from_to (pos 0) (negsuc 0)) ∷ []) []
+    (map_scope false ((1, from_to (pos 0) (negsuc 0)) ∷ []) []
     (and_item 7
     (task
     (code_of (port_of (codes "_in0") 0 ∷ []) (port_of (codes "_out") 0 ∷ []) [] 0
@@ -148,7 +148,7 @@ nest_graph =
     (and_state no_item (transition 1 false None [] ∷ [])
     (and_state
     (and_item 8
-    (map_scope ((0, from_to (pos 0) (pos 0)) ∷ []) []
+    (map_scope false ((0, from_to (pos 0) (pos 0)) ∷ []) []
     (and_item 9
     (task
     (code_of [] (port_of (codes "_out") 0 ∷ []) [] 0

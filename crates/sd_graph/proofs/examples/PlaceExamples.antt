@@ -270,7 +270,7 @@ outer_graph =
     (and_state no_item (transition 3 false None [] ∷ [])
     (and_state
     (and_item 10
-    (map_scope ((1, from_to (pos 0) (pos 2)) ∷ []) []
+    (map_scope false ((1, from_to (pos 0) (pos 2)) ∷ []) []
     (and_item 11
     (nested_graph
     (graph (codes "inner")
@@ -290,7 +290,7 @@ outer_graph =
     (and_state no_item (transition 3 false None [] ∷ [])
     (and_state
     (and_item 5
-    (map_scope ((1, from_to (pos 0) (pos 1)) ∷ []) []
+    (map_scope false ((1, from_to (pos 0) (pos 1)) ∷ []) []
     (and_item 6
     (task
     (code_of (port_of (codes "_in0") 0 ∷ []) (port_of (codes "_out") 0 ∷ [])

@@ -88,7 +88,7 @@ an_element_has_the_value_taken = refl
 
 -- a point has its memory, and the points are no items
 a_map_is_a_list_of_points :
-    map_over (at_values (pos 0) (pos 0)) [] (3 ∷ []) (λ inside. ended []) ((pos 1 ∷ []) ∷ [])
+    map_over (at_values (pos 0) (pos 0)) false [] (3 ∷ []) (λ inside. ended []) ((pos 1 ∷ []) ∷ [])
     ≡ list Points in_any_order (also (owning (private_memory containers (3 ∷ [])) (ended [])) none)
 a_map_is_a_list_of_points = refl
 

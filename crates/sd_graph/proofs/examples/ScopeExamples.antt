@@ -20,7 +20,7 @@ inc_graph =
     (and_state no_item (transition 1 false None [] ∷ [])
     (and_state
     (and_item 6
-    (map_scope ((1, from_to (pos 0) (pos 2)) ∷ []) []
+    (map_scope false ((1, from_to (pos 0) (pos 2)) ∷ []) []
     (and_item 7
     (task
     (code_of (port_of (codes "_in0") 0 ∷ []) (port_of (codes "_out") 0 ∷ []) [] 0
@@ -46,7 +46,7 @@ hist_graph =
     (and_state no_item (transition 1 false None [] ∷ [])
     (and_state
     (and_item 5
-    (map_scope ((1, from_to (pos 0) (pos 4)) ∷ []) []
+    (map_scope false ((1, from_to (pos 0) (pos 4)) ∷ []) []
     (and_item 6
     (task
     (code_of (port_of (codes "a") 0 ∷ []) (port_of (codes "h") 1 ∷ []) [] 0
@@ -133,7 +133,7 @@ priv_graph =
     (and_state no_item (transition 1 false None [] ∷ [])
     (and_state
     (and_item 4
-    (map_scope ((0, from_to (pos 0) (pos 1)) ∷ []) (2 ∷ 3 ∷ [])
+    (map_scope false ((0, from_to (pos 0) (pos 1)) ∷ []) (2 ∷ 3 ∷ [])
     (and_item 7
     (task
     (code_of (port_of (codes "_in0") 0 ∷ port_of (codes "_in1") 0 ∷ []) (port_of (codes "_out") 0 ∷ [])

@@ -75,7 +75,7 @@ abbrev body : ItemTrees
 body = and_item 2 (from_into (on 4) (on 3)) (and_item 3 (from_into (on 3) (link_by (Some Sum) 1)) no_item)
 
 a_map_hides_its_private_containers :
-    kind_uses (map_scope [] (3 ∷ []) body) containers ≡ use_on Read 4 ∷ use_on (Resolve Sum) 1 ∷ []
+    kind_uses (map_scope false [] (3 ∷ []) body) containers ≡ use_on Read 4 ∷ use_on (Resolve Sum) 1 ∷ []
 a_map_hides_its_private_containers = refl
 
 a_consume_scope_takes_and_hides_its_element :
