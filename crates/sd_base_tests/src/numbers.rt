@@ -37,8 +37,14 @@ fn a_number_is_wrapped_to_its_width(rt: HostRuntime) {
         let (value, elements) = line.split_once(' ').unwrap_or((line, ""));
         let (half, whole) = elements.split_once(' ').unwrap_or((elements, ""));
         let value = sure(&rt, value.parse());
-        assert!(rt; wrap(Width::W32, value) == sure(&rt, half.parse()), "{line}");
-        assert!(rt; wrap(Width::W64, value) == sure(&rt, whole.parse()), "{line}");
+        assert!(rt;
+            wrap(Width::W32, value) == sure(&rt, half.parse()),
+            "{line}"
+        );
+        assert!(rt;
+            wrap(Width::W64, value) == sure(&rt, whole.parse()),
+            "{line}"
+        );
     }
 }
 
