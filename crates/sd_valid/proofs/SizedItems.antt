@@ -19,7 +19,7 @@ use Rattle.sd_graph.specs.PlainTree.{TaskletTree, GuardTree, ExitTree}
 use Rattle.sd_graph.specs.ContainerParts.{Containers, container_at, is_argument, extents_of}
 use Rattle.sd_graph.specs.TaskletMeaning.{Effect, Meaning, and_then, meaning_of}
 use Rattle.sd_graph.specs.Context.{Reach, Context, own_reach, raised, reference_at, link_elements, link_element, link_extents, entered, place_at, private_memory}
-use Rattle.sd_graph.specs.Unfold.{cut, meaning_at, pending_through, pending_by, pending_of, task_of, does_hold, guard_of, exit_of, target_place, reduction_pairs, name_of, at_point, map_over, point_terms, in_any_order, reach_through, reach_inside}
+use Rattle.sd_graph.specs.Unfold.{cut, meaning_at, pending_through, pending_by, pending_of, task_of, does_hold, guard_of, exit_of, target_place, reduction_pairs, name_of, at_point, map_over, point_terms, order_of_points, reach_through, reach_inside}
 use Rattle.sd_graph.specs.declared.link.Link.{Link}
 use Rattle.sd_graph.specs.declared.place.Place.{Place}
 use Rattle.sd_valid.specs.BoundExpression.{bound_link, bound_assignment, bound_param}
@@ -148,13 +148,13 @@ point_same : (sizes : List ℤ) (context : Context) (params : List (ℕ × Range
 point_same sizes context params private point =
     ap (λ (numbers : List ℕ). entered context private (with_variables (zip numbers point) context.values) (map (λ assignment. (name_of context assignment.0, assignment.1)) (zip numbers point))) (numbers_same sizes params)
 
-pub map_same : (sizes : List ℤ) (context : Context) (params : List (ℕ × Range)) (private : List ℕ) (body : Context → Term Place) (points : List (List ℤ)) →
-    map_over context (map (bound_param sizes) params) private body points ≡ map_over context params private body points
-map_same sizes context params private body points =
-    ap (λ (at : List ℤ → Context). over context private body points at) (fun_ext (point_same sizes context params private))
+pub map_same : (sizes : List ℤ) (context : Context) (sequential : Bool) (params : List (ℕ × Range)) (private : List ℕ) (body : Context → Term Place) (points : List (List ℤ)) →
+    map_over context sequential (map (bound_param sizes) params) private body points ≡ map_over context sequential params private body points
+map_same sizes context sequential params private body points =
+    ap (λ (at : List ℤ → Context). over context sequential private body points at) (fun_ext (point_same sizes context params private))
   where
-    over : (context : Context) (private : List ℕ) (body : Context → Term Place) (points : List (List ℤ)) → (List ℤ → Context) → Term Place
-    over context private body points at = list Points in_any_order (point_terms (λ point. owning (private_memory context.containers private) (body (at point))) points)
+    over : (context : Context) (sequential : Bool) (private : List ℕ) (body : Context → Term Place) (points : List (List ℤ)) → (List ℤ → Context) → Term Place
+    over context sequential private body points at = list Points (order_of_points sequential) (point_terms (λ point. owning (private_memory context.containers private) (body (at point))) points)
 
 through_same : (sizes : List ℤ) (context : Context) (link : Option Link) (inner : Containers) (number : ℕ) → reach_through context (option_map (bound_link sizes) link) inner number ≡ reach_through (at_sizes sizes context) link inner number
 through_same sizes context None inner number = refl

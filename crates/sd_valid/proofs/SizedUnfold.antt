@@ -38,10 +38,10 @@ state_place_same sizes containers names states reach around state values = ap (�
 mutual
   kind_work : (sizes : List ℤ) → AreElements sizes → (kind : KindTree) (line : ℕ) (context : Context) → unfold_kind (bound_kind sizes kind) line context ≡ sized_kind sizes kind line context
   kind_work sizes fit (task code ins outs) line context = ap (leaf (place_at context line)) (task_same sizes context code ins outs fit)
-  kind_work sizes fit (map_scope params private body) line context =
-      ap (map_over context (map (bound_param sizes) params) private (λ inside. list_of inside (bound_items sizes body) (unfold_items (bound_items sizes body) inside))) (bound-points sizes context.values params)
-      ∙ map_same sizes context params private (λ inside. list_of inside (bound_items sizes body) (unfold_items (bound_items sizes body) inside)) (points (ranges_of params) (sized sizes context.values))
-      ∙ ap (λ (inner : Context → Term Place). map_over context params private inner (points (ranges_of params) (sized sizes context.values)))
+  kind_work sizes fit (map_scope sequential params private body) line context =
+      ap (map_over context sequential (map (bound_param sizes) params) private (λ inside. list_of inside (bound_items sizes body) (unfold_items (bound_items sizes body) inside))) (bound-points sizes context.values params)
+      ∙ map_same sizes context sequential params private (λ inside. list_of inside (bound_items sizes body) (unfold_items (bound_items sizes body) inside)) (points (ranges_of params) (sized sizes context.values))
+      ∙ ap (λ (inner : Context → Term Place). map_over context sequential params private inner (points (ranges_of params) (sized sizes context.values)))
       (fun_ext (λ inside. list_same sizes inside body (unfold_items (bound_items sizes body) inside) (sized_items sizes body inside) (items_work sizes fit body inside)))
   kind_work sizes fit (consume_scope stream element private body) line context =
       ap (λ (inner : ℤ → Term Place). pool (context.reach stream).level (context.reach stream).container inner idle false)

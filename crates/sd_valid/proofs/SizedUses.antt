@@ -48,7 +48,7 @@ exits_same sizes (exit ∷ exits) = rw (guard_same sizes exit.when, exits_same s
 mutual
   pub kind_same : (sizes : List ℤ) (kind : KindTree) (containers others : Containers) → SameKinds containers others → kind_uses (bound_kind sizes kind) containers ≡ kind_uses kind others
   kind_same sizes (task code ins outs) containers others same = rw (reads_same sizes Read ins, outputs_same sizes containers others outs same) refl
-  kind_same sizes (map_scope params private body) containers others same = rw (items_same sizes body containers others same) refl
+  kind_same sizes (map_scope sequential params private body) containers others same = rw (items_same sizes body containers others same) refl
   kind_same sizes (consume_scope stream element private body) containers others same = rw (items_same sizes body containers others same) refl
   kind_same sizes (nested_graph inner links) containers others same =
       ap (λ (uses : List Use). nested_uses uses 0 (map (bound_link sizes) links)) (graph_same sizes inner) ∙ nested_same sizes (graph_uses inner) 0 links

@@ -18,7 +18,7 @@ bound_entry sizes entry = (entry.0, bound_container sizes entry.1)
 abbrev mutual
   pub bound_kind : (sizes : List ℤ) → KindTree → KindTree
   bound_kind sizes (task code ins outs) = task (bound_tasklet sizes code) (map (bound_link sizes) ins) (map (bound_link sizes) outs)
-  bound_kind sizes (map_scope params private body) = map_scope (map (bound_param sizes) params) private (bound_items sizes body)
+  bound_kind sizes (map_scope sequential params private body) = map_scope sequential (map (bound_param sizes) params) private (bound_items sizes body)
   bound_kind sizes (consume_scope stream element private body) = consume_scope stream element private (bound_items sizes body)
   bound_kind sizes (nested_graph inner links) = nested_graph (bound_graph sizes inner) (map (bound_link sizes) links)
   bound_kind sizes (reduction resolution axis identity from to) = reduction resolution axis identity (bound_link sizes from) (bound_link sizes to)

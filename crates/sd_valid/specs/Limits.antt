@@ -10,7 +10,7 @@ abbrev mutual
   -- the containers of the graphs that are nested in an item, at each call
   pub kind_containers : KindTree → Containers
   kind_containers (task code ins outs) = []
-  kind_containers (map_scope params private body) = items_containers body
+  kind_containers (map_scope sequential params private body) = items_containers body
   kind_containers (consume_scope stream element private body) = items_containers body
   kind_containers (nested_graph inner links) = all_containers inner
   kind_containers (reduction resolution axis identity from to) = []

@@ -41,8 +41,8 @@ abbrev mutual
   -- what an item has to do
   pub sized_kind : (sizes : List ℤ) → KindTree → (line : ℕ) → Context → Term Place
   sized_kind sizes (task code ins outs) line context = leaf (place_at context line) (task_of (at_sizes sizes context) code ins outs)
-  sized_kind sizes (map_scope params private body) line context =
-      map_over context params private (λ inside. list_of inside body (sized_items sizes body inside)) (points (ranges_of params) (sized sizes context.values))
+  sized_kind sizes (map_scope sequential params private body) line context =
+      map_over context sequential params private (λ inside. list_of inside body (sized_items sizes body inside)) (points (ranges_of params) (sized sizes context.values))
   sized_kind sizes (consume_scope stream element private body) line context =
       pool (context.reach stream).level (context.reach stream).container
       (λ value. owning (element_memory context element private value) (let inside = at_element context element private value in list_of inside body (sized_items sizes body inside)))

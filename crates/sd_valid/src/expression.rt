@@ -145,6 +145,7 @@ pub(crate) fn container(
     Ok(Container {
         extents: Sequence::from(expressions(alloc, sizes, container.extents.as_slice())?),
         kind: container.kind,
+        width: container.width,
     })
 }
 

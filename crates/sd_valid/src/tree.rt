@@ -145,10 +145,12 @@ fn kind(alloc: Global, sizes: &[i64], kind: &ItemKind) -> Result<ItemKind, NoMem
             params: all,
             private,
             body,
+            sequential,
         } => Ok(ItemKind::Map {
             params: params(alloc, sizes, all)?,
             private: private.as_slice().to_vec(alloc)?,
             body: items(alloc, sizes, body)?,
+            sequential: *sequential,
         }),
         ItemKind::Consume {
             stream,
