@@ -1,6 +1,7 @@
 -- Memories of a graph have their arrays whole.
 use Rattle.std.proofs.Common.{◌≡◌, ◌⊎◌, inl, inr, ℕ, zero, suc, ◌<◌, List, [], ◌∷◌, length, map, true, false, slice_index_or, refl, sym, ◌∙◌, subst, arith}
 use Rattle.std.proofs.lemmas.List.{length-replicate}
+use Rattle.sd_num.specs.declared.width.Width.{Width}
 use Rattle.sd_range.specs.declared.affine.Affine.{Affine}
 use Rattle.sd_work.specs.Memory.{Memory, Contents, array, stream}
 use Rattle.sd_graph.specs.ContainerParts.{Containers, container_at, is_stream}
@@ -12,21 +13,21 @@ use Rattle.sd_graph.specs.declared.container.ContainerKind.TheVariants.{Argument
 use Rattle.sd_mem.specs.mem.Shaped.{Shaped, IsWhole, IsHere}
 use Rattle.sd_mem.specs.mem.GraphContents.{shape_of, shapes_of, zero_contents}
 
--- a container of this kind
-abbrev pub of_kind : List Affine → ContainerKind → Container
-of_kind extents kind = record { extents = extents; kind = kind }
+-- a container of this kind and width
+abbrev pub of_kind : List Affine → ContainerKind → Width → Container
+of_kind extents kind width = record { extents = extents; kind = kind; width = width }
 
 -- zeros are contents of a container that is not private
-zero_is : (extents : List Affine) (kind : ContainerKind) → (is_private kind ≡ true) ⊎ IsContentsOf (of_kind extents kind) (zero_contents (of_kind extents kind))
-zero_is extents Argument = inr (refl, length-replicate _ _)
-zero_is extents Transient = inr (refl, length-replicate _ _)
-zero_is extents Private = inl refl
-zero_is extents Stream = inr refl
-zero_is extents PrivateStream = inl refl
+zero_is : (extents : List Affine) (kind : ContainerKind) (width : Width) → (is_private kind ≡ true) ⊎ IsContentsOf (of_kind extents kind width) (zero_contents (of_kind extents kind width))
+zero_is extents Argument width = inr (refl, length-replicate _ _)
+zero_is extents Transient width = inr (refl, length-replicate _ _)
+zero_is extents Private width = inl refl
+zero_is extents Stream width = inr refl
+zero_is extents PrivateStream width = inl refl
 
 pub zeros_are : (entries : Containers) → AreContentsOf entries (map (λ entry. zero_contents entry.1) entries)
 zeros_are [] = tt
-zeros_are (entry ∷ entries) = (zero_is entry.1.extents entry.1.kind, zeros_are entries)
+zeros_are (entry ∷ entries) = (zero_is entry.1.extents entry.1.kind entry.1.width, zeros_are entries)
 
 -- contents of an array are whole
 whole_contents : (container : Container) (contents : Contents) → is_stream container.kind ≡ false → IsContentsOf container contents → IsWhole (shape_of container) contents

@@ -54,7 +54,7 @@ module _ (containers : Containers) (scope : Option ℕ) where
 
   nodes_keep : (kind : KindTree) (line : ℕ) (drawing : Drawing) → (with_nodes_of kind containers scope line drawing).row.earlier ≡ drawing.row.earlier
   nodes_keep (task code ins outs) line drawing = refl
-  nodes_keep (map_scope params private body) line drawing = refl
+  nodes_keep (map_scope sequential params private body) line drawing = refl
   nodes_keep (consume_scope stream element private body) line drawing = refl
   nodes_keep (nested_graph inner links) line drawing = refl
   nodes_keep (reduction resolution axis identity from to) line drawing = refl

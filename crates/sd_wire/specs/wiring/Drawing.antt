@@ -157,7 +157,7 @@ abbrev mutual
   -- an item's own nodes: one, or a scope's entry, those of its body, and its exit
   pub with_nodes_of : KindTree → Containers → (scope : Option ℕ) → (line : ℕ) → Drawing → Drawing
   with_nodes_of (task code ins outs) containers scope line drawing = with_node scope Tasklet line drawing
-  with_nodes_of (map_scope params private body) containers scope line drawing =
+  with_nodes_of (map_scope sequential params private body) containers scope line drawing =
       left scope (length drawing.nodes) line drawing.row (with_items body containers (Some (length drawing.nodes)) private (entered scope MapEntry line drawing))
   with_nodes_of (consume_scope stream element private body) containers scope line drawing =
       left scope (length drawing.nodes) line drawing.row (with_items body containers (Some (length drawing.nodes)) private (entered scope ConsumeEntry line drawing))

@@ -90,7 +90,7 @@ moved_link Writes from to = to
 -- what passes into an item, or out of it: one for each connector, or one for each container for a scope
 abbrev pub passing : Access → KindTree → Containers → List Passing
 passing access (task code ins outs) containers = map by_link (task_links access ins outs)
-passing access (map_scope params private body) containers = map by_container (containers_by access (kind_uses (map_scope params private body) containers))
+passing access (map_scope sequential params private body) containers = map by_container (containers_by access (kind_uses (map_scope sequential params private body) containers))
 passing access (consume_scope stream element private body) containers =
     map by_container (containers_by access (kind_uses (consume_scope stream element private body) containers))
 passing access (nested_graph inner links) containers = map by_link (links_by access (graph_uses inner) 0 links)
