@@ -1,5 +1,5 @@
 -- What an item of the code is in the plain tree.
-use Rattle.std.proofs.Common.{◌≡◌, ℕ, ℤ, Option, ap, ◌∙◌, subst, Vec, Box}
+use Rattle.std.proofs.Common.{◌≡◌, ℕ, ℤ, Bool, Option, ap, ◌∙◌, subst, Vec, Box}
 use Rattle.std.specs.declared.alloc.Global.{Global}
 use Rattle.sd_num.specs.declared.resolution.Resolution.{Resolution}
 use Rattle.sd_range.specs.declared.range.Range.{Range}
@@ -15,9 +15,9 @@ use Rattle.sd_graph.specs.declared.graph.ItemKind.TheFolds.{fold-roll-ItemKind}
 use Rattle.sd_graph.specs.declared.link.Link.{Link}
 use Rattle.sd_graph.specs.declared.tasklet.Tasklet.{Tasklet}
 
-pub map_kind : (params : Vec (ℕ × Range) Global) (private : Vec ℕ Global) (body : Vec Item Global) → kind_tree (shape.Map params private body) ≡ map_scope params.items private.items (item_trees body.items)
+pub map_kind : (params : Vec (ℕ × Range) Global) (private : Vec ℕ Global) (body : Vec Item Global) (sequential : Bool) → kind_tree (shape.Map params private body sequential) ≡ map_scope sequential params.items private.items (item_trees body.items)
 unfolding shape.roll-ItemKind denote.Hole.Carrier.roll
-map_kind params private body = fold-roll-ItemKind KindTree PlainItem GraphTree PlainState kind_step item_step graph_step state_step (layer.Map params private body)
+map_kind params private body sequential = fold-roll-ItemKind KindTree PlainItem GraphTree PlainState kind_step item_step graph_step state_step (layer.Map params private body sequential)
 
 pub consume_kind : (stream element : ℕ) (private : Vec ℕ Global) (body : Vec Item Global) → kind_tree (shape.Consume stream element private body) ≡ consume_scope stream element private.items (item_trees body.items)
 unfolding shape.roll-ItemKind denote.Hole.Carrier.roll
@@ -37,8 +37,8 @@ copy_kind from to = fold-roll-ItemKind KindTree PlainItem GraphTree PlainState k
 
 -- ---- bodies and nested graphs lead upwards
 
-pub map_leads : (kind : ItemKind) (params : Vec (ℕ × Range) Global) (private : Vec ℕ Global) (body : Vec Item Global) → kind ≡ shape.Map params private body → KindLeadsUpwards (kind_tree kind) → ItemsLeadUpwards (item_trees body.items)
-map_leads kind params private body is leads = subst KindLeadsUpwards (ap kind_tree is ∙ map_kind params private body) leads
+pub map_leads : (kind : ItemKind) (params : Vec (ℕ × Range) Global) (private : Vec ℕ Global) (body : Vec Item Global) (sequential : Bool) → kind ≡ shape.Map params private body sequential → KindLeadsUpwards (kind_tree kind) → ItemsLeadUpwards (item_trees body.items)
+map_leads kind params private body sequential is leads = subst KindLeadsUpwards (ap kind_tree is ∙ map_kind params private body sequential) leads
 
 pub consume_leads : (kind : ItemKind) (stream element : ℕ) (private : Vec ℕ Global) (body : Vec Item Global) → kind ≡ shape.Consume stream element private body → KindLeadsUpwards (kind_tree kind) → ItemsLeadUpwards (item_trees body.items)
 consume_leads kind stream element private body is leads = subst KindLeadsUpwards (ap kind_tree is ∙ consume_kind stream element private body) leads

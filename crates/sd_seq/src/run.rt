@@ -86,6 +86,7 @@ fn run_kind(
             params,
             private,
             body,
+            ..
         } => run_map(alloc, body, params, private, graph, base, scope, machine),
         ItemKind::Consume {
             stream,

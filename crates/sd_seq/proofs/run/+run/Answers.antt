@@ -50,7 +50,7 @@ run_items-loop-item-preserved t c =
 pub run_kind-returns-in-Map : goal.run_kind-returns-in-Map
 run_kind-returns-in-Map t c =
     subst (λ (k : KindTree). IfOk c.run_map.result (λ end. IsEnd (kind_coming k c.args.line (context_of (graph_tree c.args.graph.now) c.args.base.now c.args.scope.now) c.args.machine.now) c.args.machine.now end c.run_map.new.machine))
-    (sym (ap kind_tree c.in-Map.is ∙ map_kind c.in-Map.params c.in-Map.private c.in-Map.body))
+    (sym (ap kind_tree c.in-Map.is ∙ map_kind c.in-Map.params c.in-Map.private c.in-Map.body c.in-Map.sequential))
     (rw (sym c.deref-in-Map-2.ensures.value, sym c.deref-in-Map-3.ensures.value, sym c.deref-in-Map.ensures.value) c.run_map.ensures)
 
 pub run_kind-returns-in-Consume : goal.run_kind-returns-in-Consume
