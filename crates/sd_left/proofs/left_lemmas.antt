@@ -2,6 +2,7 @@ pub mod Rolls
 pub mod WaitRolls
 pub mod TellRolls
 pub mod Sameness
+pub mod FirstLeft
 pub mod Shows
 pub mod Layers
 pub mod Showing

@@ -4,3 +4,4 @@ pub mod Moves
 pub mod Nowhere
 pub mod Runs
 pub mod Points
+pub mod Sequence

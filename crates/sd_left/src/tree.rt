@@ -7,6 +7,6 @@ mod laws;
 
 pub use laws::{
     a_move_of_a_part_is_one_of_its_list, a_run_moves_in_its_state_or_goes_on,
-    moves_of_points_are_added_up, what_is_not_there_has_no_move,
+    moves_of_points_are_added_up, the_first_unfinished_point_moves, what_is_not_there_has_no_move,
     work_that_begins_is_that_of_the_graph,
 };

@@ -6,7 +6,6 @@ use Rattle.sd_work.specs.Moves.{Path}
 use Rattle.sd_work.specs.BigStep.{Reached}
 use Rattle.sd_graph.specs.PlainTree.{KindTree, ItemTrees}
 use Rattle.sd_graph.specs.Context.{Context}
-use Rattle.sd_graph.specs.Unfold.{in_any_order}
 use Rattle.sd_graph.specs.declared.place.Place.{Place}
 use Rattle.sd_mem.specs.declared.machine.end.End.{End}
 use Rattle.sd_mem.specs.declared.machine.end.End.TheVariants.{Finished}
@@ -30,14 +29,14 @@ kept-item-fired tell order parts number old new items context path before after 
     (sym (map-set tell parts number new))
     (item-fired order (map tell parts) number (tell old) (tell new) items context path before after end (omega (arith, within, length-map parts tell)) (told-at tell parts number old within is) fired)
 
-pub kept-point-fired : {A : Type 0} (tell : A → BodyLeft) (points : List A) (number : ℕ) (old new : A) (kind : KindTree) (context : Context) (path : Path) (before after : Reached) (end : End)
+pub kept-point-fired : {A : Type 0} (tell : A → BodyLeft) (order : ℕ → ℕ → Bool) (points : List A) (number : ℕ) (old new : A) (kind : KindTree) (context : Context) (path : Path) (before after : Reached) (end : End)
     → number < length points → old ≡ slice_index_or points number old
     → IsFired (point_left (tell old) kind context) path before end after (point_left (tell new) kind context)
-    → IsFired (list Points in_any_order (points_left (map tell points) kind context)) (number ∷ path) before end after (list Points in_any_order (points_left (map tell (slice_set points number new)) kind context))
-kept-point-fired tell points number old new kind context path before after end within is fired =
-    subst (λ (left : List BodyLeft). IsFired (list Points in_any_order (points_left (map tell points) kind context)) (number ∷ path) before end after (list Points in_any_order (points_left left kind context)))
+    → IsFired (list Points order (points_left (map tell points) kind context)) (number ∷ path) before end after (list Points order (points_left (map tell (slice_set points number new)) kind context))
+kept-point-fired tell order points number old new kind context path before after end within is fired =
+    subst (λ (left : List BodyLeft). IsFired (list Points order (points_left (map tell points) kind context)) (number ∷ path) before end after (list Points order (points_left left kind context)))
     (sym (map-set tell points number new))
-    (point-fired (map tell points) number (tell old) (tell new) kind context path before after end (omega (arith, within, length-map points tell)) (told-at tell points number old within is) fired)
+    (point-fired order (map tell points) number (tell old) (tell new) kind context path before after end (omega (arith, within, length-map points tell)) (told-at tell points number old within is) fired)
 
 pub kept-element-fired : {A : Type 0} (tell : A → BodyLeft) (level container : ℕ) (body : ℤ → Term Place) (closed : Bool) (active : List A) (number : ℕ) (old new : A) (kind : KindTree) (context : Context) (path : Path) (before after : Reached) (end : End)
     → number < length active → old ≡ slice_index_or active number old → (tell new).at ≡ (tell old).at
@@ -54,9 +53,9 @@ pub kept-no-item : {A : Type 0} (tell : A → ItemLeft) (order : ℕ → ℕ →
     → IsFired (list Items order (parts_left (map tell parts) items context)) (number ∷ path) now Finished now (list Items order (parts_left (map tell parts) items context))
 kept-no-item tell order parts number items context path now over = no-item-fired order (map tell parts) number items context path now (omega (arith, over, length-map parts tell))
 
-pub kept-no-point : {A : Type 0} (tell : A → BodyLeft) (points : List A) (number : ℕ) (kind : KindTree) (context : Context) (path : Path) (now : Reached) → length points ≤ number
-    → IsFired (list Points in_any_order (points_left (map tell points) kind context)) (number ∷ path) now Finished now (list Points in_any_order (points_left (map tell points) kind context))
-kept-no-point tell points number kind context path now over = no-point-fired (map tell points) number kind context path now (omega (arith, over, length-map points tell))
+pub kept-no-point : {A : Type 0} (tell : A → BodyLeft) (order : ℕ → ℕ → Bool) (points : List A) (number : ℕ) (kind : KindTree) (context : Context) (path : Path) (now : Reached) → length points ≤ number
+    → IsFired (list Points order (points_left (map tell points) kind context)) (number ∷ path) now Finished now (list Points order (points_left (map tell points) kind context))
+kept-no-point tell order points number kind context path now over = no-point-fired order (map tell points) number kind context path now (omega (arith, over, length-map points tell))
 
 pub kept-no-element : {A : Type 0} (tell : A → BodyLeft) (level container : ℕ) (body : ℤ → Term Place) (closed : Bool) (active : List A) (number : ℕ) (kind : KindTree) (context : Context) (path : Path) (now : Reached) → length active ≤ number
     → IsFired (pool level container body (active_left (map tell active) kind context) closed) (1 ∷ number ∷ path) now Finished now (pool level container body (active_left (map tell active) kind context) closed)

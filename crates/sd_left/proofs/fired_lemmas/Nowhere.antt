@@ -7,7 +7,6 @@ use Rattle.sd_work.specs.Fire.{fire}
 use Rattle.sd_work.specs.BigStep.{Reached}
 use Rattle.sd_graph.specs.PlainTree.{KindTree, ItemTrees, GraphTree}
 use Rattle.sd_graph.specs.Context.{Reach, Context}
-use Rattle.sd_graph.specs.Unfold.{in_any_order}
 use Rattle.sd_graph.specs.declared.place.Frame.{Frame}
 use Rattle.sd_graph.specs.declared.place.Place.{Place}
 use Rattle.sd_mem.specs.declared.machine.end.End.TheVariants.{Finished}
@@ -24,9 +23,9 @@ pub no-item-fired : (order : ℕ → ℕ → Bool) (parts : List ItemLeft) (numb
     → length parts ≤ number → IsFired (list Items order (parts_left parts items context)) (number ∷ path) now Finished now (list Items order (parts_left parts items context))
 no-item-fired order parts number items context path now over = nothing-fired (list Items order (parts_left parts items context)) (number ∷ path) now (no-item-moves order parts number items context path now.memories over)
 
-pub no-point-fired : (points : List BodyLeft) (number : ℕ) (kind : KindTree) (context : Context) (path : Path) (now : Reached)
-    → length points ≤ number → IsFired (list Points in_any_order (points_left points kind context)) (number ∷ path) now Finished now (list Points in_any_order (points_left points kind context))
-no-point-fired points number kind context path now over = nothing-fired (list Points in_any_order (points_left points kind context)) (number ∷ path) now (no-point-moves points number kind context path now.memories over)
+pub no-point-fired : (order : ℕ → ℕ → Bool) (points : List BodyLeft) (number : ℕ) (kind : KindTree) (context : Context) (path : Path) (now : Reached)
+    → length points ≤ number → IsFired (list Points order (points_left points kind context)) (number ∷ path) now Finished now (list Points order (points_left points kind context))
+no-point-fired order points number kind context path now over = nothing-fired (list Points order (points_left points kind context)) (number ∷ path) now (no-point-moves order points number kind context path now.memories over)
 
 pub no-element-fired : (level container : ℕ) (body : ℤ → Term Place) (closed : Bool) (active : List BodyLeft) (number : ℕ) (kind : KindTree) (context : Context) (path : Path) (now : Reached)
     → length active ≤ number → IsFired (pool level container body (active_left active kind context) closed) (1 ∷ number ∷ path) now Finished now (pool level container body (active_left active kind context) closed)

@@ -8,7 +8,6 @@ use Rattle.sd_moves.specs.numbered.Gone.{gone}
 use Rattle.sd_moves.specs.numbered.PartsChanged.{with_active}
 use Rattle.sd_graph.specs.PlainTree.{KindTree, ItemTrees}
 use Rattle.sd_graph.specs.Context.{Context}
-use Rattle.sd_graph.specs.Unfold.{in_any_order}
 use Rattle.sd_graph.specs.declared.place.Place.{Place}
 use Rattle.sd_mem.specs.declared.machine.end.End.{End}
 use Rattle.sd_leaves.specs.moves.Moved.{outcome_with}
@@ -46,17 +45,17 @@ item-fired order parts number old new items context path before after end within
   depth = fired.depth;
 }
 
-pub point-fired : (points : List BodyLeft) (number : ℕ) (old new : BodyLeft) (kind : KindTree) (context : Context) (path : Path) (before after : Reached) (end : End)
+pub point-fired : (order : ℕ → ℕ → Bool) (points : List BodyLeft) (number : ℕ) (old new : BodyLeft) (kind : KindTree) (context : Context) (path : Path) (before after : Reached) (end : End)
     → number < length points → old ≡ slice_index_or points number old
     → IsFired (point_left old kind context) path before end after (point_left new kind context)
-    → IsFired (list Points in_any_order (points_left points kind context)) (number ∷ path) before end after (list Points in_any_order (points_left (slice_set points number new) kind context))
-point-fired points number old new kind context path before after end within is fired = record {
-  comes = list-gone Points in_any_order (points_left points kind context) number path before.memories before.turns
+    → IsFired (list Points order (points_left points kind context)) (number ∷ path) before end after (list Points order (points_left (slice_set points number new) kind context))
+point-fired order points number old new kind context path before after end within is fired = record {
+  comes = list-gone Points order (points_left points kind context) number path before.memories before.turns
       (λ (point : BodyLeft). point_left point kind context) (λ (point : BodyLeft). points_left (slice_set points number point) kind context)
       (λ point. point-changed points number kind context point within) (outcome_with end after new)
       (ap (λ (work : Term Place). gone (fire work path before.memories) work before.memories before.turns) (point-there points number old kind context within is)
       ∙ fired.comes ∙ sym (outcome-within (λ (point : BodyLeft). point_left point kind context) end after new))
-      ∙ outcome-within (λ (point : BodyLeft). list Points in_any_order (points_left (slice_set points number point) kind context)) end after new;
+      ∙ outcome-within (λ (point : BodyLeft). list Points order (points_left (slice_set points number point) kind context)) end after new;
   depth = fired.depth;
 }
 

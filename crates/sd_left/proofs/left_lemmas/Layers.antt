@@ -9,7 +9,7 @@ use Rattle.sd_moves.specs.numbered.OpenPools.{HasNoOpenPool, HaveNoActiveOpenPoo
 use Rattle.sd_graph.specs.PlainTree.{KindTree, GraphTree}
 use Rattle.sd_graph.specs.TreeParts.{states_of_graph, items_at, containers_of}
 use Rattle.sd_graph.specs.Context.{Context, Reach, place_at, frames_at}
-use Rattle.sd_graph.specs.Unfold.{in_any_order, reach_inside}
+use Rattle.sd_graph.specs.Unfold.{order_of_points, reach_inside}
 use Rattle.sd_graph.specs.declared.place.Frame.{Frame}
 use Rattle.sd_mem.specs.machine.Coming.{state_context}
 use Rattle.sd_leaves.specs.moves.Left.{doing_left, instance_left}
@@ -20,7 +20,7 @@ use Rattle.sd_left.specs.tree.Standing.{BodyLeft, RunLeft, element_term, points_
 use Rattle.sd_left.proofs.tree_lemmas.Points.{any-count}
 use Rattle.sd_left.specs.left.Kept.{evaluation_in}
 use Rattle.sd_left.specs.left.Waits.{Told}
-use Rattle.sd_left.specs.left.Tells.{Telling, leaf_tells}
+use Rattle.sd_left.specs.left.Tells.{Telling, BodiesTelling, leaf_tells, map_tells}
 use Rattle.sd_left.proofs.left_lemmas.Sameness.{both-true, not-not}
 use Rattle.sd_left.proofs.left_lemmas.Shows.{ItemShows, BodyShows, BodiesShow}
 
@@ -46,9 +46,14 @@ doing-shows doing right = record {
 
 -- ---- points and elements
 
-module _ (bodies : List BodyLeft) (telling : Telling) (counted : Told) (shows : BodiesShow bodies telling counted) where
-  pub points-show : ItemShows (λ kind line context. list Points in_any_order (points_left bodies kind context)) telling counted
-  points-show right = record {
+module _ (bodies : List BodyLeft) (telling : BodiesTelling) (counted : Told) (shows : BodiesShow bodies telling counted) where
+  pub points-show : (sequential : Bool) → ItemShows (λ kind line context. list Points (order_of_points sequential) (points_left bodies kind context)) (map_tells sequential telling) counted
+  points-show true right = record {
+    over = λ kind line context. (shows right).over kind context;
+    moves = λ kind line context memories held. (shows right).first kind context memories held;
+    free = λ kind line context none. (shows right).free kind context none;
+  }
+  points-show false right = record {
     over = λ kind line context. (shows right).over kind context;
     moves = λ kind line context memories held.
         any-count (points_left bodies kind context) (flags_of (points_left bodies kind context)) [] 0 0 memories ∙ (shows right).points kind context memories held;
@@ -56,7 +61,7 @@ module _ (bodies : List BodyLeft) (telling : Telling) (counted : Told) (shows : 
   }
 
   pub pool-shows : (level container kept : ℕ) (closed : Bool) → ItemShows (λ kind line context. pool level container (element_term kind context) (active_left bodies kind context) closed)
-      (record { is_unfinished = not closed; moves = cond closed 0 (telling.moves + kept); pools = one_if (not closed) + telling.pools; is_right = telling.is_right })
+      (record { is_unfinished = not closed; moves = cond closed 0 (telling.together.moves + kept); pools = one_if (not closed) + telling.together.pools; is_right = telling.together.is_right })
       (λ memories. closed || (nat_eq kept (length (waiting level container memories)) && counted memories))
   pool-shows level container kept closed right = record {
     over = λ kind line context. sym (not-not closed);
@@ -65,13 +70,13 @@ module _ (bodies : List BodyLeft) (telling : Telling) (counted : Told) (shows : 
   }
     where
       working : (closed : Bool) (kind : KindTree) (context : Context) (memories : Memories) → (closed || (nat_eq kept (length (waiting level container memories)) && counted memories)) ≡ true
-          → cond closed 0 (count_active (active_left bodies kind context) memories + length (waiting level container memories)) ≡ cond closed 0 (telling.moves + kept)
+          → cond closed 0 (count_active (active_left bodies kind context) memories + length (waiting level container memories)) ≡ cond closed 0 (telling.together.moves + kept)
       working true kind context memories held = refl
       working false kind context memories held =
           let each = both-true (nat_eq kept (length (waiting level container memories))) (counted memories) held in
           ap₂ (λ (a b : ℕ). a + b) ((shows right).elements kind context memories each.1) (sym (eqb-true kept (length (waiting level container memories)) each.0))
 
-      all-closed : (closed : Bool) (kind : KindTree) (context : Context) → one_if (not closed) + telling.pools ≡ 0 → (closed ≡ true) × HaveNoActiveOpenPool (active_left bodies kind context)
+      all-closed : (closed : Bool) (kind : KindTree) (context : Context) → one_if (not closed) + telling.together.pools ≡ 0 → (closed ≡ true) × HaveNoActiveOpenPool (active_left bodies kind context)
       all-closed true kind context none = (refl, (shows right).active kind context (omega (arith, none)))
       all-closed false kind context none = absurd (omega (arith, none))
 

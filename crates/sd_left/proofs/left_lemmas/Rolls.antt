@@ -4,7 +4,7 @@ use Rattle.std.specs.declared.alloc.Global.{Global}
 use Rattle.sd_work.specs.Residual.{leaf, list, pool, Points}
 use Rattle.sd_graph.specs.PlainTree.{KindTree}
 use Rattle.sd_graph.specs.Context.{Context, place_at}
-use Rattle.sd_graph.specs.Unfold.{in_any_order}
+use Rattle.sd_graph.specs.Unfold.{order_of_points}
 use Rattle.sd_mem.specs.declared.machine.cell.Station.{Station}
 use Rattle.sd_leaves.specs.moves.Left.{doing_left, instance_left}
 use Rattle.sd_leaves.specs.declared.moves.doing.Doing.{Doing}
@@ -29,9 +29,9 @@ module _ (kind : KindTree) (line : ℕ) (context : Context) where
   unfolding shape.roll-Left denote.Hole.Carrier.roll
   doing_is doing = ap (λ (left : ItemLeft). left kind line context) (fold-roll-Left ItemLeft (List BodyLeft) BodyLeft RunLeft left_step bodies_step body_step run_step (layer.Doing doing))
 
-  pub points_is : (points : BodiesNow) → left_of (shape.Points points) kind line context ≡ list Points in_any_order (points_left (bodies_kept points) kind context)
+  pub points_is : (sequential : Bool) (points : BodiesNow) → left_of (shape.Points sequential points) kind line context ≡ list Points (order_of_points sequential) (points_left (bodies_kept points) kind context)
   unfolding shape.roll-Left denote.Hole.Carrier.roll
-  points_is points = ap (λ (left : ItemLeft). left kind line context) (fold-roll-Left ItemLeft (List BodyLeft) BodyLeft RunLeft left_step bodies_step body_step run_step (layer.Points points))
+  points_is sequential points = ap (λ (left : ItemLeft). left kind line context) (fold-roll-Left ItemLeft (List BodyLeft) BodyLeft RunLeft left_step bodies_step body_step run_step (layer.Points sequential points))
 
   pub pool_is : (stream : Station) (active : BodiesNow) (waiting : ℕ) (closed : Bool) → left_of (shape.Pool stream active waiting closed) kind line context
       ≡ pool stream.level stream.container (element_term kind context) (active_left (bodies_kept active) kind context) closed

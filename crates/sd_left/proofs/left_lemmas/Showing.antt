@@ -11,7 +11,7 @@ use Rattle.sd_left.specs.declared.left.left.Left.TheFolds.{map-Left, map-Bodies,
 use Rattle.sd_left.specs.tree.Standing.{ItemLeft, BodyLeft, RunLeft}
 use Rattle.sd_left.specs.left.Kept.{left_step, bodies_step, body_step, run_step, left_of, bodies_kept, body_kept, run_kept}
 use Rattle.sd_left.specs.left.Waits.{Told, waits_step, bodies_waits_step, body_waits_step, run_waits_step, is_counted, are_bodies_counted, is_body_counted, is_run_counted}
-use Rattle.sd_left.specs.left.Tells.{Telling, tells_step, bodies_tell_step, body_tells_step, run_tells_step, tells, bodies_tell, body_tells, run_tells}
+use Rattle.sd_left.specs.left.Tells.{Telling, BodiesTelling, tells_step, bodies_tell_step, body_tells_step, run_tells_step, tells, bodies_telling, body_tells, run_tells}
 use Rattle.sd_left.proofs.left_lemmas.Shows.{ItemShows, BodyShows, BodiesShow, AllItemsShow, AllBodiesShow, bodies-show, body-shows}
 use Rattle.sd_left.proofs.left_lemmas.Sameness.{at_each}
 use Rattle.sd_left.proofs.left_lemmas.Layers.{RunShows, instance-shows, doing-shows, points-show, pool-shows, run-shows, nested-shows}
@@ -20,7 +20,7 @@ abbrev pub LeftShows : LeftNow → Type 0
 LeftShows left = ItemShows (left_of left) (tells left) (is_counted left)
 
 abbrev pub TheyShow : BodiesNow → Type 0
-TheyShow bodies = BodiesShow (bodies_kept bodies) (bodies_tell bodies) (are_bodies_counted bodies)
+TheyShow bodies = BodiesShow (bodies_kept bodies) (bodies_telling bodies) (are_bodies_counted bodies)
 
 abbrev pub ItShows : BodyNow → Type 0
 ItShows body = BodyShows (body_kept body) (body_tells body) (is_body_counted body)
@@ -57,21 +57,22 @@ run_layer = map-Run Lefts Many Ones Runs LeftNow BodiesNow BodyNow RunNow (λ e.
 
 left-opened : (x : Left-F LeftNow BodiesNow BodyNow RunNow)
     → ItemShows (left_step (map-Left LeftNow BodiesNow BodyNow RunNow ItemLeft (List BodyLeft) BodyLeft RunLeft left_of bodies_kept body_kept run_kept x))
-    (tells_step (map-Left LeftNow BodiesNow BodyNow RunNow Telling Telling Telling Telling tells bodies_tell body_tells run_tells x))
+    (tells_step (map-Left LeftNow BodiesNow BodyNow RunNow Telling BodiesTelling Telling Telling tells bodies_telling body_tells run_tells x))
     (waits_step (map-Left LeftNow BodiesNow BodyNow RunNow Told Told Told Told is_counted are_bodies_counted is_body_counted is_run_counted x))
     → LeftShows (roll-Left x)
 left-opened x holds = at_each ItemShows
     (fold-roll-Left ItemLeft (List BodyLeft) BodyLeft RunLeft left_step bodies_step body_step run_step x)
-    (fold-roll-Left Telling Telling Telling Telling tells_step bodies_tell_step body_tells_step run_tells_step x)
+    (fold-roll-Left Telling BodiesTelling Telling Telling tells_step bodies_tell_step body_tells_step run_tells_step x)
     (fold-roll-Left Told Told Told Told waits_step bodies_waits_step body_waits_step run_waits_step x) holds
 
 left-shown : (y : Left-F Lefts Many Ones Runs) → LeftShows (roll-Left (left_layer y))
 left-shown (Instance instance) = left-opened (Instance instance) (instance-shows instance)
 left-shown (Doing doing) = left-opened (Doing doing) (doing-shows doing)
-left-shown (Points points) = left-opened (Points points.0) (points-show (bodies_kept points.0) (bodies_tell points.0) (are_bodies_counted points.0) points.1)
+left-shown (Points sequential points) =
+    left-opened (Points sequential points.0) (points-show (bodies_kept points.0) (bodies_telling points.0) (are_bodies_counted points.0) points.1 sequential)
 left-shown (Pool stream active waiting closed) =
     left-opened (Pool stream active.0 waiting closed)
-    (pool-shows (bodies_kept active.0) (bodies_tell active.0) (are_bodies_counted active.0) active.1 stream.level stream.container waiting closed)
+    (pool-shows (bodies_kept active.0) (bodies_telling active.0) (are_bodies_counted active.0) active.1 stream.level stream.container waiting closed)
 left-shown (Nested run) =
     left-opened (left_layer (Nested run)) (nested-shows (run_kept run.value.0) (run_tells run.value.0) (is_run_counted run.value.0) run.value.1)
 
@@ -86,21 +87,21 @@ each-part (part ∷ all) = (part.1, each-part all)
 bodies-shown : (y : Bodies-F Lefts Many Ones Runs) → TheyShow (roll-Bodies (bodies_layer y))
 bodies-shown y = at_each BodiesShow
     (fold-roll-Bodies ItemLeft (List BodyLeft) BodyLeft RunLeft left_step bodies_step body_step run_step (bodies_layer y))
-    (fold-roll-Bodies Telling Telling Telling Telling tells_step bodies_tell_step body_tells_step run_tells_step (bodies_layer y))
+    (fold-roll-Bodies Telling BodiesTelling Telling Telling tells_step bodies_tell_step body_tells_step run_tells_step (bodies_layer y))
     (fold-roll-Bodies Told Told Told Told waits_step bodies_waits_step body_waits_step run_waits_step (bodies_layer y))
     (bodies-show body_kept body_tells is_body_counted (map (λ e. e.0) y.bodies.items) y.moves y.unfinished y.«open» (each-body y.bodies.items))
 
 body-shown : (y : Body-F Lefts Many Ones Runs) → ItShows (roll-Body (body_layer y))
 body-shown y = at_each BodyShows
     (fold-roll-Body ItemLeft (List BodyLeft) BodyLeft RunLeft left_step bodies_step body_step run_step (body_layer y))
-    (fold-roll-Body Telling Telling Telling Telling tells_step bodies_tell_step body_tells_step run_tells_step (body_layer y))
+    (fold-roll-Body Telling BodiesTelling Telling Telling tells_step bodies_tell_step body_tells_step run_tells_step (body_layer y))
     (fold-roll-Body Told Told Told Told waits_step bodies_waits_step body_waits_step run_waits_step (body_layer y))
     (body-shows left_of tells is_counted y.at.items y.own.contents (told y.order) (map (λ e. e.0) y.parts.items) y.moves y.unfinished y.«open» (each-part y.parts.items))
 
 run-shown : (y : Run-F Lefts Many Ones Runs) → GoingShows (roll-Run (run_layer y))
 run-shown y = at_each RunShows
     (fold-roll-Run ItemLeft (List BodyLeft) BodyLeft RunLeft left_step bodies_step body_step run_step (run_layer y))
-    (fold-roll-Run Telling Telling Telling Telling tells_step bodies_tell_step body_tells_step run_tells_step (run_layer y))
+    (fold-roll-Run Telling BodiesTelling Telling Telling tells_step bodies_tell_step body_tells_step run_tells_step (run_layer y))
     (fold-roll-Run Told Told Told Told waits_step bodies_waits_step body_waits_step run_waits_step (run_layer y))
     (run-shows y.state y.ended (body_kept y.body.0) (body_tells y.body.0) (is_body_counted y.body.0) y.body.1)
 

@@ -1,20 +1,22 @@
 -- What right counts of parts tell of the work that is left of them.
 use Rattle.std.specs.Bool.{⊤}
-use Rattle.std.proofs.Common.{◌≡◌, ℕ, suc, ◌+◌, nat_lt, ℤ, List, [], ◌∷◌, map, Bool, true, cond, not, ◌&&◌, refl, sym, ap, ap₂, ◌∙◌, arith}
+use Rattle.std.proofs.Common.{◌≡◌, ℕ, suc, ◌+◌, nat_eq, nat_lt, ℤ, List, [], ◌∷◌, map, Bool, true, cond, not, ◌&&◌, refl, sym, ap, ap₂, ◌∙◌, arith}
 use Rattle.std.specs.List.{sum}
 use Rattle.sd_work.specs.Memory.{Memory, Memories}
-use Rattle.sd_work.specs.Residual.{Term, Terms, also, finished, all_finished, flags_of, is_ready}
+use Rattle.sd_work.specs.Residual.{Term, Terms, also, list, Points, finished, all_finished, flags_of, is_ready}
 use Rattle.sd_moves.specs.numbered.Counts.{count, count_parts, count_active, one_if}
 use Rattle.sd_moves.specs.numbered.OpenPools.{HasNoOpenPool, HaveNoOpenPool, HaveNoActiveOpenPool}
 use Rattle.sd_graph.specs.PlainTree.{KindTree, ItemTrees}
 use Rattle.sd_graph.specs.Context.{Context}
-use Rattle.sd_graph.specs.Unfold.{in_any_order}
+use Rattle.sd_graph.specs.Unfold.{in_any_order, one_after_another}
 use Rattle.sd_graph.specs.declared.place.Place.{Place}
 use Rattle.sd_left.specs.tree.Standing.{ItemLeft, BodyLeft, first_line, first_kind, others, body_of, point_inside, element_inside, value_at, body_left, parts_left, point_left, points_left, element_left, active_left}
 use Rattle.sd_left.proofs.tree_lemmas.Points.{any-count}
+use Rattle.sd_left.proofs.tree_lemmas.Sequence.{first_count, sequence-counted}
 use Rattle.sd_left.specs.left.Waits.{Told, all_hold}
-use Rattle.sd_left.specs.left.Tells.{Telling, moves_told, unfinished_told, pools_told, flags_told, ready_moves, all_right, counts_tell}
+use Rattle.sd_left.specs.left.Tells.{Telling, BodiesTelling, moves_told, unfinished_told, pools_told, flags_told, ready_moves, all_right, counts_tell, count_of_first}
 use Rattle.sd_left.proofs.left_lemmas.Sameness.{both-true, sum-cons, unfinished-more, were}
+use Rattle.sd_left.proofs.left_lemmas.FirstLeft.{flag-told}
 
 -- an item tells whether something is left, how many moves come next, and whether it has open pools
 pub record ItemTold (left : ItemLeft) (telling : Telling) (counted : Told) : Type 0 where
@@ -35,15 +37,16 @@ abbrev pub BodyShows : BodyLeft → Telling → Told → Type 0
 BodyShows body telling counted = telling.is_right ≡ true → BodyTold body telling counted
 
 -- and bodies, as points and as elements
-pub record BodiesTold (bodies : List BodyLeft) (telling : Telling) (counted : Told) : Type 0 where
-  pub over : (kind : KindTree) (context : Context) → all_finished (points_left bodies kind context) ≡ not telling.is_unfinished
-  pub points : (kind : KindTree) (context : Context) (memories : Memories) → counted memories ≡ true → count_parts in_any_order [] 0 (points_left bodies kind context) memories ≡ telling.moves
-  pub elements : (kind : KindTree) (context : Context) (memories : Memories) → counted memories ≡ true → count_active (active_left bodies kind context) memories ≡ telling.moves
-  pub free : (kind : KindTree) (context : Context) → telling.pools ≡ 0 → HaveNoOpenPool (points_left bodies kind context)
-  pub active : (kind : KindTree) (context : Context) → telling.pools ≡ 0 → HaveNoActiveOpenPool (active_left bodies kind context)
+pub record BodiesTold (bodies : List BodyLeft) (telling : BodiesTelling) (counted : Told) : Type 0 where
+  pub over : (kind : KindTree) (context : Context) → all_finished (points_left bodies kind context) ≡ not telling.together.is_unfinished
+  pub points : (kind : KindTree) (context : Context) (memories : Memories) → counted memories ≡ true → count_parts in_any_order [] 0 (points_left bodies kind context) memories ≡ telling.together.moves
+  pub first : (kind : KindTree) (context : Context) (memories : Memories) → counted memories ≡ true → count (list Points one_after_another (points_left bodies kind context)) memories ≡ telling.first
+  pub elements : (kind : KindTree) (context : Context) (memories : Memories) → counted memories ≡ true → count_active (active_left bodies kind context) memories ≡ telling.together.moves
+  pub free : (kind : KindTree) (context : Context) → telling.together.pools ≡ 0 → HaveNoOpenPool (points_left bodies kind context)
+  pub active : (kind : KindTree) (context : Context) → telling.together.pools ≡ 0 → HaveNoActiveOpenPool (active_left bodies kind context)
 
-abbrev pub BodiesShow : List BodyLeft → Telling → Told → Type 0
-BodiesShow bodies telling counted = telling.is_right ≡ true → BodiesTold bodies telling counted
+abbrev pub BodiesShow : List BodyLeft → BodiesTelling → Told → Type 0
+BodiesShow bodies telling counted = telling.together.is_right ≡ true → BodiesTold bodies telling counted
 
 -- none in one, and none in the others
 none-in-each : (pools : ℕ) (others : List ℕ) → sum (pools ∷ others) ≡ 0 → (pools ≡ 0) × (sum others ≡ 0)
@@ -72,6 +75,13 @@ module _ {A : Type 0} (kept : A → BodyLeft) (telling : A → Telling) (counted
       ∙ unfinished-more (telling body).is_unfinished (sum (unfinished_told (map telling bodies)))
       ∙ ap (λ (n : ℕ). not (nat_lt 0 n)) (sym (sum-cons (one_if (telling body).is_unfinished) (unfinished_told (map telling bodies))))
 
+  pub points-flags : (bodies : List A) → AllBodiesShow bodies → all_right (map telling bodies) ≡ true → (kind : KindTree) (context : Context)
+      → flags_of (points_left (map kept bodies) kind context) ≡ flags_told (map telling bodies)
+  points-flags [] shows right kind context = refl
+  points-flags (body ∷ bodies) shows right kind context =
+      let each = both-true ((telling body).is_right) (all_right (map telling bodies)) right in
+      ap₂ (λ (a : Bool) (b : List Bool). a ∷ b) ((shows.0 each.0).over (body_of kind) (point_inside kind context (kept body).at)) (points-flags bodies shows.1 each.1 kind context)
+
   points-moves : (bodies : List A) → AllBodiesShow bodies → all_right (map telling bodies) ≡ true → (kind : KindTree) (context : Context) (memories : Memories)
       → all_hold (map counted bodies) memories ≡ true → count_parts in_any_order [] 0 (points_left (map kept bodies) kind context) memories ≡ sum (moves_told (map telling bodies))
   points-moves [] shows right kind context memories held = refl
@@ -82,6 +92,19 @@ module _ {A : Type 0} (kept : A → BodyLeft) (telling : A → Telling) (counted
       first-counted (point_left (kept body) kind context) (points_left (map kept bodies) kind context) memories
       ∙ ap₂ (λ (a b : ℕ). a + b) first (points-moves bodies shows.1 each.1 kind context memories hold.1)
       ∙ sym (sum-cons (telling body).moves (moves_told (map telling bodies)))
+
+  points-first : (bodies : List A) → AllBodiesShow bodies → all_right (map telling bodies) ≡ true → (kind : KindTree) (context : Context) (memories : Memories)
+      → all_hold (map counted bodies) memories ≡ true → first_count (points_left (map kept bodies) kind context) memories ≡ count_of_first (moves_told (map telling bodies)) (unfinished_told (map telling bodies))
+  points-first [] shows right kind context memories held = refl
+  points-first (body ∷ bodies) shows right kind context memories held =
+      let each = both-true ((telling body).is_right) (all_right (map telling bodies)) right in
+      let hold = both-true (counted body memories) (all_hold (map counted bodies) memories) held in
+      let told = shows.0 each.0 in
+      let over : finished (point_left (kept body) kind context) ≡ nat_eq (one_if (telling body).is_unfinished) 0 =
+      told.over (body_of kind) (point_inside kind context (kept body).at) ∙ sym (flag-told (telling body).is_unfinished) in
+      ap₂ (λ (end : Bool) (rest : ℕ). cond end rest (count (point_left (kept body) kind context) memories)) over (points-first bodies shows.1 each.1 kind context memories hold.1)
+      ∙ ap (cond (nat_eq (one_if (telling body).is_unfinished) 0) (count_of_first (moves_told (map telling bodies)) (unfinished_told (map telling bodies))))
+      (told.moves (body_of kind) (point_inside kind context (kept body).at) memories hold.0)
 
   elements-moves : (bodies : List A) → AllBodiesShow bodies → all_right (map telling bodies) ≡ true → (kind : KindTree) (context : Context) (memories : Memories)
       → all_hold (map counted bodies) memories ≡ true → count_active (active_left (map kept bodies) kind context) memories ≡ sum (moves_told (map telling bodies))
@@ -110,7 +133,10 @@ module _ {A : Type 0} (kept : A → BodyLeft) (telling : A → Telling) (counted
       ((shows.0 each.0).free (body_of kind) (element_inside kind context (value_at (kept body).at)) nones.0, elements-free bodies shows.1 each.1 kind context nones.1)
 
   pub bodies-show : (bodies : List A) (moves unfinished pools : List ℕ) → AllBodiesShow bodies
-      → BodiesShow (map kept bodies) (counts_tell moves unfinished pools (moves_told (map telling bodies)) (unfinished_told (map telling bodies)) (pools_told (map telling bodies)) (all_right (map telling bodies))) (all_hold (map counted bodies))
+      → BodiesShow (map kept bodies) (record {
+        together = counts_tell moves unfinished pools (moves_told (map telling bodies)) (unfinished_told (map telling bodies)) (pools_told (map telling bodies)) (all_right (map telling bodies));
+        first = count_of_first moves unfinished;
+      }) (all_hold (map counted bodies))
   bodies-show bodies moves unfinished pools shows right =
       let tellings = map telling bodies in
       let are = were moves (moves_told tellings) unfinished (unfinished_told tellings) pools (pools_told tellings) (all_right tellings) right in
@@ -119,6 +145,10 @@ module _ {A : Type 0} (kept : A → BodyLeft) (telling : A → Telling) (counted
       record {
         over = λ kind context. points-over bodies shows are.parts_are kind context ∙ sym (ap (λ (o : List ℕ). not (nat_lt 0 (sum o))) are.unfinished_are);
         points = λ kind context memories held. points-moves bodies shows are.parts_are kind context memories held ∙ counts;
+        first = λ kind context memories held.
+            sequence-counted (points_left (map kept bodies) kind context) memories
+            ∙ points-first bodies shows are.parts_are kind context memories held
+            ∙ ap₂ count_of_first (sym are.moves_are) (sym are.unfinished_are);
         elements = λ kind context memories held. elements-moves bodies shows are.parts_are kind context memories held ∙ counts;
         free = λ kind context none. points-free bodies shows are.parts_are kind context (none_of ∙ none);
         active = λ kind context none. elements-free bodies shows are.parts_are kind context (none_of ∙ none);

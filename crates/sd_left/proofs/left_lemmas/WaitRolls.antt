@@ -13,9 +13,9 @@ use Rattle.sd_left.specs.declared.left.left.Run.{Run as RunNow}
 use Rattle.sd_left.specs.left.Waits.{Told, all_hold, waits_step, bodies_waits_step, body_waits_step, run_waits_step, is_counted, are_bodies_counted, is_body_counted, is_run_counted}
 
 module _ (memories : Memories) where
-  pub points_counted : (points : BodiesNow) → is_counted (shape.Points points) memories ≡ are_bodies_counted points memories
+  pub points_counted : (sequential : Bool) (points : BodiesNow) → is_counted (shape.Points sequential points) memories ≡ are_bodies_counted points memories
   unfolding shape.roll-Left denote.Hole.Carrier.roll
-  points_counted points = ap (λ (told : Told). told memories) (fold-roll-Left Told Told Told Told waits_step bodies_waits_step body_waits_step run_waits_step (layer.Points points))
+  points_counted sequential points = ap (λ (told : Told). told memories) (fold-roll-Left Told Told Told Told waits_step bodies_waits_step body_waits_step run_waits_step (layer.Points sequential points))
 
   pub pool_counted : (stream : Station) (active : BodiesNow) (kept : ℕ) (closed : Bool) → is_counted (shape.Pool stream active kept closed) memories
       ≡ (closed || (nat_eq kept (length (waiting stream.level stream.container memories)) && are_bodies_counted active memories))

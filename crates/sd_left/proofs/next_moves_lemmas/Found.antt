@@ -83,7 +83,7 @@ module _ {A : Type 0} (kept : A → BodyLeft) (telling : A → Telling) (counted
       ∙ element-found bodies shows.1 each.1 hold.1 (suc start) (move - count (element_left (kept first) kind context) memories) number rest body (omega (arith, there)) is on inside
       ∙ ap (λ (n : ℕ). n ∷ place_of (body_left (kept body) (body_of kind) (element_inside kind context (value_at (kept body).at))) ((kept body).own ∷ memories) rest) at
 
-moves-at : {A : Type 0} (telling : A → Telling) (bodies : List A) (number : ℕ) (body : A) → number < length bodies → body ≡ get_or bodies number body
+pub moves-at : {A : Type 0} (telling : A → Telling) (bodies : List A) (number : ℕ) (body : A) → number < length bodies → body ≡ get_or bodies number body
     → get_or (moves_told (map telling bodies)) number 0 ≡ (telling body).moves
 moves-at telling [] number body there is = absurd (omega (arith, there))
 moves-at telling (first ∷ bodies) zero body there is = ap (λ (b : _). (telling b).moves) (sym is)

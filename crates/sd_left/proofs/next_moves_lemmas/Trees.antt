@@ -1,14 +1,15 @@
 -- The part of a tree in which the move of a number is.
-use Rattle.std.proofs.Common.{◌≡◌, ℕ, ◌<◌, ◌≤◌, List, [], ◌∷◌, ◌++◌, append_assoc, length, get_or, true, sym, ap, ◌∙◌, arith}
+use Rattle.std.proofs.Common.{◌≡◌, ℕ, ◌+◌, ◌<◌, ◌≤◌, List, [], ◌∷◌, ◌++◌, append_assoc, map, take, length, get_or, Bool, true, false, sym, ap, ◌∙◌, subst, arith}
 use Rattle.std.specs.List.{sum}
 use Rattle.sd_list.specs.tally.Found.{IsFound}
 use Rattle.sd_list.specs.declared.tally.nodes.Found.{Found}
 use Rattle.sd_work.specs.Memory.{Memories}
+use Rattle.sd_work.specs.Residual.{Points, list}
 use Rattle.sd_moves.specs.numbered.Counts.{count_active}
-use Rattle.sd_moves.specs.numbered.Places.{place_of, place_in_parts, place_in_active}
+use Rattle.sd_moves.specs.numbered.Places.{place_of, place_in_active}
 use Rattle.sd_graph.specs.PlainTree.{KindTree, ItemTrees}
 use Rattle.sd_graph.specs.Context.{Context}
-use Rattle.sd_graph.specs.Unfold.{in_any_order}
+use Rattle.sd_graph.specs.Unfold.{in_any_order, one_after_another, order_of_points}
 use Rattle.sd_order.specs.table.Told.{told}
 use Rattle.sd_left.specs.tree.Standing.{BodyLeft, first_line, first_kind, behind, body_of, point_inside, element_inside, value_at, body_left, points_left, active_left}
 use Rattle.sd_left.specs.declared.left.left.Left.{Left as LeftNow}
@@ -17,13 +18,17 @@ use Rattle.sd_left.specs.declared.left.left.Body.{Body as BodyNow}
 use Rattle.sd_left.specs.declared.left.left.Left.TheViews.{out-Bodies, out-Body}
 use Rattle.sd_left.specs.left.Kept.{left_of, bodies_kept, body_kept}
 use Rattle.sd_left.specs.left.Waits.{is_counted, are_bodies_counted, is_body_counted}
-use Rattle.sd_left.specs.left.Tells.{Telling, tells, bodies_tell, body_tells}
+use Rattle.sd_left.specs.left.Tells.{Telling, map_tells, tells, bodies_telling, bodies_tell, body_tells, moves_told, unfinished_told, pools_told, all_right, count_of_first}
+use Rattle.sd_left.proofs.left_lemmas.Sameness.{were}
+use Rattle.sd_left.proofs.left_lemmas.FirstLeft.{first-within}
 use Rattle.sd_left.proofs.left_lemmas.Rolls.{bodies_opened, body_opened}
 use Rattle.sd_left.proofs.left_lemmas.WaitRolls.{bodies_counted, body_counted}
-use Rattle.sd_left.proofs.left_lemmas.TellRolls.{bodies_told, body_told}
+use Rattle.sd_left.proofs.left_lemmas.TellRolls.{bodies_told, first_told, body_told}
 use Rattle.sd_left.proofs.left_lemmas.Shows.{AllItemsShow, AllBodiesShow, bodies-show}
 use Rattle.sd_left.proofs.left_lemmas.Showing.{left-shows, body-shows-all}
 use Rattle.sd_left.proofs.next_moves_lemmas.Found.{body-there, body-right, body-held, body-moves, point-place, element-place}
+use Rattle.sd_left.proofs.next_moves_lemmas.FoundFirst.{first-place}
+use Rattle.sd_left.proofs.next_moves_lemmas.Ways.{any-order-place}
 use Rattle.sd_left.proofs.next_moves_lemmas.FoundItem.{item-there, item-right, item-held, item-moves, item-place}
 
 items-show : (parts : List LeftNow) → AllItemsShow left_of tells is_counted parts
@@ -82,6 +87,10 @@ module _ (bodies : BodiesNow) (memories : Memories) (right : (bodies_tell bodies
   pub not-over-all : (unit : ℕ) → unit < (bodies_tell bodies).moves → sum (out-Bodies bodies).moves ≤ unit → ⊥
   not-over-all unit less over = omega (arith, less, over, bodies-sum)
 
+  pub not-over-first : (sequential : Bool) (unit : ℕ) → unit < (map_tells sequential (bodies_telling bodies)).moves → sum (out-Bodies bodies).moves ≤ unit → ⊥
+  not-over-first true unit less over = omega (arith, less, over, first_told bodies, first-within (out-Bodies bodies).moves (out-Bodies bodies).unfinished)
+  not-over-first false unit less over = not-over-all unit less over
+
   -- so many moves are those of elements in work
   pub busy-counts : (kind : KindTree) (context : Context) → count_active (active_left (bodies_kept bodies) kind context) memories ≡ sum (out-Bodies bodies).moves
   busy-counts kind context =
@@ -107,12 +116,35 @@ module _ (bodies : BodiesNow) (memories : Memories) (right : (bodies_tell bodies
       one-less = body-moves body_kept body_tells is_body_counted (out-Bodies bodies).bodies.items (out-Bodies bodies).moves (out-Bodies bodies).unfinished (out-Bodies bodies).«open» (all-show (out-Bodies bodies).bodies.items)
           (sym (ap (λ (t : Telling). t.is_right) (bodies_told bodies)) ∙ right) memories (sym (bodies_counted memories bodies) ∙ held) unit found.number found.rest is_found.inside body is
 
-      pub one-point : (kind : KindTree) (context : Context) → place_in_parts in_any_order [] 0 (points_left (bodies_kept bodies) kind context) memories unit
+      one-point : (kind : KindTree) (context : Context) → place_of (list Points in_any_order (points_left (bodies_kept bodies) kind context)) memories unit
           ≡ found.number ∷ place_of (body_left (body_kept body) (body_of kind) (point_inside kind context (body_kept body).at)) ((body_kept body).own ∷ memories) found.rest
       one-point kind context =
-          ap (λ (all : List BodyLeft). place_in_parts in_any_order [] 0 (points_left all kind context) memories unit) (bodies_opened bodies)
+          ap (λ (all : List BodyLeft). place_of (list Points in_any_order (points_left all kind context)) memories unit) (bodies_opened bodies)
+          ∙ any-order-place (points_left (map body_kept (out-Bodies bodies).bodies.items) kind context) memories unit
           ∙ point-place body_kept body_tells is_body_counted (out-Bodies bodies).bodies.items (out-Bodies bodies).moves (out-Bodies bodies).unfinished (out-Bodies bodies).«open» (all-show (out-Bodies bodies).bodies.items)
           (sym (ap (λ (t : Telling). t.is_right) (bodies_told bodies)) ∙ right) memories (sym (bodies_counted memories bodies) ∙ held) unit found.number found.rest is_found.inside body is is_found.before kind context
+
+      -- where points come one after another
+      first-point : unit < (bodies_telling bodies).first → (kind : KindTree) (context : Context) → place_of (list Points one_after_another (points_left (bodies_kept bodies) kind context)) memories unit
+          ≡ found.number ∷ place_of (body_left (body_kept body) (body_of kind) (point_inside kind context (body_kept body).at)) ((body_kept body).own ∷ memories) found.rest
+      first-point less kind context =
+          let all = (out-Bodies bodies).bodies.items in
+          let were_right = were (out-Bodies bodies).moves (moves_told (map body_tells all)) (out-Bodies bodies).unfinished (unfinished_told (map body_tells all)) (out-Bodies bodies).«open» (pools_told (map body_tells all)) (all_right (map body_tells all))
+          (sym (ap (λ (t : Telling). t.is_right) (bodies_told bodies)) ∙ right) in
+          ap (λ (kept : List BodyLeft). place_of (list Points one_after_another (points_left kept kind context)) memories unit) (bodies_opened bodies)
+          ∙ first-place body_kept body_tells is_body_counted kind context memories all (all-show all) were_right.parts_are (sym (bodies_counted memories bodies) ∙ held) unit found.number found.rest body one-there is
+          (ap (λ (counts : List ℕ). sum (take found.number counts) + found.rest) (sym were_right.moves_are) ∙ is_found.before)
+          (subst (λ (counts : List ℕ). found.rest < get_or counts found.number 0) were_right.moves_are is_found.inside)
+          (subst (λ (counts : List ℕ). unit < count_of_first (moves_told (map body_tells all)) counts) were_right.unfinished_are
+          (subst (λ (counts : List ℕ). unit < count_of_first counts (out-Bodies bodies).unfinished) were_right.moves_are
+          (subst (λ (most : ℕ). unit < most) (first_told bodies) less)))
+
+      -- and in whichever order
+      pub any-point : (sequential : Bool) → unit < (map_tells sequential (bodies_telling bodies)).moves → (kind : KindTree) (context : Context)
+          → place_of (list Points (order_of_points sequential) (points_left (bodies_kept bodies) kind context)) memories unit
+          ≡ found.number ∷ place_of (body_left (body_kept body) (body_of kind) (point_inside kind context (body_kept body).at)) ((body_kept body).own ∷ memories) found.rest
+      any-point true less kind context = first-point less kind context
+      any-point false less kind context = one-point kind context
 
       pub one-element : (kind : KindTree) (context : Context) → place_in_active 0 (active_left (bodies_kept bodies) kind context) memories unit
           ≡ found.number ∷ place_of (body_left (body_kept body) (body_of kind) (element_inside kind context (value_at (body_kept body).at))) ((body_kept body).own ∷ memories) found.rest

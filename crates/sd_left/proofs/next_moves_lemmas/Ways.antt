@@ -1,7 +1,7 @@
 -- Ways into maps, consume scopes and runs of graphs.
 use Rattle.std.proofs.Common.{◌≡◌, ℕ, suc, ◌+◌, ◌-◌, ◌<◌, nat_eq, nat_lt, List, [], ◌∷◌, Bool, true, false, cond, if◌then◌else◌, not, ◌&&◌, ◌||◌, refl, sym, ap, ap₂, ◌∙◌, subst, arith}
 use Rattle.sd_work.specs.Memory.{Memories}
-use Rattle.sd_work.specs.Residual.{Terms, none, also, is_ready, finished}
+use Rattle.sd_work.specs.Residual.{Points, Terms, list, none, also, is_ready, finished, flags_of}
 use Rattle.sd_moves.specs.numbered.Counts.{count}
 use Rattle.sd_moves.specs.numbered.Places.{here_or_later, place_of, place_in_parts}
 use Rattle.sd_graph.specs.PlainTree.{GraphTree}
@@ -28,7 +28,7 @@ later-same : (move counted : ℕ) (here : List ℕ) (one other : ℕ → List �
 later-same move counted here one other same = ap (λ (later : List ℕ). if nat_lt move counted then here else later) (same (move - counted))
 
 -- which points are finished is not asked
-pub any-place : (parts : Terms Place) (flags others : List Bool) (number : ℕ) (memories : Memories) (move : ℕ)
+any-place : (parts : Terms Place) (flags others : List Bool) (number : ℕ) (memories : Memories) (move : ℕ)
     → place_in_parts in_any_order flags number parts memories move ≡ place_in_parts in_any_order others number parts memories move
 any-place none flags others number memories move = refl
 any-place (also part parts) flags others number memories move =
@@ -36,6 +36,9 @@ any-place (also part parts) flags others number memories move =
     (any-ready flags 0 number ∙ sym (any-ready others 0 number))
     ∙ later-same move (cond (is_ready in_any_order others number) (count part memories) 0) (number ∷ place_of part memories move)
     (place_in_parts in_any_order flags (suc number) parts memories) (place_in_parts in_any_order others (suc number) parts memories) (any-place parts flags others (suc number) memories)
+
+pub any-order-place : (parts : Terms Place) (memories : Memories) (move : ℕ) → place_of (list Points in_any_order parts) memories move ≡ place_in_parts in_any_order [] 0 parts memories move
+any-order-place parts memories move = any-place parts (flags_of parts) [] 0 memories move
 
 -- a consume scope that has moves is open
 pub open-held : (closed : Bool) (kept values moves number : ℕ) (held : Bool) → number < cond closed 0 (moves + kept) → (closed || (nat_eq kept values && held)) ≡ true → held ≡ true

@@ -64,7 +64,7 @@ left-opened x holds = at_both ItemWaits
 left-shown : (y : Left-F Lefts Many Ones Runs) → LeftWaits (roll-Left (left_layer y))
 left-shown (Instance instance) = left-opened (Instance instance) (λ kind line context memories free. refl)
 left-shown (Doing doing) = left-opened (Doing doing) (λ kind line context memories free. refl)
-left-shown (Points points) = left-opened (Points points.0) (λ kind line context memories free. points.1 kind context memories free)
+left-shown (Points sequential points) = left-opened (Points sequential points.0) (λ kind line context memories free. points.1 kind context memories free)
 left-shown (Pool stream active waiting closed) =
     left-opened (Pool stream active.0 waiting closed) (λ kind line context memories free. closed-waits stream.level stream.container waiting closed (are_bodies_counted active.0) memories free.0)
 left-shown (Nested run) = left-opened (left_layer (Nested run)) (inner-waits (run_kept run.value.0) (is_run_counted run.value.0) run.value.1)

@@ -23,7 +23,7 @@ points-free term (point ∷ points) free = (free point, points-free term points 
 mutual
   kind-free : (kind : KindTree) (line : ℕ) (context : Context) → kind_consumes kind ≡ false → HasNoPool (unfold_kind kind line context)
   kind-free (task code ins outs) line context none = tt
-  kind-free (map_scope params private body) line context none = points-free _ (points (ranges_of params) context.values) (λ point. items-free body (at_point context params private point) none)
+  kind-free (map_scope sequential params private body) line context none = points-free _ (points (ranges_of params) context.values) (λ point. items-free body (at_point context params private point) none)
   kind-free (consume_scope stream element private body) line context none = absurd (let no : true ≡ false = none in cc)
   kind-free (nested_graph inner links) line context none = graph-free inner (reach_inside context links (containers_of inner)) (run_memory (containers_of inner)) (frames_at context line) none
   kind-free (reduction resolution axis identity from to) line context none = tt

@@ -1,5 +1,5 @@
 -- Work that begins is that of the graph.
-use Rattle.std.proofs.Common.{◌≡◌, ℕ, zero, suc, ℤ, List, [], ◌∷◌, false, refl, ap, ap₂, ◌∙◌}
+use Rattle.std.proofs.Common.{◌≡◌, ℕ, zero, suc, ℤ, List, [], ◌∷◌, Bool, false, refl, ap, ap₂, ◌∙◌}
 use Rattle.sd_range.specs.declared.range.Range.{Range}
 use Rattle.sd_work.specs.Memory.{Memory}
 use Rattle.sd_work.specs.Exit.{Values}
@@ -22,20 +22,20 @@ items-begin (part ∷ parts) (and_item line kind items) context begun = ap₂ al
 
 -- ---- points
 
-point-begins : (params : List (ℕ × Range)) (private : List ℕ) (items : ItemTrees) (context : Context) (numbers : List ℤ) (point : BodyLeft) → IsPointBegun params private items context numbers point
-    → point_left point (map_scope params private items) context ≡ point_term items params private context numbers
-point-begins params private items context numbers point begun =
+point-begins : (sequential : Bool) (params : List (ℕ × Range)) (private : List ℕ) (items : ItemTrees) (context : Context) (numbers : List ℤ) (point : BodyLeft) → IsPointBegun params private items context numbers point
+    → point_left point (map_scope sequential params private items) context ≡ point_term items params private context numbers
+point-begins sequential params private items context numbers point begun =
     ap (λ (at : List ℤ). owning point.own (body_left point items (at_point context params private at))) begun.at
     ∙ ap₂ owning begun.own begun.begun
 
-pub points-begin : (params : List (ℕ × Range)) (private : List ℕ) (items : ItemTrees) (context : Context) (numbers : List (List ℤ)) (points : List BodyLeft)
+pub points-begin : (sequential : Bool) (params : List (ℕ × Range)) (private : List ℕ) (items : ItemTrees) (context : Context) (numbers : List (List ℤ)) (points : List BodyLeft)
     → ArePointsBegun params private items context numbers points
-    → points_left points (map_scope params private items) context ≡ point_terms (point_term items params private context) numbers
-points-begin params private items context [] [] begun = refl
-points-begin params private items context [] (point ∷ points) begun = absurd begun
-points-begin params private items context (at ∷ others) [] begun = absurd begun
-points-begin params private items context (at ∷ others) (point ∷ points) begun =
-    ap₂ also (point-begins params private items context at point begun.0) (points-begin params private items context others points begun.1)
+    → points_left points (map_scope sequential params private items) context ≡ point_terms (point_term items params private context) numbers
+points-begin sequential params private items context [] [] begun = refl
+points-begin sequential params private items context [] (point ∷ points) begun = absurd begun
+points-begin sequential params private items context (at ∷ others) [] begun = absurd begun
+points-begin sequential params private items context (at ∷ others) (point ∷ points) begun =
+    ap₂ also (point-begins sequential params private items context at point begun.0) (points-begin sequential params private items context others points begun.1)
 
 -- ---- states and runs
 

@@ -12,7 +12,6 @@ use Rattle.sd_moves.proofs.numbered_lemmas.PartMoves.{fire-part, fire-active}
 use Rattle.sd_moves.proofs.numbered_lemmas.Comes.{gone-mapped}
 use Rattle.sd_graph.specs.PlainTree.{KindTree, ItemTrees}
 use Rattle.sd_graph.specs.Context.{Context}
-use Rattle.sd_graph.specs.Unfold.{in_any_order}
 use Rattle.sd_graph.specs.declared.place.Place.{Place}
 use Rattle.sd_left.specs.tree.Standing.{ItemLeft, BodyLeft, with_inside, first_line, first_kind, behind, parts_left, point_left, points_left, element_left, active_left}
 use Rattle.sd_left.proofs.tree_lemmas.Changes.{part-changed, point-changed, element-at, element-changed}
@@ -65,14 +64,14 @@ item-moves order parts number items context path memories turns given within com
     (λ left. left (first_kind (behind number items)) (first_line (behind number items)) context) (λ left. parts_left (slice_set parts number left) items context)
     (λ left. part-changed parts number items context left within) given comes
 
-pub point-moves : (points : List BodyLeft) (number : ℕ) (kind : KindTree) (context : Context) (path : Path) (memories : Memories) (turns : ℕ) (given : Outcome Place (Gone BodyLeft))
+pub point-moves : (order : ℕ → ℕ → Bool) (points : List BodyLeft) (number : ℕ) (kind : KindTree) (context : Context) (path : Path) (memories : Memories) (turns : ℕ) (given : Outcome Place (Gone BodyLeft))
     → number < length points
     → gone (fire (part_at (points_left points kind context) number) path memories) (part_at (points_left points kind context) number) memories turns
     ≡ map_outcome (within (λ point. point_left point kind context)) given
-    → gone (fire (list Points in_any_order (points_left points kind context)) (number ∷ path) memories) (list Points in_any_order (points_left points kind context)) memories turns
-    ≡ map_outcome (within (λ point. list Points in_any_order (points_left (slice_set points number point) kind context))) given
-point-moves points number kind context path memories turns given within comes =
-    list-gone Points in_any_order (points_left points kind context) number path memories turns
+    → gone (fire (list Points order (points_left points kind context)) (number ∷ path) memories) (list Points order (points_left points kind context)) memories turns
+    ≡ map_outcome (within (λ point. list Points order (points_left (slice_set points number point) kind context))) given
+point-moves order points number kind context path memories turns given within comes =
+    list-gone Points order (points_left points kind context) number path memories turns
     (λ point. point_left point kind context) (λ point. points_left (slice_set points number point) kind context)
     (λ point. point-changed points number kind context point within) given comes
 

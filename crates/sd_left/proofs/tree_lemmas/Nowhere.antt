@@ -7,7 +7,6 @@ use Rattle.sd_work.specs.Moves.{Path}
 use Rattle.sd_work.specs.Fire.{fire, fire_part, fire_active}
 use Rattle.sd_graph.specs.PlainTree.{KindTree, ItemTrees, GraphTree}
 use Rattle.sd_graph.specs.Context.{Reach, Context}
-use Rattle.sd_graph.specs.Unfold.{in_any_order}
 use Rattle.sd_graph.specs.declared.place.Frame.{Frame}
 use Rattle.sd_graph.specs.declared.place.Place.{Place}
 use Rattle.sd_left.specs.tree.Standing.{ItemLeft, BodyLeft, RunLeft, first_line, first_kind, others, parts_left, point_left, points_left, value_at, element_left, active_left, run_going, run_left}
@@ -28,9 +27,9 @@ over-points (first ∷ points) zero kind context path memories over = absurd (om
 over-points (first ∷ points) (suc number) kind context path memories over =
     ap (map_move (also (point_left first kind context))) (over-points points number kind context path memories (omega (arith, over)))
 
-pub no-point-moves : (points : List BodyLeft) (number : ℕ) (kind : KindTree) (context : Context) (path : Path) (memories : Memories) → length points ≤ number
-    → fire (list Points in_any_order (points_left points kind context)) (number ∷ path) memories ≡ no_move
-no-point-moves points number kind context path memories over = ap (map_move (list Points in_any_order)) (over-points points number kind context path memories over)
+pub no-point-moves : (order : ℕ → ℕ → Bool) (points : List BodyLeft) (number : ℕ) (kind : KindTree) (context : Context) (path : Path) (memories : Memories) → length points ≤ number
+    → fire (list Points order (points_left points kind context)) (number ∷ path) memories ≡ no_move
+no-point-moves order points number kind context path memories over = ap (map_move (list Points order)) (over-points points number kind context path memories over)
 
 over-active : (active : List BodyLeft) (number : ℕ) (kind : KindTree) (context : Context) (path : Path) (memories : Memories) → length active ≤ number → fire_active (active_left active kind context) number path memories ≡ no_move
 over-active [] number kind context path memories over = refl

@@ -4,7 +4,7 @@ use Rattle.sd_work.specs.Leaf.{Evaluation}
 use Rattle.sd_work.specs.Residual.{leaf, list, pool, Points}
 use Rattle.sd_graph.specs.PlainTree.{KindTree, task, map_scope, consume_scope, nested_graph, reduction, copy}
 use Rattle.sd_graph.specs.Context.{Context, place_at}
-use Rattle.sd_graph.specs.Unfold.{in_any_order}
+use Rattle.sd_graph.specs.Unfold.{order_of_points}
 use Rattle.sd_leaves.specs.leaves.Done.{evaluation_of}
 use Rattle.sd_leaves.specs.moves.Left.{doing_left, instance_left}
 use Rattle.sd_order.specs.table.Told.{told}
@@ -19,7 +19,7 @@ use Rattle.sd_left.specs.declared.left.left.Left.TheFolds.{fold-Left, fold-Bodie
 -- what the instance of an item makes of the values that it reads
 abbrev pub evaluation_in : KindTree → Context → Evaluation
 evaluation_in (task code ins outs) context = evaluation_of context code ins outs
-evaluation_in (map_scope params private body) context = λ values. Ok []
+evaluation_in (map_scope sequential params private body) context = λ values. Ok []
 evaluation_in (consume_scope stream element private body) context = λ values. Ok []
 evaluation_in (nested_graph inner links) context = λ values. Ok []
 evaluation_in (reduction resolution axis identity from to) context = λ values. Ok []
@@ -29,7 +29,7 @@ evaluation_in (copy from to) context = λ values. Ok []
 abbrev pub left_step : Left-F ItemLeft (List BodyLeft) BodyLeft RunLeft → ItemLeft
 left_step (Instance instance) kind line context = leaf (place_at context line) (instance_left (evaluation_in kind context) instance)
 left_step (Doing doing) kind line context = leaf (place_at context line) (doing_left doing)
-left_step (At_points points) kind line context = list Points in_any_order (points_left points kind context)
+left_step (At_points sequential points) kind line context = list Points (order_of_points sequential) (points_left points kind context)
 left_step (Pool stream active waiting closed) kind line context =
     pool stream.level stream.container (element_term kind context) (active_left active kind context) closed
 left_step (Nested run) kind line context = nested_left run.value kind line context

@@ -20,6 +20,11 @@ pub record Telling : Type 0 where
   pub pools : ℕ
   pub is_right : Bool
 
+-- what points or elements tell together, and how many moves of the first of them come next of which something is left
+pub record BodiesTelling : Type 0 where
+  pub together : Telling
+  pub first : ℕ
+
 abbrev pub moves_told : List Telling → List ℕ
 moves_told parts = map (λ part. part.moves) parts
 
@@ -56,39 +61,59 @@ counts_tell moves unfinished pools moves_wanted unfinished_wanted pools_wanted p
   is_right = same_counts moves moves_wanted && (same_counts unfinished unfinished_wanted && (same_counts pools pools_wanted && parts_right));
 }
 
+-- of parts with these counts of moves and of what is unfinished, how many moves of the first come next of which something is left; 0 where nothing is left
+abbrev pub count_of_first : (moves unfinished : List ℕ) → ℕ
+count_of_first [] unfinished = 0
+count_of_first (count ∷ moves) [] = 0
+count_of_first (count ∷ moves) (left ∷ unfinished) = cond (nat_eq left 0) (count_of_first moves unfinished) count
+
+-- the points of a map: of those that come one after another, only the first moves of which something is left
+abbrev pub map_tells : (sequential : Bool) → BodiesTelling → Telling
+map_tells sequential points = record {
+  is_unfinished = points.together.is_unfinished;
+  moves = cond sequential points.first points.together.moves;
+  pools = points.together.pools;
+  is_right = points.together.is_right;
+}
+
 -- a leaf has one move until it is done
 abbrev pub leaf_tells : (done : Bool) → Telling
 leaf_tells done = record { is_unfinished = not done; moves = one_if (not done); pools = 0; is_right = true }
 
-abbrev pub tells_step : Left-F Telling Telling Telling Telling → Telling
+abbrev pub tells_step : Left-F Telling BodiesTelling Telling Telling → Telling
 tells_step (Instance instance) = leaf_tells (is_done (instance_left (λ values. Ok []) instance))
 tells_step (Doing doing) = leaf_tells (is_done (doing_left doing))
-tells_step (Points points) = points
+tells_step (Points sequential points) = map_tells sequential points
 tells_step (Pool stream active waiting closed) =
-    record { is_unfinished = not closed; moves = cond closed 0 (active.moves + waiting); pools = one_if (not closed) + active.pools; is_right = active.is_right }
+    record { is_unfinished = not closed; moves = cond closed 0 (active.together.moves + waiting); pools = one_if (not closed) + active.together.pools; is_right = active.together.is_right }
 tells_step (Nested run) = run.value
 
-abbrev pub bodies_tell_step : Bodies-F Telling Telling Telling Telling → Telling
-bodies_tell_step bodies =
-    counts_tell bodies.moves bodies.unfinished bodies.«open» (moves_told bodies.bodies.items) (unfinished_told bodies.bodies.items) (pools_told bodies.bodies.items) (all_right bodies.bodies.items)
+abbrev pub bodies_tell_step : Bodies-F Telling BodiesTelling Telling Telling → BodiesTelling
+bodies_tell_step bodies = record {
+  together = counts_tell bodies.moves bodies.unfinished bodies.«open» (moves_told bodies.bodies.items) (unfinished_told bodies.bodies.items) (pools_told bodies.bodies.items) (all_right bodies.bodies.items);
+  first = count_of_first bodies.moves bodies.unfinished;
+}
 
-abbrev pub body_tells_step : Body-F Telling Telling Telling Telling → Telling
+abbrev pub body_tells_step : Body-F Telling BodiesTelling Telling Telling → Telling
 body_tells_step body =
     counts_tell body.moves body.unfinished body.«open» (ready_moves (told body.order) (flags_told body.parts.items) 0 body.parts.items) (unfinished_told body.parts.items) (pools_told body.parts.items) (all_right body.parts.items)
 
 -- a run that goes on has the moves of its state, and one where nothing is left of that; and the open consume scopes of its state
-abbrev pub run_tells_step : Run-F Telling Telling Telling Telling → Telling
+abbrev pub run_tells_step : Run-F Telling BodiesTelling Telling Telling → Telling
 run_tells_step run =
     record { is_unfinished = not run.ended; moves = cond run.ended 0 (cond run.body.is_unfinished run.body.moves 1); pools = cond run.ended 0 run.body.pools; is_right = run.body.is_right }
 
 abbrev pub tells : LeftNow → Telling
-tells = fold-Left Telling Telling Telling Telling tells_step bodies_tell_step body_tells_step run_tells_step
+tells = fold-Left Telling BodiesTelling Telling Telling tells_step bodies_tell_step body_tells_step run_tells_step
+
+abbrev pub bodies_telling : BodiesNow → BodiesTelling
+bodies_telling = fold-Bodies Telling BodiesTelling Telling Telling tells_step bodies_tell_step body_tells_step run_tells_step
 
 abbrev pub bodies_tell : BodiesNow → Telling
-bodies_tell = fold-Bodies Telling Telling Telling Telling tells_step bodies_tell_step body_tells_step run_tells_step
+bodies_tell bodies = (bodies_telling bodies).together
 
 abbrev pub body_tells : BodyNow → Telling
-body_tells = fold-Body Telling Telling Telling Telling tells_step bodies_tell_step body_tells_step run_tells_step
+body_tells = fold-Body Telling BodiesTelling Telling Telling tells_step bodies_tell_step body_tells_step run_tells_step
 
 abbrev pub run_tells : RunNow → Telling
-run_tells = fold-Run Telling Telling Telling Telling tells_step bodies_tell_step body_tells_step run_tells_step
+run_tells = fold-Run Telling BodiesTelling Telling Telling tells_step bodies_tell_step body_tells_step run_tells_step

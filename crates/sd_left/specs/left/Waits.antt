@@ -20,7 +20,7 @@ all_hold (first ∷ rest) memories = first memories && all_hold rest memories
 abbrev pub waits_step : Left-F Told Told Told Told → Told
 waits_step (Instance instance) memories = true
 waits_step (Doing doing) memories = true
-waits_step (Points points) memories = points memories
+waits_step (Points sequential points) memories = points memories
 waits_step (Pool stream active kept closed) memories =
     closed || (nat_eq kept (length (waiting stream.level stream.container memories)) && active memories)
 waits_step (Nested run) memories = run.value memories

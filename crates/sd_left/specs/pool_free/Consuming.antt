@@ -6,7 +6,7 @@ abbrev mutual
   -- an item is one, or has one in its body or its graph
   pub kind_consumes : KindTree → Bool
   kind_consumes (task code ins outs) = false
-  kind_consumes (map_scope params private body) = items_consume body
+  kind_consumes (map_scope sequential params private body) = items_consume body
   kind_consumes (consume_scope stream element private body) = true
   kind_consumes (nested_graph inner links) = graph_consumes inner
   kind_consumes (reduction resolution axis identity from to) = false

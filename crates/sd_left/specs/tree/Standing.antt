@@ -19,7 +19,7 @@ first_line no_item = 0
 first_line (and_item line kind items) = line
 
 abbrev pub first_kind : ItemTrees → KindTree
-first_kind no_item = map_scope [] [] no_item
+first_kind no_item = map_scope false [] [] no_item
 first_kind (and_item line kind items) = kind
 
 abbrev pub others : ItemTrees → ItemTrees
@@ -34,7 +34,7 @@ behind (suc number) items = behind number (others items)
 -- the body of a scope
 abbrev pub body_of : KindTree → ItemTrees
 body_of (task code ins outs) = no_item
-body_of (map_scope params private body) = body
+body_of (map_scope sequential params private body) = body
 body_of (consume_scope stream element private body) = body
 body_of (nested_graph inner links) = no_item
 body_of (reduction resolution axis identity from to) = no_item
@@ -43,7 +43,7 @@ body_of (copy from to) = no_item
 -- inside a point of a map, which has these numbers
 abbrev pub point_inside : KindTree → Context → (at : List ℤ) → Context
 point_inside (task code ins outs) context at = context
-point_inside (map_scope params private body) context at = at_point context params private at
+point_inside (map_scope sequential params private body) context at = at_point context params private at
 point_inside (consume_scope stream element private body) context at = context
 point_inside (nested_graph inner links) context at = context
 point_inside (reduction resolution axis identity from to) context at = context
@@ -52,7 +52,7 @@ point_inside (copy from to) context at = context
 -- inside an element of a consume scope, which has this value
 abbrev pub element_inside : KindTree → Context → (value : ℤ) → Context
 element_inside (task code ins outs) context value = context
-element_inside (map_scope params private body) context value = context
+element_inside (map_scope sequential params private body) context value = context
 element_inside (consume_scope stream element private body) context value = at_element context element private value
 element_inside (nested_graph inner links) context value = context
 element_inside (reduction resolution axis identity from to) context value = context
@@ -61,7 +61,7 @@ element_inside (copy from to) context value = context
 -- what a consume scope does with a value
 abbrev pub element_term : KindTree → Context → (value : ℤ) → Term Place
 element_term (task code ins outs) context value = ended []
-element_term (map_scope params private body) context value = ended []
+element_term (map_scope sequential params private body) context value = ended []
 element_term (consume_scope stream element private body) context value =
     owning (element_memory context element private value) (let inside = at_element context element private value in list_of inside body (unfold_items body inside))
 element_term (nested_graph inner links) context value = ended []
@@ -136,7 +136,7 @@ run_left run tree reach around = run_going run.ended run tree reach around
 -- the graph of an item, and how a run of it reaches its containers; without one, a graph without states
 abbrev pub inner_graph : KindTree → GraphTree
 inner_graph (task code ins outs) = graph [] [] 0 [] 0 no_state
-inner_graph (map_scope params private body) = graph [] [] 0 [] 0 no_state
+inner_graph (map_scope sequential params private body) = graph [] [] 0 [] 0 no_state
 inner_graph (consume_scope stream element private body) = graph [] [] 0 [] 0 no_state
 inner_graph (nested_graph inner links) = inner
 inner_graph (reduction resolution axis identity from to) = graph [] [] 0 [] 0 no_state
@@ -144,7 +144,7 @@ inner_graph (copy from to) = graph [] [] 0 [] 0 no_state
 
 abbrev pub links_of : KindTree → List Link
 links_of (task code ins outs) = []
-links_of (map_scope params private body) = []
+links_of (map_scope sequential params private body) = []
 links_of (consume_scope stream element private body) = []
 links_of (nested_graph inner links) = links
 links_of (reduction resolution axis identity from to) = []

@@ -13,7 +13,6 @@ ghost use Rattle.sd_work.specs.BigStep.{Reached};
 ghost use Rattle.sd_graph.specs.PlainTree.{KindTree, ItemTrees, GraphTree};
 ghost use Rattle.sd_graph.specs.TreeParts.{states_of_graph, items_at};
 ghost use Rattle.sd_graph.specs.Context.{Reach, Context};
-ghost use Rattle.sd_graph.specs.Unfold.{in_any_order};
 ghost use Rattle.sd_graph.specs.declared.place.Frame.{Frame};
 ghost use Rattle.sd_graph.specs.declared.place.Place.{Place};
 ghost use Rattle.sd_mem.specs.machine.Coming.{exits_of, state_context};
@@ -37,10 +36,10 @@ pub fn a_move_of_a_part_changes_its_list_there_alone<A>()
         → number < length parts → old ≡ slice_index_or parts number old
         → IsFired (tell old (first_kind (behind number items)) (first_line (behind number items)) context) path before end after (tell new (first_kind (behind number items)) (first_line (behind number items)) context)
         → IsFired (list Items order (parts_left (map tell parts) items context)) (number ∷ path) before end after (list Items order (parts_left (map tell (slice_set parts number new)) items context)) }
-    ensures points { (tell : A → BodyLeft) (points : List A) (number : ℕ) (old new : A) (kind : KindTree) (context : Context) (path : Path) (before after : Reached) (end : End)
+    ensures points { (tell : A → BodyLeft) (order : ℕ → ℕ → Bool) (points : List A) (number : ℕ) (old new : A) (kind : KindTree) (context : Context) (path : Path) (before after : Reached) (end : End)
         → number < length points → old ≡ slice_index_or points number old
         → IsFired (point_left (tell old) kind context) path before end after (point_left (tell new) kind context)
-        → IsFired (list Points in_any_order (points_left (map tell points) kind context)) (number ∷ path) before end after (list Points in_any_order (points_left (map tell (slice_set points number new)) kind context)) }
+        → IsFired (list Points order (points_left (map tell points) kind context)) (number ∷ path) before end after (list Points order (points_left (map tell (slice_set points number new)) kind context)) }
     ensures elements { (tell : A → BodyLeft) (level container : ℕ) (body : ℤ → Term Place) (closed : Bool) (active : List A) (number : ℕ) (old new : A) (kind : KindTree) (context : Context) (path : Path) (before after : Reached) (end : End)
         → number < length active → old ≡ slice_index_or active number old → (tell new).at ≡ (tell old).at
         → IsFired (element_left (tell old) kind context) path before end after (element_left (tell new) kind context)
@@ -106,8 +105,8 @@ pub fn where_nothing_moves_all_stays<A>()
     ensures work { (old : Term Place) (path : Path) (now : Reached) → fire old path now.memories ≡ no_move → IsFired old path now End.Finished now old }
     ensures items { (tell : A → ItemLeft) (order : ℕ → ℕ → Bool) (parts : List A) (number : ℕ) (items : ItemTrees) (context : Context) (path : Path) (now : Reached)
         → length parts ≤ number → IsFired (list Items order (parts_left (map tell parts) items context)) (number ∷ path) now End.Finished now (list Items order (parts_left (map tell parts) items context)) }
-    ensures points { (tell : A → BodyLeft) (points : List A) (number : ℕ) (kind : KindTree) (context : Context) (path : Path) (now : Reached)
-        → length points ≤ number → IsFired (list Points in_any_order (points_left (map tell points) kind context)) (number ∷ path) now End.Finished now (list Points in_any_order (points_left (map tell points) kind context)) }
+    ensures points { (tell : A → BodyLeft) (order : ℕ → ℕ → Bool) (points : List A) (number : ℕ) (kind : KindTree) (context : Context) (path : Path) (now : Reached)
+        → length points ≤ number → IsFired (list Points order (points_left (map tell points) kind context)) (number ∷ path) now End.Finished now (list Points order (points_left (map tell points) kind context)) }
     ensures elements { (tell : A → BodyLeft) (level container : ℕ) (body : ℤ → Term Place) (closed : Bool) (active : List A) (number : ℕ) (kind : KindTree) (context : Context) (path : Path) (now : Reached)
         → length active ≤ number → IsFired (pool level container body (active_left (map tell active) kind context) closed) (1 ∷ number ∷ path) now End.Finished now (pool level container body (active_left (map tell active) kind context) closed) }
     ensures ended { (run : RunLeft) (tree : GraphTree) (reach : ℕ → Reach) (around : List Frame) (path : Path) (now : Reached)

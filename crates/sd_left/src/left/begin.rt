@@ -4,7 +4,7 @@ ghost use Rattle.sd_work.specs.Memory.{Memories, waiting as waiting_in};
 ghost use Rattle.sd_work.specs.Residual.{list, pool, Points, idle};
 ghost use Rattle.sd_graph.specs.PlainTree.{KindTree};
 ghost use Rattle.sd_graph.specs.Context.{Context};
-ghost use Rattle.sd_graph.specs.Unfold.{in_any_order};
+ghost use Rattle.sd_graph.specs.Unfold.{order_of_points};
 ghost use Rattle.sd_order.specs.table.Told.{told};
 ghost use Rattle.sd_left.specs.tree.Standing.{points_left, element_term, nested_left};
 ghost use Rattle.sd_left.specs.left.Kept.{left_of, bodies_kept, body_kept, run_kept};
@@ -22,13 +22,14 @@ use sd_order::Order;
 use std::alloc::Global;
 
 impl Left {
-    /// A map at these points.
-    pub fn points(alloc: Global, points: Vec<Body>) -> Result<Left, NoMemory>
-        ensures kept { IfOk result (λ made. (kind : KindTree) (line : ℕ) (context : Context) → left_of made kind line context ≡ list Points in_any_order (points_left (map body_kept points.items) kind context)) }
+    /// A map at these points, sequential or not.
+    pub fn points(alloc: Global, sequential: bool, points: Vec<Body>) -> Result<Left, NoMemory>
+        ensures kept { IfOk result (λ made. (kind : KindTree) (line : ℕ) (context : Context) → left_of made kind line context ≡ list Points (order_of_points sequential) (points_left (map body_kept points.items) kind context)) }
         ensures counted { IfOk result (λ made. (memories : Memories) → is_counted made memories ≡ all_hold (map is_body_counted points.items) memories) }
         ensures right { IfOk result (λ made. (tells made).is_right ≡ all_right (map body_tells points.items)) }
     {
-        Ok(Left::Points(Bodies::of(alloc, points)?))
+        let points = Bodies::of(alloc, points)?;
+        Ok(Left::Points { sequential, points })
     }
 
     /// A consume scope over a stream in which so many values wait. No element is in work.

@@ -11,8 +11,11 @@ pub enum Left {
     Instance(Instance),
     /// Of a copy or a reduction.
     Doing(Doing),
-    /// Of a map: at each of its points.
-    Points(Bodies),
+    /// Of a map: at each of its points. Those of a sequential map come one after another.
+    Points {
+        sequential: bool,
+        points: Bodies,
+    },
     /// Of a consume scope over this stream: of each element taken, in the order of taking. So many values wait.
     Pool {
         stream: Station,

@@ -1,7 +1,7 @@
 //! What a tree tells of its next moves and of its open consume scopes by the counts that it keeps.
 ghost use Rattle.std.specs.Prelude.{◌≡◌, ◌+◌, cond, not, IfOk};
 ghost use Rattle.sd_moves.specs.numbered.Counts.{one_if};
-ghost use Rattle.sd_left.specs.left.Tells.{tells, bodies_tell, body_tells, run_tells};
+ghost use Rattle.sd_left.specs.left.Tells.{map_tells, tells, bodies_telling, bodies_tell, body_tells, run_tells};
 
 use crate::left::left::{Bodies, Body, Left, Run};
 use sd_list::NoMemory;
@@ -13,7 +13,7 @@ pub fn is_finished(left: &Left) -> bool
     match left {
         Left::Instance(instance) => instance.is_done(),
         Left::Doing(doing) => doing.is_done(),
-        Left::Points(points) => are_finished(points),
+        Left::Points { points, .. } => are_finished(points),
         Left::Pool { closed, .. } => *closed,
         Left::Nested(run) => run.ended,
     }
@@ -40,7 +40,7 @@ pub fn moves_of(left: &Left) -> Result<u64, NoMemory>
     match left {
         Left::Instance(instance) => Ok(one_if(!instance.is_done())),
         Left::Doing(doing) => Ok(one_if(!doing.is_done())),
-        Left::Points(points) => Ok(moves_of_bodies(points)),
+        Left::Points { sequential, points } => Ok(moves_of_points(points, *sequential)),
         Left::Pool {
             active,
             waiting,
@@ -48,6 +48,26 @@ pub fn moves_of(left: &Left) -> Result<u64, NoMemory>
             ..
         } => moves_of_pool(active, *waiting, *closed),
         Left::Nested(run) => Ok(moves_of_run(run)),
+    }
+}
+
+/// How many moves at the points of a map come next. Of a sequential one only the first point moves of which something is left.
+fn moves_of_points(points: &Bodies, sequential: bool) -> u64
+    ensures { result ≡ (map_tells sequential (bodies_telling points.now)).moves }
+{
+    if sequential {
+        return moves_of_first(points);
+    }
+    moves_of_bodies(points)
+}
+
+/// How many moves at the first point come next of which something is left; 0 where nothing is left.
+fn moves_of_first(points: &Bodies) -> u64
+    ensures { result ≡ (bodies_telling points.now).first }
+{
+    match points.unfinished.find(0) {
+        Some(first) => points.moves.count(first.number),
+        None => 0,
     }
 }
 
@@ -103,7 +123,7 @@ pub fn pools_of(left: &Left) -> Result<u64, NoMemory>
 {
     match left {
         Left::Instance(_) | Left::Doing(_) => Ok(0),
-        Left::Points(points) => Ok(pools_of_bodies(points)),
+        Left::Points { points, .. } => Ok(pools_of_bodies(points)),
         Left::Pool { active, closed, .. } => pools_of_pool(active, *closed),
         Left::Nested(run) => Ok(pools_of_run(run)),
     }

@@ -1,16 +1,16 @@
 ghost use Rattle.std.specs.Prelude.{◌≡◌, ◌<◌, ◌++◌, ◌∷◌, [], ℕ, ℤ, List, Bool, true, IfOk, OnOk};
 ghost use Rattle.sd_work.specs.Memory.{Memories};
-ghost use Rattle.sd_work.specs.Residual.{Term, pool};
-ghost use Rattle.sd_moves.specs.numbered.Places.{place_of, place_in_parts, place_in_active};
+ghost use Rattle.sd_work.specs.Residual.{Term, list, pool, Points};
+ghost use Rattle.sd_moves.specs.numbered.Places.{place_of, place_in_active};
 ghost use Rattle.sd_graph.specs.PlainTree.{KindTree, ItemTrees, GraphTree};
 ghost use Rattle.sd_graph.specs.Context.{Context, Reach};
-ghost use Rattle.sd_graph.specs.Unfold.{in_any_order};
+ghost use Rattle.sd_graph.specs.Unfold.{order_of_points};
 ghost use Rattle.sd_graph.specs.declared.place.Frame.{Frame};
 ghost use Rattle.sd_graph.specs.declared.place.Place.{Place};
 ghost use Rattle.sd_left.specs.tree.Standing.{body_left, points_left, active_left, run_left};
 ghost use Rattle.sd_left.specs.left.Kept.{left_of, bodies_kept, body_kept, run_kept};
 ghost use Rattle.sd_left.specs.left.Waits.{is_counted, are_bodies_counted, is_body_counted, is_run_counted};
-ghost use Rattle.sd_left.specs.left.Tells.{tells, bodies_tell, body_tells, run_tells};
+ghost use Rattle.sd_left.specs.left.Tells.{map_tells, tells, bodies_telling, bodies_tell, body_tells, run_tells};
 
 use crate::left::{Bodies, Body, Left, Run, is_body_finished};
 use sd_list::NoMemory;
@@ -33,7 +33,7 @@ fn go_into_item(left: &Left, number: u64, place: &mut Vec<usize>) -> Result<(), 
     match left {
         Left::Instance(_) => Ok(()),
         Left::Doing(_) => Ok(()),
-        Left::Points(points) => go_into_bodies(points, number, place),
+        Left::Points { points, .. } => go_into_bodies(points, number, place),
         Left::Pool { active, .. } => go_into_pool(active, number, place),
         Left::Nested(run) => go_into_run(run, number, place),
     }
@@ -54,10 +54,11 @@ fn go_into_pool(active: &Bodies, number: u64, place: &mut Vec<usize>) -> Result<
     Ok(())
 }
 
-/// The way on to the point or the element in which the move of this number is.
+/// The way on to the point or the element in which the move of this number is. Where points come one after another, the first of
+/// which something is left has the lowest numbers, as those before it have no moves.
 #[cycle(place)]
 fn go_into_bodies(bodies: &Bodies, number: u64, place: &mut Vec<usize>) -> Result<(), NoMemory>
-    ensures points { OnOk result ((kind : KindTree) (context : Context) (memories : Memories) → (bodies_tell bodies.now).is_right ≡ true → are_bodies_counted bodies.now memories ≡ true → number < (bodies_tell bodies.now).moves → place.new.items ≡ place.old.items ++ place_in_parts in_any_order [] 0 (points_left (bodies_kept bodies.now) kind context) memories number) }
+    ensures points { OnOk result ((sequential : Bool) (kind : KindTree) (context : Context) (memories : Memories) → (bodies_tell bodies.now).is_right ≡ true → are_bodies_counted bodies.now memories ≡ true → number < (map_tells sequential (bodies_telling bodies.now)).moves → place.new.items ≡ place.old.items ++ place_of (list Points (order_of_points sequential) (points_left (bodies_kept bodies.now) kind context)) memories number) }
     ensures elements { OnOk result ((kind : KindTree) (context : Context) (memories : Memories) → (bodies_tell bodies.now).is_right ≡ true → are_bodies_counted bodies.now memories ≡ true → number < (bodies_tell bodies.now).moves → place.new.items ≡ place.old.items ++ place_in_active 0 (active_left (bodies_kept bodies.now) kind context) memories number) }
 {
     let Some(found) = bodies.moves.find(number) else {

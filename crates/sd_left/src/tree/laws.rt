@@ -1,4 +1,4 @@
-ghost use Rattle.std.specs.Prelude.{◌≡◌, ◌+◌, ◌<◌, ◌≤◌, ℕ, ℤ, List, [], ◌∷◌, length, slice_set, slice_index_or, Bool, true, false};
+ghost use Rattle.std.specs.Prelude.{◌≡◌, ◌+◌, ◌<◌, ◌≤◌, ℕ, ℤ, List, [], ◌∷◌, length, slice_set, slice_index_or, Bool, true, false, cond};
 ghost use Rattle.sd_range.specs.declared.range.Range.{Range};
 ghost use Rattle.sd_work.specs.Memory.{Memory, Memories};
 ghost use Rattle.sd_work.specs.Exit.{Values, first_exit};
@@ -12,7 +12,7 @@ ghost use Rattle.sd_moves.specs.numbered.Gone.{Gone, gone, map_outcome, within};
 ghost use Rattle.sd_graph.specs.PlainTree.{KindTree, map_scope, ItemTrees, GraphTree};
 ghost use Rattle.sd_graph.specs.TreeParts.{states_of_graph, items_at};
 ghost use Rattle.sd_graph.specs.Context.{Reach, Context};
-ghost use Rattle.sd_graph.specs.Unfold.{in_any_order, list_of, point_terms, unfold_items, unfold_graph};
+ghost use Rattle.sd_graph.specs.Unfold.{in_any_order, one_after_another, list_of, point_terms, unfold_items, unfold_graph};
 ghost use Rattle.sd_graph.specs.declared.place.Frame.{Frame};
 ghost use Rattle.sd_graph.specs.declared.place.Place.{Place};
 ghost use Rattle.sd_mem.specs.machine.Coming.{point_term, state_context, state_term, exits_of};
@@ -24,9 +24,9 @@ ghost use Rattle.sd_left.specs.tree.Begun.{AreBegun, ArePointsBegun, zeros};
 pub fn work_that_begins_is_that_of_the_graph()
     ensures items { (parts : List ItemLeft) (items : ItemTrees) (context : Context) → AreBegun parts items context
         → parts_left parts items context ≡ unfold_items items context }
-    ensures points { (params : List (ℕ × Range)) (private : List ℕ) (items : ItemTrees) (context : Context) (numbers : List (List ℤ)) (points : List BodyLeft)
+    ensures points { (sequential : Bool) (params : List (ℕ × Range)) (private : List ℕ) (items : ItemTrees) (context : Context) (numbers : List (List ℤ)) (points : List BodyLeft)
         → ArePointsBegun params private items context numbers points
-        → points_left points (map_scope params private items) context ≡ point_terms (point_term items params private context) numbers }
+        → points_left points (map_scope sequential params private items) context ≡ point_terms (point_term items params private context) numbers }
     ensures state { (tree : GraphTree) (reach : ℕ → Reach) (around : List Frame) (state : ℕ) (values : Values)
         → state_term tree reach around state values
         ≡ list_of (state_context tree reach around state values) (items_at (states_of_graph tree) state) (unfold_items (items_at (states_of_graph tree) state) (state_context tree reach around state values)) }
@@ -44,12 +44,12 @@ pub fn a_move_of_a_part_is_one_of_its_list()
         ≡ map_outcome (within (λ left. left (first_kind (behind number items)) (first_line (behind number items)) context)) given
         → gone (fire (list Items order (parts_left parts items context)) (number ∷ path) memories) (list Items order (parts_left parts items context)) memories turns
         ≡ map_outcome (within (λ left. list Items order (parts_left (slice_set parts number left) items context))) given }
-    ensures points { (points : List BodyLeft) (number : ℕ) (kind : KindTree) (context : Context) (path : Path) (memories : Memories) (turns : ℕ) (given : Outcome Place (Gone BodyLeft))
+    ensures points { (order : ℕ → ℕ → Bool) (points : List BodyLeft) (number : ℕ) (kind : KindTree) (context : Context) (path : Path) (memories : Memories) (turns : ℕ) (given : Outcome Place (Gone BodyLeft))
         → number < length points
         → gone (fire (part_at (points_left points kind context) number) path memories) (part_at (points_left points kind context) number) memories turns
         ≡ map_outcome (within (λ point. point_left point kind context)) given
-        → gone (fire (list Points in_any_order (points_left points kind context)) (number ∷ path) memories) (list Points in_any_order (points_left points kind context)) memories turns
-        ≡ map_outcome (within (λ point. list Points in_any_order (points_left (slice_set points number point) kind context))) given }
+        → gone (fire (list Points order (points_left points kind context)) (number ∷ path) memories) (list Points order (points_left points kind context)) memories turns
+        ≡ map_outcome (within (λ point. list Points order (points_left (slice_set points number point) kind context))) given }
     ensures elements { (level container : ℕ) (body : ℤ → Term Place) (closed : Bool) (active : List BodyLeft) (number : ℕ) (element : BodyLeft) (kind : KindTree) (context : Context) (path : Path) (memories : Memories) (turns : ℕ) (given : Outcome Place (Gone (Memory × List ItemLeft)))
         → number < length active → element ≡ slice_index_or active number element
         → gone (fire (element_left element kind context) path memories) (element_left element kind context) memories turns
@@ -62,8 +62,8 @@ pub fn a_move_of_a_part_is_one_of_its_list()
 pub fn what_is_not_there_has_no_move()
     ensures items { (order : ℕ → ℕ → Bool) (parts : List ItemLeft) (number : ℕ) (items : ItemTrees) (context : Context) (path : Path) (memories : Memories)
         → length parts ≤ number → fire (list Items order (parts_left parts items context)) (number ∷ path) memories ≡ no_move }
-    ensures points { (points : List BodyLeft) (number : ℕ) (kind : KindTree) (context : Context) (path : Path) (memories : Memories)
-        → length points ≤ number → fire (list Points in_any_order (points_left points kind context)) (number ∷ path) memories ≡ no_move }
+    ensures points { (order : ℕ → ℕ → Bool) (points : List BodyLeft) (number : ℕ) (kind : KindTree) (context : Context) (path : Path) (memories : Memories)
+        → length points ≤ number → fire (list Points order (points_left points kind context)) (number ∷ path) memories ≡ no_move }
     ensures elements { (level container : ℕ) (body : ℤ → Term Place) (closed : Bool) (active : List BodyLeft) (number : ℕ) (kind : KindTree) (context : Context) (path : Path) (memories : Memories)
         → length active ≤ number → fire (pool level container body (active_left active kind context) closed) (1 ∷ number ∷ path) memories ≡ no_move }
     ensures ended { (run : RunLeft) (tree : GraphTree) (reach : ℕ → Reach) (around : List Frame) (path : Path) (memories : Memories)
@@ -82,10 +82,18 @@ pub fn a_run_moves_in_its_state_or_goes_on()
         ≡ transition (state_term tree reach around) (exits_of tree reach around) run.body.own (first_exit (exits_of tree reach around run.state run.body.at) (run.body.own ∷ memories)) }
 {}
 
-/// The next moves of points are those of each.
+/// The next moves of points that come in any order are those of each.
 pub fn moves_of_points_are_added_up()
     ensures none { (kind : KindTree) (context : Context) (memories : Memories) → count (list Points in_any_order (points_left [] kind context)) memories ≡ 0 }
     ensures more { (point : BodyLeft) (points : List BodyLeft) (kind : KindTree) (context : Context) (memories : Memories)
         → count (list Points in_any_order (points_left (point ∷ points) kind context)) memories
         ≡ count (point_left point kind context) memories + count (list Points in_any_order (points_left points kind context)) memories }
+{}
+
+/// The next moves of points that come one after another are those of the first of which something is left.
+pub fn the_first_unfinished_point_moves()
+    ensures none { (kind : KindTree) (context : Context) (memories : Memories) → count (list Points one_after_another (points_left [] kind context)) memories ≡ 0 }
+    ensures more { (point : BodyLeft) (points : List BodyLeft) (kind : KindTree) (context : Context) (memories : Memories)
+        → count (list Points one_after_another (points_left (point ∷ points) kind context)) memories
+        ≡ cond (finished (point_left point kind context)) (count (list Points one_after_another (points_left points kind context)) memories) (count (point_left point kind context) memories) }
 {}

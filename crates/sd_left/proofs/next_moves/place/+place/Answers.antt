@@ -1,18 +1,18 @@
 use Rattle.std.proofs.Common.{◌≡◌, ◌≤◌, ◌<◌, ◌++◌, ◌-◌, ◌∷◌, [], ℕ, List, Bool, not, length, get_or, true, false, sym, ap, ◌∙◌, subst, arith}
 use Rattle.std.proofs.lemmas.Result.{on_ok_weaker}
-use Rattle.sd_work.specs.Residual.{Term, flags_of}
+use Rattle.sd_work.specs.Residual.{Term}
 use Rattle.sd_moves.specs.numbered.Counts.{count_active}
 use Rattle.sd_moves.specs.numbered.Places.{place_of, place_in_active}
 use Rattle.sd_graph.specs.TreeParts.{states_of_graph, items_at}
 use Rattle.sd_graph.specs.declared.place.Place.{Place}
 use Rattle.sd_mem.specs.machine.Coming.{state_context}
-use Rattle.sd_left.specs.tree.Standing.{first_line, first_kind, behind, body_of, point_inside, element_inside, element_term, value_at, points_left, active_left}
+use Rattle.sd_left.specs.tree.Standing.{first_line, first_kind, behind, body_of, point_inside, element_inside, element_term, value_at, active_left}
 use Rattle.sd_left.specs.declared.left.left.Left.{Left as LeftNow}
 use Rattle.sd_left.specs.declared.left.left.Body.{Body as BodyNow}
 use Rattle.sd_left.specs.declared.left.left.Left.TheViews.{out-Bodies, out-Body, out-Run}
 use Rattle.sd_left.specs.left.Kept.{left_of, bodies_kept, body_kept}
 use Rattle.sd_left.specs.left.Waits.{is_counted, are_bodies_counted}
-use Rattle.sd_left.specs.left.Tells.{Telling, tells, bodies_tell}
+use Rattle.sd_left.specs.left.Tells.{Telling, map_tells, tells, bodies_telling, bodies_tell}
 use Rattle.sd_work.specs.Memory.{waiting}
 use Rattle.sd_left.proofs.left_lemmas.Rolls.{points_is, pool_is}
 use Rattle.sd_left.proofs.left_lemmas.WaitRolls.{points_counted, pool_counted}
@@ -20,12 +20,16 @@ use Rattle.sd_left.proofs.left_lemmas.TellRolls.{points_tell, pool_tells}
 use Rattle.sd_left.proofs.left_lemmas.Sameness.{not-not}
 use Rattle.sd_left.proofs.next_moves_lemmas.Held.{nothing-more}
 use Rattle.sd_left.proofs.next_moves_lemmas.Found.{is-here, is-later}
-use Rattle.sd_left.proofs.next_moves_lemmas.Ways.{any-place, open-held, ended-place, over-place, state-right, busy-place, state-held, state-less}
-use Rattle.sd_left.proofs.next_moves_lemmas.Trees.{way-through, part-there, part-right, part-held, part-less, part-place, bodies-sum, busy-counts, one-there, one-right, one-held, one-less, one-point, one-element}
+use Rattle.sd_left.proofs.next_moves_lemmas.Ways.{open-held, ended-place, over-place, state-right, busy-place, state-held, state-less}
+use Rattle.sd_left.proofs.next_moves_lemmas.Trees.{way-through, part-there, part-right, part-held, part-less, part-place, bodies-sum, busy-counts, one-there, one-right, one-held, one-less, any-point, one-element, not-over-first}
 use Rattle.sd_left.proofs.next_moves.place.+place.Goals as goal
 
+pub go_into_bodies-returns-in_default-clause-points : goal.go_into_bodies-returns-in_default-clause-points
+go_into_bodies-returns-in_default-clause-points t c = λ sequential kind context memories right held less.
+    absurd (not-over-first c.args.bodies.now memories right held sequential c.args.number less c.in_default.ensures)
+
 pub go_into_bodies-returns-in_default-get-clause-points : goal.go_into_bodies-returns-in_default-get-clause-points
-go_into_bodies-returns-in_default-get-clause-points t c = λ kind context memories right held less.
+go_into_bodies-returns-in_default-get-clause-points t c = λ sequential kind context memories right held less.
     let there = one-there c.args.bodies.now memories right held c.args.number c.in-Some.found c.in-Some.ensures in
     let over = subst (λ (bodies : List BodyNow). length bodies ≤ c.in-Some.found.number) c.deref.ensures.value c.in_default-get.ensures.lookup.3 in
     absurd (omega (arith, there, over))
@@ -37,7 +41,7 @@ go_into_bodies-returns-in_default-get-clause-elements t c = λ kind context memo
     absurd (omega (arith, there, over))
 
 pub go_into_bodies-returns-clause-points : goal.go_into_bodies-returns-clause-points
-go_into_bodies-returns-clause-points t c = on_ok_weaker c.go_into_body.result (λ is kind context memories right held less.
+go_into_bodies-returns-clause-points t c = on_ok_weaker c.go_into_body.result (λ is sequential kind context memories right held less.
     let bodies = c.args.bodies.now in
     let number = c.args.number in
     let found = c.in-Some.found in
@@ -49,7 +53,7 @@ go_into_bodies-returns-clause-points t c = on_ok_weaker c.go_into_body.result (�
     (one-right bodies memories right held number found c.in-Some.ensures body member)
     (one-held bodies memories right held number found c.in-Some.ensures body member)
     (one-less bodies memories right held number found c.in-Some.ensures body member))
-    ∙ ap (λ (way : List ℕ). c.args.place.now.items ++ way) (sym (one-point bodies memories right held number found c.in-Some.ensures body member kind context))) c.go_into_body.ensures
+    ∙ ap (λ (way : List ℕ). c.args.place.now.items ++ way) (sym (any-point bodies memories right held number found c.in-Some.ensures body member sequential less kind context))) c.go_into_body.ensures
 
 pub go_into_bodies-returns-clause-elements : goal.go_into_bodies-returns-clause-elements
 go_into_bodies-returns-clause-elements t c = on_ok_weaker c.go_into_body.result (λ is kind context memories right held less.
@@ -89,17 +93,16 @@ go_into_body-returns t c = on_ok_weaker c.go_into_item.result (λ is items conte
 
 pub go_into_item-returns-in-Points : goal.go_into_item-returns-in-Points
 go_into_item-returns-in-Points t c = on_ok_weaker c.go_into_bodies.result (λ is kind line context memories right held less.
+    let sequential = c.in-Points.sequential in
     let points = c.in-Points.points in
     let number = c.args.number in
-    let telling : tells c.args.left.now ≡ bodies_tell points = ap tells c.in-Points.is ∙ points_tell points in
-    let parts = points_left (bodies_kept points) kind context in
-    is kind context memories (sym (ap (λ (t : Telling). t.is_right) telling) ∙ right)
-    (sym (ap (λ (left : LeftNow). is_counted left memories) c.in-Points.is ∙ points_counted memories points) ∙ held)
+    let telling : tells c.args.left.now ≡ map_tells sequential (bodies_telling points) = ap tells c.in-Points.is ∙ points_tell sequential points in
+    is sequential kind context memories (sym (ap (λ (t : Telling). t.is_right) telling) ∙ right)
+    (sym (ap (λ (left : LeftNow). is_counted left memories) c.in-Points.is ∙ points_counted memories sequential points) ∙ held)
     (subst (λ (t : Telling). number < t.moves) telling less)
     ∙ ap (λ (way : List ℕ). c.args.place.now.items ++ way)
     (sym (ap (λ (left : LeftNow). place_of (left_of left kind line context) memories number) c.in-Points.is
-    ∙ ap (λ (term : Term Place). place_of term memories number) (points_is kind line context points)
-    ∙ any-place parts (flags_of parts) [] 0 memories number))) c.go_into_bodies.ensures.points
+    ∙ ap (λ (term : Term Place). place_of term memories number) (points_is kind line context sequential points)))) c.go_into_bodies.ensures.points
 
 pub go_into_item-returns-in-Pool : goal.go_into_item-returns-in-Pool
 go_into_item-returns-in-Pool t c = on_ok_weaker c.go_into_pool.result (λ is kind line context memories right held less.
