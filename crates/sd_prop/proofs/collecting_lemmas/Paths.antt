@@ -1,5 +1,5 @@
 -- The scope with a path, among those that are left.
-use Rattle.std.proofs.Common.{◌≡◌, ℕ, nat_eq, suc, ◌+◌, ◌<◌, List, [], ◌∷◌, length, drop, slice_index_or, Some, Bool, true, false, ◌&&◌, if◌then◌else◌, refl, ap, sym, ◌∙◌}
+use Rattle.std.proofs.Common.{◌≡◌, ℕ, nat_eq, ◌+◌, ◌<◌, List, [], ◌∷◌, length, drop, slice_index_or, Some, true, false, ◌&&◌, if◌then◌else◌, refl, ap, ◌∙◌}
 use Rattle.std.specs.Str.{bytes_eq}
 use Rattle.sd_prop.specs.propagation.Scopes.{Scope, is_same_path, scope_with}
 use Rattle.sd_subset.proofs.boxes_lemmas.Walks.{drop-next}

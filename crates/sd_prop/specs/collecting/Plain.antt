@@ -4,5 +4,5 @@ use Rattle.sd_prop.specs.declared.collecting.scope.Over as kept
 use Rattle.sd_prop.specs.declared.collecting.scope.Over.TheVariants.{Points, Elements}
 
 abbrev pub over_of : kept.Over → Over
-over_of (Points params) = points params.items
+over_of (Points params sequential) = points sequential params.items
 over_of Elements = elements

@@ -51,7 +51,7 @@ abbrev mutual
   pub kind_accesses : KindTree → Containers → (nodes : List ℕ) → List Access
   kind_accesses (task code ins outs) containers nodes =
       map (access_of (own_node nodes) Read) ins ++ map (output_access containers (own_node nodes)) outs
-  kind_accesses (map_scope params private body) containers nodes =
+  kind_accesses (map_scope sequential params private body) containers nodes =
       map (access_replaced params) (outside_accesses private (item_accesses body containers (nodes_behind nodes)))
   kind_accesses (consume_scope stream element private body) containers nodes =
       take_access (own_node nodes) stream ∷ outside_accesses (element ∷ private) (item_accesses body containers (nodes_behind nodes))

@@ -40,7 +40,7 @@ abbrev mutual
   -- how many nodes an item has so: its own, and those of the items of its body
   pub node_count : KindTree → ℕ
   node_count (task code ins outs) = 1
-  node_count (map_scope params private body) = suc (node_counts body)
+  node_count (map_scope sequential params private body) = suc (node_counts body)
   node_count (consume_scope stream element private body) = suc (node_counts body)
   node_count (nested_graph inner links) = 1
   node_count (reduction resolution axis identity from to) = 1

@@ -6,9 +6,9 @@ use Rattle.sd_graph.specs.ContainerParts.{Containers}
 use Rattle.sd_prop.specs.propagation.ItemNodes.{item_nodes, own_node, nodes_behind, past}
 use Rattle.sd_prop.specs.propagation.Accesses.{Access, item_accesses, outside_accesses}
 
--- what the body of a scope is done for: each point of a map with these parameters, or each element of a stream
+-- what the body of a scope is done for: each point of a map with these parameters, one after another where it is sequential, or each element of a stream
 pub data Over : Type 0 where
-  points : (params : List Parameter) → Over
+  points : (sequential : Bool) → (params : List Parameter) → Over
   elements : Over
 
 -- A scope: its path, of states and nodes in turn; the containers of its graph; the parameters of the maps around it, the outermost first;
@@ -22,8 +22,13 @@ pub record Scope : Type 0 where
 
 -- the parameters of a scope
 abbrev pub params_of : Over → List Parameter
-params_of (points params) = params
+params_of (points sequential params) = params
 params_of elements = []
+
+-- it is done at points that come one after another
+abbrev pub is_sequential : Over → Bool
+is_sequential (points sequential params) = sequential
+is_sequential elements = false
 
 -- one number more behind a path
 abbrev pub further : List ℕ → ℕ → List ℕ
@@ -42,7 +47,7 @@ scope_of over own body containers path around nodes = record {
 -- the scope that an item is
 abbrev pub scopes_itself : KindTree → Containers → (path : List ℕ) → (around : List Parameter) → (nodes : List ℕ) → List Scope
 scopes_itself (task code ins outs) containers path around nodes = []
-scopes_itself (map_scope params private body) containers path around nodes = scope_of (points params) private body containers path around nodes ∷ []
+scopes_itself (map_scope sequential params private body) containers path around nodes = scope_of (points sequential params) private body containers path around nodes ∷ []
 scopes_itself (consume_scope stream element private body) containers path around nodes = scope_of elements (element ∷ private) body containers path around nodes ∷ []
 scopes_itself (nested_graph inner links) containers path around nodes = []
 scopes_itself (reduction resolution axis identity from to) containers path around nodes = []
@@ -52,7 +57,7 @@ abbrev mutual
   -- those that are in an item
   pub scopes_inside : KindTree → Containers → (path : List ℕ) → (around : List Parameter) → (nodes : List ℕ) → List Scope
   scopes_inside (task code ins outs) containers path around nodes = []
-  scopes_inside (map_scope params private body) containers path around nodes = item_scopes body containers path (around ++ params) (nodes_behind nodes)
+  scopes_inside (map_scope sequential params private body) containers path around nodes = item_scopes body containers path (around ++ params) (nodes_behind nodes)
   scopes_inside (consume_scope stream element private body) containers path around nodes = item_scopes body containers path around (nodes_behind nodes)
   scopes_inside (nested_graph inner links) containers path around nodes = scopes_of inner (further path (own_node nodes))
   scopes_inside (reduction resolution axis identity from to) containers path around nodes = []

@@ -99,8 +99,12 @@ pub(crate) fn push_itself<'a, 'n>(
             params,
             private,
             body,
+            sequential,
         } => {
-            let over = Over::Points(joined(alloc, params, &[])?);
+            let over = Over::Points {
+                params: joined(alloc, params, &[])?,
+                sequential: *sequential,
+            };
             push_scope(
                 alloc, over, private, body, containers, path, around, nodes, found,
             )

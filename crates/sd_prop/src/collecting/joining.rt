@@ -145,7 +145,7 @@ fn params_of(over: &Over) -> &[(u32, Range)]
     ensures { result.now ≡ params_of (over_of over.now) }
 {
     match over {
-        Over::Points(params) => params.as_slice(),
+        Over::Points { params, .. } => params.as_slice(),
         Over::Elements => &[],
     }
 }

@@ -1,6 +1,7 @@
 //! A scope with the accesses of its body.
 ghost use Rattle.std.specs.Prelude.{◌≡◌, map};
 ghost use Rattle.sd_graph.specs.TreeFold.{named_container};
+ghost use Rattle.sd_prop.specs.propagation.Scopes.{is_sequential};
 ghost use Rattle.sd_prop.specs.collecting.Plain.{over_of};
 
 use crate::collecting::access::Access;
@@ -13,8 +14,11 @@ use std::marker::Model;
 /// What the body of a scope is done for.
 #[derive(Drop)]
 pub enum Over {
-    /// Each point of a map with these parameters.
-    Points(Vec<(u32, Range)>),
+    /// Each point of a map with these parameters, one after another where it is sequential.
+    Points {
+        params: Vec<(u32, Range)>,
+        sequential: bool,
+    },
     /// Each element of a stream.
     Elements,
 }
@@ -83,6 +87,16 @@ impl<'a> Scope<'a> {
         ensures { over_of result.now ≡ self.now.over }
     {
         &self.over
+    }
+
+    /// Whether it is a map whose points come one after another.
+    pub fn is_sequential(&self) -> bool
+        ensures { result ≡ is_sequential self.now.over }
+    {
+        match &self.over {
+            Over::Points { sequential, .. } => *sequential,
+            Over::Elements => false,
+        }
     }
 
     pub fn accesses(&self) -> &[Access]

@@ -48,6 +48,7 @@ fn push_kind<'n>(
             params,
             private,
             body,
+            ..
         } => {
             let mut inner = Vec::new(alloc);
             let rest = push_body(alloc, private, body, containers, behind, &mut inner)?;

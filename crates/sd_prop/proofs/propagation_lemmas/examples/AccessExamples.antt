@@ -1,5 +1,5 @@
 -- Accesses of small graphs, computed: their nodes, boxes and scopes.
-use Rattle.std.proofs.Common.{◌≡◌, ℕ, ℤ, pos, neg_ℤ, List, [], ◌∷◌, map, Some, None, codes, refl}
+use Rattle.std.proofs.Common.{◌≡◌, ℕ, ℤ, pos, neg_ℤ, List, [], ◌∷◌, map, Some, None, Bool, true, false, codes, refl}
 use Rattle.sd_num.specs.declared.resolution.Resolution.{Resolution}
 use Rattle.sd_num.specs.declared.resolution.Resolution.TheVariants.{Sum, Or}
 use Rattle.sd_range.specs.declared.affine.Affine.{Affine}
@@ -10,7 +10,7 @@ use Rattle.sd_graph.specs.Mode.{Mode, Read, Write, Resolve, Push}
 use Rattle.sd_graph.specs.declared.container.ContainerKind.TheVariants.{Argument, Private, Stream}
 use Rattle.sd_graph.proofs.examples.ExampleParts.{constant, affine, of_variable, from_to, link_of, code_of, container_of}
 use Rattle.sd_prop.specs.propagation.Accesses.{Access}
-use Rattle.sd_prop.specs.propagation.Scopes.{Scope, all_scopes, accesses_at}
+use Rattle.sd_prop.specs.propagation.Scopes.{points, Scope, all_scopes, accesses_at}
 use Rattle.sd_prop.specs.propagation.Joined.{annotated}
 
 abbrev pub access_by : (node container : ℕ) → Mode → Box → Access
@@ -32,12 +32,15 @@ any_code = code_of [] [] [] 0 no_act
 abbrev pub shifted : ℤ → Affine
 shifted number = affine number ((0, pos 1) ∷ [])
 
--- for i from 0 to 3: A[i] = A[i + by], in the state 1
-abbrev pub shift : (by : ℤ) → GraphTree
-shift by =
+-- for i from 0 to 3: A[i] = A[i + by], in the state 1, one point after another where it is sequential
+abbrev pub shift_of : (sequential : Bool) → (by : ℤ) → GraphTree
+shift_of sequential by =
     graph (codes "sh") ((codes "A", container_of (constant (pos 8) ∷ []) Argument) ∷ []) 1 (codes "i" ∷ []) 0
-    (and_state no_item [] (and_state (and_item 5 (map_scope ((0, from_to (pos 0) (pos 3)) ∷ []) [] (and_item 6 (task any_code
+    (and_state no_item [] (and_state (and_item 5 (map_scope sequential ((0, from_to (pos 0) (pos 3)) ∷ []) [] (and_item 6 (task any_code
     (link_of (codes "_in1") 0 (Index (shifted by) ∷ []) None ∷ []) (link_of (codes "_out") 0 (Index (shifted (pos 0)) ∷ []) None ∷ [])) no_item)) no_item) [] no_state))
+
+abbrev pub shift : (by : ℤ) → GraphTree
+shift by = shift_of false by
 
 accesses_of_a_shift : accesses_at (shift (pos 1)) (1 ∷ 1 ∷ []) ≡ Some (
     access_by 2 0 Read (element_at (shifted (pos 1) ∷ [])) ∷ access_by 2 0 Write (element_at (shifted (pos 0) ∷ [])) ∷ [])
@@ -46,6 +49,13 @@ accesses_of_a_shift = refl
 -- what is told of it: read A[4:8], write A[0:4]
 a_shift_as_a_whole : annotated (shift (pos 4)) ≡ (1 ∷ 1 ∷ [], access_by 2 0 Read (from_below (pos 4) (pos 7)) ∷ access_by 2 0 Write (from_below (pos 0) (pos 3)) ∷ []) ∷ []
 a_shift_as_a_whole = refl
+
+-- the scope of a sequential map is marked, and has the same accesses
+mark_of_a_sequential_shift : map (λ (scope : Scope). scope.over) (all_scopes (shift_of true (pos 1))) ≡ points true ((0, from_to (pos 0) (pos 3)) ∷ []) ∷ []
+mark_of_a_sequential_shift = refl
+
+accesses_of_a_sequential_shift : accesses_at (shift_of true (pos 1)) (1 ∷ 1 ∷ []) ≡ accesses_at (shift (pos 1)) (1 ∷ 1 ∷ [])
+accesses_of_a_sequential_shift = refl
 
 -- no scope has the path of a tasklet
 a_tasklet_is_no_scope : accesses_at (shift (pos 1)) (1 ∷ 2 ∷ []) ≡ None
@@ -57,9 +67,9 @@ abbrev pub scopes_in_a_scope : GraphTree
 scopes_in_a_scope =
     graph (codes "main") ((codes "A", container_of (constant (pos 4) ∷ constant (pos 4) ∷ []) Argument) ∷ (codes "B", container_of (constant (pos 4) ∷ constant (pos 4) ∷ []) Argument) ∷ []) 2
     (codes "i" ∷ codes "j" ∷ codes "k" ∷ []) 0
-    (and_state (and_item 11 (map_scope ((0, from_to (pos 2) (pos 4)) ∷ []) [] (
-    and_item 12 (map_scope ((1, from_to (pos 0) (neg_ℤ (pos 1))) ∷ []) [] (and_item 13 (task any_code [] []) no_item)) (
-    and_item 15 (map_scope ((2, from_to (pos 0) (neg_ℤ (pos 1))) ∷ []) [] (
+    (and_state (and_item 11 (map_scope false ((0, from_to (pos 2) (pos 4)) ∷ []) [] (
+    and_item 12 (map_scope false ((1, from_to (pos 0) (neg_ℤ (pos 1))) ∷ []) [] (and_item 13 (task any_code [] []) no_item)) (
+    and_item 15 (map_scope false ((2, from_to (pos 0) (neg_ℤ (pos 1))) ∷ []) [] (
     and_item 16 (task any_code (link_of (codes "_in1") 0 (Index (shifted (neg_ℤ (pos 1))) ∷ Index (constant (pos 0)) ∷ []) None ∷ link_of (codes "_in2") 1 (Index (shifted (neg_ℤ (pos 2))) ∷ Index (of_variable 2) ∷ []) None ∷ [])
     (link_of (codes "_out") 1 (Index (shifted (neg_ℤ (pos 2))) ∷ Index (of_variable 2) ∷ []) None ∷ [])) (
     and_item 17 (task any_code [] (link_of (codes "o") 0 (Index (constant (pos 3)) ∷ Index (constant (pos 0)) ∷ []) (Some Or) ∷ [])) no_item))) no_item))) no_item) [] no_state)
