@@ -1,6 +1,7 @@
 -- Worked sources: containers and variables in the order of the text, their kinds, and elements whose names are in use.
 use Rattle.std.proofs.Common.{◌≡◌, pos, List, [], ◌∷◌, Some, None, refl, codes}
 use Rattle.std.specs.Fmt.{digits}
+use Rattle.sd_num.specs.declared.width.Width.TheVariants.{W64}
 use Rattle.sd_lex.specs.PlainTree.{FunctionTree, StatementTree, named, number, no_expression, and_expression, argument_array, local_array, local_stream, map_scope, consume_scope, for_loop, while_loop, branch, input, Block, no_statement, and_statement}
 use Rattle.sd_range.specs.declared.affine.Affine.{Affine}
 use Rattle.sd_graph.specs.declared.container.Container.{Container}
@@ -12,7 +13,7 @@ use Rattle.sd_program.specs.DeclaredNames.{container_names}
 use Rattle.sd_task.specs.containers.Declarations.{containers_of_function, variable_names_all}
 
 abbrev container_of : List Affine → ContainerKind → Container
-container_of extents kind = record { extents = extents; kind = kind }
+container_of extents kind = record { extents = extents; kind = kind; width = W64 }
 
 abbrev one : Affine
 one = affine_number (pos 1)

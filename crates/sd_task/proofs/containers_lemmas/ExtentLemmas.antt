@@ -1,6 +1,7 @@
 -- The extents of a program's containers are within the limits.
 use Rattle.std.proofs.Common.{ℕ, List, [], ◌∷◌, ◌++◌, Bool, true, false, cond, pos, arith}
 use Rattle.std.specs.List.{AllByRecursion}
+use Rattle.sd_num.specs.declared.width.Width.TheVariants.{W64}
 use Rattle.sd_lex.specs.PlainTree.{StatementTree, argument_array, local_array, local_stream, assign, copy, reduce, map_scope, tasklet, consume_scope, call, for_loop, while_loop, branch, input, output, set, set_at, tasklet_branch, Block, no_statement, and_statement, Expressions, no_expression, and_expression, FunctionTree}
 use Rattle.sd_lex.specs.StatementKind.{has_connector}
 use Rattle.sd_graph.specs.declared.container.Container.{Container}
@@ -40,7 +41,7 @@ module _ (symbols : Named ℕ) (declared : List Name) where
     small_with (map_scope line parameters ranges body) in_scope containers small all = small_with_all body true containers small.1 all
     small_with (consume_scope line stream size name element worker body) in_scope containers small all =
         let with : Containers = with_element declared containers (has_connector body) element in
-        let with_small : HaveSmallExtents with = one_more_small containers (element_name declared containers (has_connector body) element) (record { extents = affine_number (pos 1) ∷ []; kind = Private }) all (one_within, tt) in
+        let with_small : HaveSmallExtents with = one_more_small containers (element_name declared containers (has_connector body) element) (record { extents = affine_number (pos 1) ∷ []; kind = Private; width = W64 }) all (one_within, tt) in
         by with with_small (has_connector body) (small_with_all body true with small.1 with_small)
       where
         by : (with : Containers) → HaveSmallExtents with → (is_task : Bool) → HaveSmallExtents (containers_with_all symbols declared body true with) → HaveSmallExtents (cond is_task with (containers_with_all symbols declared body true with))

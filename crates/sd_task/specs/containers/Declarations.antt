@@ -1,6 +1,7 @@
 -- The containers and variables that a program declares, in the order of the text.
 use Rattle.std.specs.Prelude.{ℕ, zero, suc, ◌+◌, pos, List, [], ◌∷◌, ◌++◌, length, map, Bool, true, false, cond, bytes_eq, decimal}
 use Rattle.std.specs.List.{list_any}
+use Rattle.sd_num.specs.declared.width.Width.TheVariants.{W64}
 use Rattle.sd_lex.specs.PlainTree.{StatementTree, argument_array, local_array, local_stream, map_scope, consume_scope, for_loop, while_loop, branch, Block, no_statement, and_statement, FunctionTree}
 use Rattle.sd_lex.specs.StatementKind.{has_connector}
 use Rattle.sd_graph.specs.declared.container.Container.{Container}
@@ -53,7 +54,7 @@ Containers = List (Name × Container)
 
 -- one more container, the last one
 abbrev pub followed_by : Containers → Name → List Affine → ContainerKind → Containers
-followed_by containers name extents kind = containers ++ (name, record { extents = extents; kind = kind }) ∷ []
+followed_by containers name extents kind = containers ++ (name, record { extents = extents; kind = kind; width = W64 }) ∷ []
 
 abbrev pub array_kind : (in_scope : Bool) → ContainerKind
 array_kind true = Private

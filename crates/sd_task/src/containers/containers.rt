@@ -17,7 +17,7 @@ use crate::containers::fresh::fresh_name;
 use crate::containers::name_list::set_of;
 use crate::in_force::{Scope, affine, number};
 use indexmap::{IndexMap, IndexSet};
-use sd_graph::{Container, ContainerKind};
+use sd_graph::{Container, ContainerKind, Width};
 use sd_lex::{Expr, Function, Statement, has_connector};
 use sd_list::{NoMemory, Sequence};
 use sd_range::Affine;
@@ -75,8 +75,12 @@ fn declare(
 ) -> Result<(), NoMemory>
     ensures { OnOk result (has_name (map named_container containers.old.entries) (string_bytes name) ≡ false → map named_container containers.new.entries ≡ definition.followed_by (map named_container containers.old.entries) (string_bytes name) extents.items kind) }
 {
-    let extents = Sequence::from(extents);
-    containers.insert(name, Container { extents, kind })?;
+    let container = Container {
+        extents: Sequence::from(extents),
+        kind,
+        width: Width::W64,
+    };
+    containers.insert(name, container)?;
     Ok(())
 }
 

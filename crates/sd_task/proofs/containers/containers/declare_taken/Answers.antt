@@ -1,4 +1,5 @@
 use Rattle.std.proofs.Common.{rules, ◌≡◌, List, [], ◌∷◌, map, subst, string_bytes, pos}
+use Rattle.sd_num.specs.declared.width.Width.TheVariants.{W64}
 use Rattle.sd_range.specs.declared.affine.Affine.{Affine}
 use Rattle.sd_graph.specs.TreeFold.{named_container}
 use Rattle.sd_graph.specs.declared.container.ContainerKind.TheVariants.{Private}
@@ -20,4 +21,4 @@ returns c =
     let grown : after ≡ followed_by before name c.in_ok-extents.extents.items Private = c.in_ok-declare.ensures (fresh_new declared before name c.in_ok-name.ensures.new) in
     subst (λ (extents : List Affine). Declares declared before [] (followed_by before (fresh_name (names_in_use declared before) c.args.name.now) extents Private) after) one
     (subst (λ (free : Name). Declares declared before [] (followed_by before free c.in_ok-extents.extents.items Private) after) named
-    (fresh_declared declared before after name (record { extents = c.in_ok-extents.extents.items; kind = Private }) c.in_ok-name.ensures.new grown))
+    (fresh_declared declared before after name (record { extents = c.in_ok-extents.extents.items; kind = Private; width = W64 }) c.in_ok-name.ensures.new grown))
