@@ -5,3 +5,4 @@ pub mod settling
 pub mod runs
 pub mod taking
 pub mod examples
+pub mod left

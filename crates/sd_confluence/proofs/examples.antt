@@ -2,3 +2,4 @@ pub mod TouchExamples
 pub mod SafeExamples
 pub mod AlikeExamples
 pub mod EventExamples
+pub mod SidesExamples

@@ -1,7 +1,7 @@
 -- Memories that differ in the order of streams alone.
 use Rattle.std.specs.Prelude.{◌≡◌, ℕ, suc, ℤ, List, [], ◌∷◌, cond, ⊤}
 use Rattle.std.specs.Ordering.{int_eq}
-use Rattle.sd_work.specs.Memory.{Contents, array, stream, Memory}
+use Rattle.sd_work.specs.Memory.{Contents, array, stream, Memory, Memories}
 use Rattle.sd_work.specs.Run.{Left}
 
 -- how often a value stands in a list
@@ -31,3 +31,10 @@ AreAlike (contents ∷ memory) (others ∷ other) = AreContentsAlike contents ot
 pub record LeaveAlike (left other : Left) : Type 0 where
   pub memory : AreAlike left.memory other.memory
   pub turns : left.turns ≡ other.turns
+
+-- two stacks of memories, each alike
+abbrev pub AreStacksAlike : Memories → Memories → Type 0
+AreStacksAlike [] [] = ⊤
+AreStacksAlike [] (memory ∷ other) = ⊥
+AreStacksAlike (memory ∷ memories) [] = ⊥
+AreStacksAlike (memory ∷ memories) (other ∷ others) = AreAlike memory other × AreStacksAlike memories others

@@ -1,3 +1,5 @@
 pub mod Safe
 pub mod Alike
 pub mod Event
+pub mod Left
+pub mod Sides

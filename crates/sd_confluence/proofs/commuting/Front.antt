@@ -38,7 +38,7 @@ moved_on w n m true u t e = ap (λ k. answered w k (makes true u t)) e
 moved_on w n m false u t e = ap (λ k. answered w k (makes false u t)) e
 
 -- two payments in the other order
-other_pays : (b c : Bool) (n k m : ℕ) → Pays b n k → Pays c k m → (j : ℕ) × Pays c n j × Pays b j m
+pub other_pays : (b c : Bool) (n k m : ℕ) → Pays b n k → Pays c k m → (j : ℕ) × Pays c n j × Pays b j m
 other_pays true true n k m e f = (suc m, e ∙ ap suc f, refl)
 other_pays true false n k m e f = (n, refl, e ∙ ap suc f)
 other_pays false true n k m e f = (m, e ∙ f, refl)

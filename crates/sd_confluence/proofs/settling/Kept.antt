@@ -18,7 +18,7 @@ use Rattle.sd_confluence.proofs.settling.Waits.{Waits, AllWait, ActiveWait}
 abbrev pub TouchesAtMost : {P : Type 0} → Term P → Term P → Type 0
 TouchesAtMost t x = (a : Touch) → Touches x a → Touches t a
 
-abbrev AtMostParts : {P : Type 0} → Terms P → Terms P → Type 0
+abbrev pub AtMostParts : {P : Type 0} → Terms P → Terms P → Type 0
 AtMostParts ts us = (k : ℕ) (a : Touch) → Touches (part_at us k) a → Touches (part_at ts k) a
 
 abbrev pub AtMostActive : {P : Type 0} → Actives P → Actives P → Type 0
@@ -100,12 +100,12 @@ mutual
       leaves_map (λ x. pool level container body x closed) (AtMostActive active) (TouchesAtMost (pool level container body active closed))
       (λ x g a h. elim h [ inl e ↦ inl e | inr y ↦ elim y [ inl z ↦ inr (inl (g a z)) | inr z ↦ inr (inr z) ] ]) (fire_active active k p s) (active_kept active k p s)
 
-  parts_kept : {P : Type 0} (ts : Terms P) (k : ℕ) (p : Path) (s : Memories) → Leaves (AtMostParts ts) (fire_part ts k p s)
+  pub parts_kept : {P : Type 0} (ts : Terms P) (k : ℕ) (p : Path) (s : Memories) → Leaves (AtMostParts ts) (fire_part ts k p s)
   parts_kept none k p s = tt
   parts_kept (also t ts) zero p s = leaves_map (λ x. also x ts) (TouchesAtMost t) (AtMostParts (also t ts)) (λ x g. first_less t x ts g) (fire t p s) (touches-kept t p s)
   parts_kept (also t ts) (suc k) p s = leaves_map (λ x. also t x) (AtMostParts ts) (AtMostParts (also t ts)) (λ x g. later_less t ts x g) (fire_part ts k p s) (parts_kept ts k p s)
 
-  active_kept : {P : Type 0} (ts : Actives P) (k : ℕ) (p : Path) (s : Memories) → Leaves (AtMostActive ts) (fire_active ts k p s)
+  pub active_kept : {P : Type 0} (ts : Actives P) (k : ℕ) (p : Path) (s : Memories) → Leaves (AtMostActive ts) (fire_active ts k p s)
   active_kept idle k p s = tt
   active_kept (busy v t ts) zero p s =
       leaves_map (λ x. busy v x ts) (TouchesAtMost t) (AtMostActive (busy v t ts)) (λ x g a h. elim h [ inl y ↦ inl (g a y) | inr y ↦ inr y ]) (fire t p s) (touches-kept t p s)
