@@ -8,6 +8,7 @@ pub mod Points
 pub mod Elements
 pub mod Items
 pub mod FirstUnfinished
+pub mod PointsReady
 pub mod Levels
 pub mod Owners
 pub mod Recounted

@@ -1,5 +1,5 @@
 -- What an item of the code is in the plain tree.
-use Rattle.std.proofs.Common.{◌≡◌, ℕ, ℤ, Option, Result, IfOk, sym, subst, Vec, Box}
+use Rattle.std.proofs.Common.{◌≡◌, ℕ, ℤ, Bool, Option, Result, IfOk, sym, subst, Vec, Box}
 use Rattle.std.specs.declared.alloc.Global.{Global}
 use Rattle.sd_num.specs.declared.resolution.Resolution.{Resolution}
 use Rattle.sd_range.specs.declared.range.Range.{Range}
@@ -21,9 +21,9 @@ pub task_kind : (code : Tasklet) (ins outs : Vec Link Global) → kind_tree (sha
 unfolding shape.roll-ItemKind denote.Hole.Carrier.roll
 task_kind code ins outs = fold-roll-ItemKind KindTree PlainItem GraphTree PlainState kind_step item_step graph_step state_step (layer.Task code ins outs)
 
-pub map_kind : (params : Vec (ℕ × Range) Global) (private : Vec ℕ Global) (body : Vec Item Global) → kind_tree (shape.Map params private body) ≡ map_scope params.items private.items (item_trees body.items)
+pub map_kind : (params : Vec (ℕ × Range) Global) (private : Vec ℕ Global) (body : Vec Item Global) (sequential : Bool) → kind_tree (shape.Map params private body sequential) ≡ map_scope sequential params.items private.items (item_trees body.items)
 unfolding shape.roll-ItemKind denote.Hole.Carrier.roll
-map_kind params private body = fold-roll-ItemKind KindTree PlainItem GraphTree PlainState kind_step item_step graph_step state_step (layer.Map params private body)
+map_kind params private body sequential = fold-roll-ItemKind KindTree PlainItem GraphTree PlainState kind_step item_step graph_step state_step (layer.Map params private body sequential)
 
 pub consume_kind : (stream element : ℕ) (private : Vec ℕ Global) (body : Vec Item Global) → kind_tree (shape.Consume stream element private body) ≡ consume_scope stream element private.items (item_trees body.items)
 unfolding shape.roll-ItemKind denote.Hole.Carrier.roll

@@ -8,7 +8,7 @@ use Rattle.sd_work.specs.Leaf.{Leaf}
 use Rattle.sd_work.specs.Residual.{leaf, list, pool, Points, idle}
 use Rattle.sd_graph.specs.PlainTree.{TaskletTree, KindTree, task, map_scope, consume_scope, ItemTrees}
 use Rattle.sd_graph.specs.Context.{Context, place_at}
-use Rattle.sd_graph.specs.Unfold.{in_any_order, task_of}
+use Rattle.sd_graph.specs.Unfold.{order_of_points, task_of}
 use Rattle.sd_graph.specs.declared.link.Link.{Link}
 use Rattle.sd_mem.specs.declared.machine.cell.Station.{Station}
 use Rattle.sd_leaves.specs.leaves.Done.{evaluation_of}
@@ -37,11 +37,11 @@ module _ (context : Context) (line : ℕ) where
   pub doing-begins : (kind : KindTree) (doing : Doing) (work : Leaf) → doing_left doing ≡ work → left_of (shape.Doing doing) kind line context ≡ leaf (place_at context line) work
   doing-begins kind doing work begun = doing_is kind line context doing ∙ ap (λ (work : Leaf). leaf (place_at context line) work) begun
 
-  pub map-begins : (params : List (ℕ × Range)) (private : List ℕ) (items : ItemTrees) (bodies : List BodyLeft) (left : LeftNow) →
-      left_of left (map_scope params private items) line context ≡ list Points in_any_order (points_left bodies (map_scope params private items) context) →
-      ArePointsBegun params private items context (points (ranges_of params) context.values) bodies → IsItemBegun (map_scope params private items) line context left
-  map-begins params private items bodies left kept begun =
-      kept ∙ ap (list Points in_any_order) (points-begin params private items context (points (ranges_of params) context.values) bodies begun)
+  pub map-begins : (sequential : Bool) (params : List (ℕ × Range)) (private : List ℕ) (items : ItemTrees) (bodies : List BodyLeft) (left : LeftNow) →
+      left_of left (map_scope sequential params private items) line context ≡ list Points (order_of_points sequential) (points_left bodies (map_scope sequential params private items) context) →
+      ArePointsBegun params private items context (points (ranges_of params) context.values) bodies → IsItemBegun (map_scope sequential params private items) line context left
+  map-begins sequential params private items bodies left kept begun =
+      kept ∙ ap (list Points (order_of_points sequential)) (points-begin sequential params private items context (points (ranges_of params) context.values) bodies begun)
 
   pub pool-begins : (stream element : ℕ) (private : List ℕ) (items : ItemTrees) (from : Station) (left : LeftNow) →
       from.level ≡ (context.reach stream).level → from.container ≡ (context.reach stream).container →

@@ -1,5 +1,5 @@
 -- Where the items of a body stand.
-use Rattle.std.proofs.Common.{◌≡◌, ℕ, ℤ, List, sym, ap, subst}
+use Rattle.std.proofs.Common.{◌≡◌, ℕ, ℤ, List, Bool, sym, ap, subst}
 use Rattle.sd_work.specs.Moves.{Path}
 use Rattle.sd_work.specs.BigStep.{Reached}
 use Rattle.sd_range.specs.declared.range.Range.{Range}
@@ -21,9 +21,9 @@ items_moved body new items others context inside path before after end same stan
     subst (λ (there : Context). AreItemsFired body others there path before end after new) stands (subst (λ (these : ItemTrees). AreItemsFired body these context path before end after new) same fired)
 
 -- where a point of a map stands
-pub map_moves : (kind : KindTree) (params : List (ℕ × Range)) (private : List ℕ) (items : ItemTrees) (context : Context) (at : List ℤ) (body new : BodyNow) (path : Path) (before after : Reached) (end : End) → kind ≡ map_scope params private items
+pub map_moves : (kind : KindTree) (sequential : Bool) (params : List (ℕ × Range)) (private : List ℕ) (items : ItemTrees) (context : Context) (at : List ℤ) (body new : BodyNow) (path : Path) (before after : Reached) (end : End) → kind ≡ map_scope sequential params private items
     → AreItemsFired body items (at_point context params private at) path before end after new → AreItemsFired body (body_of kind) (point_inside kind context at) path before end after new
-map_moves kind params private items context at body new path before after end same fired =
+map_moves kind sequential params private items context at body new path before after end same fired =
     subst (λ (k : KindTree). AreItemsFired body (body_of k) (point_inside k context at) path before end after new) (sym same) fired
 
 pub numbers_of : (body : BodyNow) → (out-Body body).at.items ≡ (body_kept body).at

@@ -5,7 +5,6 @@ use Rattle.sd_work.specs.Moves.{Path}
 use Rattle.sd_work.specs.BigStep.{Reached}
 use Rattle.sd_graph.specs.PlainTree.{KindTree}
 use Rattle.sd_graph.specs.Context.{Context}
-use Rattle.sd_graph.specs.Unfold.{in_any_order}
 use Rattle.sd_graph.specs.TreeFold.{kind_tree, item_trees}
 use Rattle.sd_graph.specs.declared.graph.Item.{Item}
 use Rattle.sd_graph.specs.declared.graph.ItemKind.TheViews.{out-Item}
@@ -86,12 +85,12 @@ part_put body number part x same order moves unfinished pools =
 module _ (kind : KindTree) (context : Context) (bodies : BodiesNow) (number : ℕ) (path : Path) (now : Reached) (over : length (out-Bodies bodies).bodies.items ≤ number) (right : (bodies_tell bodies).is_right ≡ true) where
   pub no_point : ArePointsFired bodies kind context (number ∷ path) now Finished now bodies
   no_point = record {
-    fired = retold (number ∷ path) now now Finished same same (kept-no-point body_kept (out-Bodies bodies).bodies.items number kind context path now over);
+    fired = λ order. retold (number ∷ path) now now Finished (same order) (same order) (kept-no-point body_kept order (out-Bodies bodies).bodies.items number kind context path now over);
     right = right;
   }
     where
-      same : list Points in_any_order (points_left (bodies_kept bodies) kind context) ≡ list Points in_any_order (points_left (map body_kept (out-Bodies bodies).bodies.items) kind context)
-      same = ap (λ (b : List BodyLeft). list Points in_any_order (points_left b kind context)) (bodies_opened bodies)
+      same : (order : ℕ → ℕ → Bool) → list Points order (points_left (bodies_kept bodies) kind context) ≡ list Points order (points_left (map body_kept (out-Bodies bodies).bodies.items) kind context)
+      same order = ap (λ (b : List BodyLeft). list Points order (points_left b kind context)) (bodies_opened bodies)
 
   pub no_element : (stream : Station) → AreElementsFired stream bodies kind context (1 ∷ number ∷ path) now Finished now bodies
   no_element stream = record {
@@ -116,10 +115,10 @@ module _ (kind : KindTree) (context : Context) (path : Path) (before after : Rea
   point_counted fires =
       let moved = fires (body_of_right bodies number old within is right) in
       record {
-        fired = retold (number ∷ path) before after end
-            (ap (λ (b : List BodyLeft). list Points in_any_order (points_left b kind context)) (bodies_opened bodies))
-            (ap (λ (b : List BodyLeft). list Points in_any_order (points_left b kind context)) kept_now)
-            (kept-point-fired body_kept (out-Bodies bodies).bodies.items number old new kind context path before after end within is
+        fired = λ order. retold (number ∷ path) before after end
+            (ap (λ (b : List BodyLeft). list Points order (points_left b kind context)) (bodies_opened bodies))
+            (ap (λ (b : List BodyLeft). list Points order (points_left b kind context)) kept_now)
+            (kept-point-fired body_kept order (out-Bodies bodies).bodies.items number old new kind context path before after end within is
             (inside-point (body_kept old) (body_kept new) kind context path before after end moved.fired));
         right = again bodies new has right moved.right;
       }

@@ -1,5 +1,5 @@
 -- Parts that are finished, by where the first unit of their counts is.
-use Rattle.std.proofs.Common.{◌≡◌, ℕ, zero, suc, ◌+◌, ◌<◌, ◌≤◌, nat_eq, List, [], ◌∷◌, take, map, get_or, Bool, true, false, ◌&&◌, refl, ap, ap₂, ◌∙◌, arith, rules}
+use Rattle.std.proofs.Common.{◌≡◌, ℕ, zero, suc, ◌+◌, ◌<◌, ◌≤◌, nat_eq, nat_le, List, [], ◌∷◌, take, map, get_or, Bool, true, false, ◌&&◌, refl, sym, ap, ap₂, ◌∙◌, arith, rules}
 use Rattle.std.specs.List.{sum}
 use Rattle.sd_work.specs.Settle.{all_true}
 use Rattle.sd_fire.proofs.settle_lemmas.Sums.{sum-more}
@@ -45,3 +45,11 @@ none-at-all (count ∷ counts) zero none = refl
 none-at-all (count ∷ counts) (suc number) none =
     let parted : sum (count ∷ counts) ≡ count + sum counts = sum-more count counts in
     ap₂ (λ (a b : Bool). a && b) (is-none count (omega (arith, none, parted))) (none-at-all counts number (omega (arith, none, parted)))
+
+-- so many are finished where the first unfinished one is not among them
+pub first-reaches : (counts : List ℕ) (first rest number : ℕ) → sum (take first counts) + rest ≡ 0 → rest < get_or counts first 0 → all-done (take number counts) ≡ nat_le number first
+first-reaches counts first rest number before inside = by-size (nat_le number first) refl
+  where
+    by-size : (within : Bool) → nat_le number first ≡ within → all-done (take number counts) ≡ nat_le number first
+    by-size true is = none-before counts first rest number before (search rules) ∙ sym is
+    by-size false is = one-behind counts first rest number before inside (search rules) ∙ sym is

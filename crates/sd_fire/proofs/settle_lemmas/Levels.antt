@@ -9,7 +9,7 @@ use Rattle.sd_moves.specs.numbered.Counts.{one_if}
 use Rattle.sd_moves.specs.numbered.OpenPools.{HasNoOpenPool}
 use Rattle.sd_graph.specs.PlainTree.{KindTree, no_item}
 use Rattle.sd_graph.specs.Context.{Context}
-use Rattle.sd_graph.specs.Unfold.{in_any_order}
+use Rattle.sd_graph.specs.Unfold.{order_of_points}
 use Rattle.sd_mem.specs.declared.machine.cell.Station.{Station}
 use Rattle.sd_leaves.specs.declared.moves.doing.Doing.{Doing}
 use Rattle.sd_leaves.specs.declared.moves.instance.Instance.{Instance}
@@ -91,16 +91,17 @@ module _ (may_go : Bool) (clear : ℕ) (memories : Memories) (left : LeftNow) (r
     right = right;
   }
 
-  pub map_settled : (old new : BodiesNow) → left ≡ shape.Points old → ((bodies_tell old).is_right ≡ true → ArePointsSettled old new may_go clear memories) → IsLeftSettled left (shape.Points new) may_go clear memories
-  map_settled old new is settles =
-      let points = settles (right_of (shape.Points old) (bodies_tell old) is (points_tell old)) in
+  pub map_settled : (sequential : Bool) (old new : BodiesNow) → left ≡ shape.Points sequential old → ((bodies_tell old).is_right ≡ true → ArePointsSettled sequential old new may_go clear memories)
+      → IsLeftSettled left (shape.Points sequential new) may_go clear memories
+  map_settled sequential old new is settles =
+      let points = settles (sym (ap (λ (l : LeftNow). (tells l).is_right) is ∙ ap is-right (points_tell sequential old)) ∙ right) in
       record {
         settled = λ cleared clears kind line context.
-            points_is kind line context new
-            ∙ ap (list Points in_any_order) (points.settled cleared clears kind context)
-            ∙ ap (settle may_go cleared memories) (sym (told (shape.Points old) kind line context is ∙ points_is kind line context old));
-        counted = points_counted memories new ∙ points.counted;
-        right = ap is-right (points_tell new) ∙ points.right;
+            points_is kind line context sequential new
+            ∙ ap (list Points (order_of_points sequential)) (points.settled cleared clears kind context)
+            ∙ ap (settle may_go cleared memories) (sym (told (shape.Points sequential old) kind line context is ∙ points_is kind line context sequential old));
+        counted = points_counted memories sequential new ∙ points.counted;
+        right = ap is-right (points_tell sequential new) ∙ points.right;
       }
 
   pub nested_settled : (old new : Box RunNow Global) → left ≡ shape.Nested old → ((run_tells old.value).is_right ≡ true → IsRunSettled old.value new.value may_go clear memories) → IsLeftSettled left (shape.Nested new) may_go clear memories

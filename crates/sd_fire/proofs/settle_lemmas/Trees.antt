@@ -1,12 +1,11 @@
 -- The work of trees whose counts are right, laid out, and where they have no open pools.
 use Rattle.std.proofs.Common.{◌≡◌, ℕ, zero, suc, nat_eq, ℤ, List, [], ◌∷◌, take, map, Bool, true, false, not, ◌&&◌, None, refl, ap, ap₂, ◌∙◌}
 use Rattle.sd_work.specs.Memory.{Memories}
-use Rattle.sd_work.specs.Residual.{Term, also, busy, none_active, ready_from}
+use Rattle.sd_work.specs.Residual.{Term, also, busy, none_active}
 use Rattle.sd_work.specs.Settle.{all_true}
 use Rattle.sd_moves.specs.numbered.Counts.{one_if}
 use Rattle.sd_graph.specs.PlainTree.{KindTree, ItemTrees, no_item}
 use Rattle.sd_graph.specs.Context.{Context}
-use Rattle.sd_graph.specs.Unfold.{in_any_order}
 use Rattle.sd_graph.specs.declared.place.Place.{Place}
 use Rattle.sd_left.specs.tree.Standing.{first_line, first_kind, others, behind, body_of, point_inside, element_inside, value_at, point_left, points_left, element_left, active_left, parts_left}
 use Rattle.sd_left.specs.declared.left.left.Left.{Left as LeftNow}
@@ -115,20 +114,15 @@ module _ (items : ItemTrees) (context : Context) where
 
 -- ---- flags
 
-pub any-ready : (j k : ℕ) (flags : List Bool) → ready_from in_any_order j flags k ≡ true
-any-ready j k [] = refl
-any-ready j k (true ∷ flags) = any-ready (suc j) k flags
-any-ready j k (false ∷ flags) = any-ready (suc j) k flags
-
 count-flag : (unfinished : Bool) → nat_eq (one_if unfinished) 0 ≡ not unfinished
 count-flag true = refl
 count-flag false = refl
 
-pub clear-flags : (number : ℕ) (tellings : List Telling) → all_true (map (λ count. nat_eq count 0) (take number (unfinished_told tellings))) ≡ all_true (take number (flags_told tellings))
+pub clear-flags : (number : ℕ) (tellings : List Telling) → map (λ count. nat_eq count 0) (take number (unfinished_told tellings)) ≡ take number (flags_told tellings)
 clear-flags zero [] = refl
 clear-flags zero (telling ∷ tellings) = refl
 clear-flags (suc number) [] = refl
-clear-flags (suc number) (telling ∷ tellings) = ap₂ (λ (a b : Bool). a && b) (count-flag telling.is_unfinished) (clear-flags number tellings)
+clear-flags (suc number) (telling ∷ tellings) = ap₂ (λ (flag : Bool) (flags : List Bool). flag ∷ flags) (count-flag telling.is_unfinished) (clear-flags number tellings)
 
 pub none-in-work : (kind : KindTree) (context : Context) (bodies : List BodyNow) → all_right (map body_tells bodies) ≡ true
     → none_active (active_left (map body_kept bodies) kind context) ≡ all_true (flags_told (map body_tells bodies))

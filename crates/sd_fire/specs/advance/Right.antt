@@ -5,7 +5,6 @@ use Rattle.sd_work.specs.Moves.{Path}
 use Rattle.sd_work.specs.BigStep.{Reached}
 use Rattle.sd_graph.specs.PlainTree.{KindTree, ItemTrees, GraphTree}
 use Rattle.sd_graph.specs.Context.{Context, Reach}
-use Rattle.sd_graph.specs.Unfold.{in_any_order}
 use Rattle.sd_graph.specs.declared.place.Frame.{Frame}
 use Rattle.sd_mem.specs.declared.machine.cell.Station.{Station}
 use Rattle.sd_mem.specs.declared.machine.end.End.{End}
@@ -23,9 +22,9 @@ pub record IsLeftFired (old : Left) (kind : KindTree) (line : ℕ) (context : Co
   pub fired : IsFired (left_of old kind line context) path before end after (left_of new kind line context)
   pub right : (tells new).is_right ≡ true
 
--- of the points of a map
+-- of the points of a map, in whatever order they come
 pub record ArePointsFired (old : Bodies) (kind : KindTree) (context : Context) (path : Path) (before : Reached) (end : End) (after : Reached) (new : Bodies) : Type 0 where
-  pub fired : IsFired (list Points in_any_order (points_left (bodies_kept old) kind context)) path before end after (list Points in_any_order (points_left (bodies_kept new) kind context))
+  pub fired : (order : ℕ → ℕ → Bool) → IsFired (list Points order (points_left (bodies_kept old) kind context)) path before end after (list Points order (points_left (bodies_kept new) kind context))
   pub right : (bodies_tell new).is_right ≡ true
 
 -- of a consume scope over a stream, open or closed

@@ -5,7 +5,7 @@ use Rattle.sd_work.specs.Residual.{Points}
 use Rattle.sd_work.specs.Settle.{settle, settle_parts, settle_active}
 use Rattle.sd_graph.specs.PlainTree.{KindTree, ItemTrees, GraphTree}
 use Rattle.sd_graph.specs.Context.{Context, Reach}
-use Rattle.sd_graph.specs.Unfold.{in_any_order}
+use Rattle.sd_graph.specs.Unfold.{order_of_points}
 use Rattle.sd_graph.specs.declared.place.Frame.{Frame}
 use Rattle.sd_mem.specs.declared.machine.cell.Station.{Station}
 use Rattle.sd_left.specs.tree.Standing.{body_left, points_left, active_left, run_left}
@@ -26,10 +26,10 @@ pub record IsLeftSettled (old new : Left) (may_go : Bool) (clear : ℕ) (memorie
   pub counted : is_counted new memories ≡ true
   pub right : (tells new).is_right ≡ true
 
--- the points of a map
-pub record ArePointsSettled (old new : Bodies) (may_go : Bool) (clear : ℕ) (memories : Memories) : Type 0 where
+-- the points of a map, sequential or not
+pub record ArePointsSettled (sequential : Bool) (old new : Bodies) (may_go : Bool) (clear : ℕ) (memories : Memories) : Type 0 where
   pub settled : (cleared : List Bool) → ClearsTo cleared clear → (kind : KindTree) (context : Context)
-      → points_left (bodies_kept new) kind context ≡ settle_parts may_go cleared memories Points in_any_order [] 0 (points_left (bodies_kept old) kind context)
+      → points_left (bodies_kept new) kind context ≡ settle_parts may_go cleared memories Points (order_of_points sequential) [] 0 (points_left (bodies_kept old) kind context)
   pub counted : are_bodies_counted new memories ≡ true
   pub right : (bodies_tell new).is_right ≡ true
 

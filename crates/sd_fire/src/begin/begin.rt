@@ -47,7 +47,18 @@ pub fn begin_item(
             params,
             private,
             body,
-        } => begin_map(alloc, body, params, private, graph, base, scope, machine),
+            sequential,
+        } => begin_map(
+            alloc,
+            body,
+            params,
+            private,
+            *sequential,
+            graph,
+            base,
+            scope,
+            machine,
+        ),
         ItemKind::Consume { stream, .. } => begin_pool(alloc, *stream, base, scope, machine),
         ItemKind::Nested {
             graph: inner,
@@ -97,25 +108,26 @@ fn begin_items(
     Ok(parts)
 }
 
-/// A map: at each of its points the items of its body, inside the point's memory.
+/// A map, sequential or not: at each of its points the items of its body, inside the point's memory.
 #[cycle(begin)]
 fn begin_map(
     alloc: Global,
     body: &[Item],
     params: &[(u32, Range)],
     private: &[u32],
+    sequential: bool,
     graph: &Sdfg,
     base: &Base,
     scope: &Scope,
     machine: &mut Machine,
 ) -> Result<Left, NoMemory>
-    ensures begun { IfOk result (λ left. (line : ℕ) → IsItemBegun (map_scope params.now private.now (item_trees body.now)) line (context_of (graph_tree graph.now) base.now scope.now) left) }
+    ensures begun { IfOk result (λ left. (line : ℕ) → IsItemBegun (map_scope sequential params.now private.now (item_trees body.now)) line (context_of (graph_tree graph.now) base.now scope.now) left) }
     ensures counted { IfOk result (λ left. is_counted left machine.old.memories ≡ true) }
     ensures right { IfOk result (λ left. (tells left).is_right ≡ true) }
     ensures stays { machine.new ≡ machine.old }
 {
     let points = begin_points(alloc, body, params, private, graph, base, scope, machine)?;
-    Left::points(alloc, points)
+    Left::points(alloc, sequential, points)
 }
 
 /// The points of a map, in row order.

@@ -41,7 +41,7 @@ pub fn fire_left(
             fire_instance(alloc, instance, kind, line, graph, base, scope, machine)
         }
         Left::Doing(doing) => doing.step(alloc, line, graph, base, scope, machine),
-        Left::Points(points) => {
+        Left::Points { points, .. } => {
             fire_points(alloc, points, path, kind, graph, base, scope, machine)
         }
         Left::Pool { stream, active, .. } => {
@@ -78,6 +78,7 @@ fn fire_points(
         params,
         private,
         body,
+        ..
     } = kind
     else {
         return Err(NoMemory);

@@ -9,7 +9,7 @@ ghost use Rattle.sd_left.specs.left.Waits.{is_run_counted};
 ghost use Rattle.sd_left.specs.left.Tells.{tells, bodies_tell, body_tells, run_tells};
 ghost use Rattle.sd_fire.specs.settle.Settled.{IsLeftSettled, ArePointsSettled, AreElementsSettled, IsPoolSettled, AreItemsSettled, IsBodySettled, IsRunSettled, IsOneSettled, IsPartSettled};
 
-use crate::settle::behind::{clear_behind, may_part_go};
+use crate::settle::behind::{clear_behind, may_part_go, may_point_go};
 use sd_left::{Bodies, Body, Left, Run, are_finished, pools_of, pools_of_body};
 use sd_list::NoMemory;
 use sd_mem::{Machine, Station};
@@ -137,7 +137,15 @@ fn settle_left(
     match left {
         Left::Instance(_) => Ok(()),
         Left::Doing(_) => Ok(()),
-        Left::Points(points) => settle_points(alloc, points, may_go, clear, depth, machine),
+        Left::Points { sequential, points } => settle_points(
+            alloc,
+            points,
+            *sequential,
+            may_go,
+            clear,
+            depth,
+            machine,
+        ),
         Left::Pool {
             stream,
             active,
@@ -166,17 +174,19 @@ fn settle_nested(
     settle_inside(alloc, run, may_go, clear, depth, machine)
 }
 
-/// The points of a map. Behind one that is unfinished no memory outside of the map is clear.
+/// The points of a map. Behind one that is unfinished no memory outside of the map is clear, and in a sequential map no point may
+/// go on.
 #[cycle(settle)]
 fn settle_points(
     alloc: Global,
     points: &mut Bodies,
+    sequential: bool,
     may_go: bool,
     clear: usize,
     depth: usize,
     machine: &mut Machine,
 ) -> Result<(), NoMemory>
-    ensures settled { OnOk result ((bodies_tell points.old).is_right ≡ true → ArePointsSettled points.old points.new may_go clear machine.old.memories) }
+    ensures settled { OnOk result ((bodies_tell points.old).is_right ≡ true → ArePointsSettled sequential points.old points.new may_go clear machine.old.memories) }
     ensures stays { machine.new ≡ machine.old }
 {
     let mut unit: u64 = 0;
@@ -184,8 +194,10 @@ fn settle_points(
         let Some(found) = points.open.find(unit) else {
             return Ok(());
         };
-        let outside = clear_behind(&points.unfinished, found.number, clear);
-        let pools = settle_one(alloc, points, found.number, may_go, outside, depth, machine)?;
+        let number = found.number;
+        let ready = may_point_go(&points.unfinished, number, sequential, may_go);
+        let outside = clear_behind(&points.unfinished, number, clear);
+        let pools = settle_one(alloc, points, number, ready, outside, depth, machine)?;
         unit = unit.checked_add(pools).ok_or(NoMemory)?;
     }
     Ok(())

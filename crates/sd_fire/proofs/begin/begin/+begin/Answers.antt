@@ -43,8 +43,8 @@ begin_item-returns-in-Task-clause-counted t c = IfOk-weaker c.begin_task.result 
 
 pub begin_item-returns-in-Map-clause-begun : goal.begin_item-returns-in-Map-clause-begun
 begin_item-returns-in-Map-clause-begun t c =
-    as-kind c.begin_map.result (kind_tree c.args.kind.now) (map_scope c.in-Map.params.items c.in-Map.private.items (item_trees c.in-Map.body.items)) c.args.line (context_of (graph_tree c.args.graph.now) c.args.base.now c.args.scope.now)
-    (ap kind_tree c.in-Map.is ∙ map_kind c.in-Map.params c.in-Map.private c.in-Map.body)
+    as-kind c.begin_map.result (kind_tree c.args.kind.now) (map_scope c.in-Map.sequential c.in-Map.params.items c.in-Map.private.items (item_trees c.in-Map.body.items)) c.args.line (context_of (graph_tree c.args.graph.now) c.args.base.now c.args.scope.now)
+    (ap kind_tree c.in-Map.is ∙ map_kind c.in-Map.params c.in-Map.private c.in-Map.body c.in-Map.sequential)
     (rw (sym c.deref-in-Map-2.ensures.value, sym c.deref-in-Map-3.ensures.value, sym c.deref-in-Map.ensures.value) (IfOk-weaker c.begin_map.result _ _ (λ left begun. begun c.args.line) c.begin_map.ensures.begun))
 
 pub begin_item-returns-in-Consume-clause-begun : goal.begin_item-returns-in-Consume-clause-begun
@@ -102,8 +102,8 @@ begin_items-returns-clause-begun t c =
 
 pub begin_map-returns-clause-begun : goal.begin_map-returns-clause-begun
 begin_map-returns-clause-begun t c = IfOk-weaker c.points.result _ _ (λ left kept line.
-    map-begins (context_of (graph_tree c.args.graph.now) c.args.base.now c.args.scope.now) line c.args.params.now c.args.private.now (item_trees c.args.body.now) (map body_kept c.in_ok-points.points.items) left
-    (kept (map_scope c.args.params.now c.args.private.now (item_trees c.args.body.now)) line (context_of (graph_tree c.args.graph.now) c.args.base.now c.args.scope.now)) c.in_ok-points.ensures.begun) c.points.ensures.kept
+    map-begins (context_of (graph_tree c.args.graph.now) c.args.base.now c.args.scope.now) line c.args.sequential c.args.params.now c.args.private.now (item_trees c.args.body.now) (map body_kept c.in_ok-points.points.items) left
+    (kept (map_scope c.args.sequential c.args.params.now c.args.private.now (item_trees c.args.body.now)) line (context_of (graph_tree c.args.graph.now) c.args.base.now c.args.scope.now)) c.in_ok-points.ensures.begun) c.points.ensures.kept
 
 pub begin_map-returns-clause-counted : goal.begin_map-returns-clause-counted
 begin_map-returns-clause-counted t c = IfOk-weaker c.points.result _ _ (λ left counted. counted c.args.machine.now.memories ∙ c.in_ok-points.ensures.counted) c.points.ensures.counted

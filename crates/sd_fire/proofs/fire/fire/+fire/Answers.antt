@@ -58,8 +58,8 @@ fire_points-returns t c = λ right.
     (point_counted kind context c.in-Some.inner.now c.args.machine.now c.fire_point.new.machine c.in_ok-end.end points _ c.count_again.new.self number point c.fire_point.new.point
     (omega (arith, c.if-number-len.false, c.len.ensures, (out-Bodies points).bodies.ok.0)) c.index_mut-point.ensures.value
     (body_put points number c.fire_point.new.point _ refl refl refl refl) c.in_ok-count_again.ensures.bodies c.in_ok-count_again.ensures.right right
-    (λ one. map_moves kind c.deref-2.result.now c.deref-3.result.now (item_trees c.deref.result.now) context (body_kept point).at point c.fire_point.new.point c.in-Some.inner.now c.args.machine.now c.fire_point.new.machine c.in_ok-end.end
-    (map_here c.args.kind.now c.in-Map.params c.in-Map.private c.in-Map.body c.deref-2.result.now c.deref-3.result.now c.deref.result.now c.in-Map.is c.deref-2.ensures.value c.deref-3.ensures.value c.deref.ensures.value)
+    (λ one. map_moves kind c.in-Map.sequential c.deref-2.result.now c.deref-3.result.now (item_trees c.deref.result.now) context (body_kept point).at point c.fire_point.new.point c.in-Some.inner.now c.args.machine.now c.fire_point.new.machine c.in_ok-end.end
+    (map_here c.args.kind.now c.in-Map.params c.in-Map.private c.in-Map.body c.in-Map.sequential c.deref-2.result.now c.deref-3.result.now c.deref.result.now c.in-Map.is c.deref-2.ensures.value c.deref-3.ensures.value c.deref.ensures.value)
     (c.in_ok-end.ensures one)))
 
 pub fire_point-returns : goal.fire_point-returns

@@ -46,7 +46,7 @@ pub settle_points-loop-init : goal.settle_points-loop-init
 settle_points-loop-init t c = record {
   machine = refl;
   end = search rules;
-  so_far = λ right. points-begin c.args.may_go c.args.clear c.args.machine.now.memories c.args.points.now right;
+  so_far = λ right. points-begin c.args.sequential c.args.may_go c.args.clear c.args.machine.now.memories c.args.points.now right;
 }
 
 pub settle_points-loop-preserved : goal.settle_points-loop-preserved
@@ -56,18 +56,18 @@ settle_points-loop-preserved t c = record {
   so_far = λ right.
       let so_far = c.loop.invariant.so_far right in
       let unit : c.in_ok-unit.unit ≡ c.loop.unit + c.in_ok-pools.pools = search rules in
-      points-turn c.args.may_go c.args.clear c.args.machine.now.memories c.args.points.now c.loop.points c.settle_one.new.bodies c.loop.counter (c.loop.counter + 1) c.loop.unit c.in_ok-unit.unit c.in_ok-pools.pools c.clear_behind-outside.result c.in-Some.found c.loop.machine.memories
-      (omega arith) unit (ap (λ m. m.memories) c.loop.invariant.machine) c.clear_behind-outside.ensures so_far c.in-Some.ensures (c.in_ok-pools.ensures.settled so_far.right);
+      points-turn c.args.sequential c.args.may_go c.args.clear c.args.machine.now.memories c.args.points.now c.loop.points c.settle_one.new.bodies c.loop.counter (c.loop.counter + 1) c.loop.unit c.in_ok-unit.unit c.in_ok-pools.pools c.clear_behind-outside.result c.may_point_go-ready.result c.in-Some.found c.loop.machine.memories
+      (omega arith) unit (ap (λ m. m.memories) c.loop.invariant.machine) c.may_point_go-ready.ensures c.clear_behind-outside.ensures so_far c.in-Some.ensures (c.in_ok-pools.ensures.settled so_far.right);
 }
 
 pub settle_points-returns-clause-settled : goal.settle_points-returns-clause-settled
 settle_points-returns-clause-settled t c = λ right.
     let over : length (all_bodies c.args.points.now) ≤ c.loop.counter = search rules in
-    points-over c.args.may_go c.args.clear c.args.machine.now.memories c.args.points.now c.loop.points c.loop.counter c.loop.unit (c.loop.invariant.so_far right) over
+    points-over c.args.sequential c.args.may_go c.args.clear c.args.machine.now.memories c.args.points.now c.loop.points c.loop.counter c.loop.unit (c.loop.invariant.so_far right) over
 
 pub settle_points-returns-in_default-clause-settled : goal.settle_points-returns-in_default-clause-settled
 settle_points-returns-in_default-clause-settled t c = λ right.
-    points-none c.args.may_go c.args.clear c.args.machine.now.memories c.args.points.now c.loop.points c.loop.counter c.loop.unit (c.loop.invariant.so_far right) c.in_default.ensures
+    points-none c.args.sequential c.args.may_go c.args.clear c.args.machine.now.memories c.args.points.now c.loop.points c.loop.counter c.loop.unit (c.loop.invariant.so_far right) c.in_default.ensures
 
 pub settle_items-loop-init : goal.settle_items-loop-init
 settle_items-loop-init t c = record {

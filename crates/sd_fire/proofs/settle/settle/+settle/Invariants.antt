@@ -53,5 +53,5 @@ abbrev pub invariant-settle_points-loop : goal.invariant-settle_points-loop
 invariant-settle_points-loop l = record {
   machine : l.machine ≡ l.fn.machine;
   end : l.end ≡ length (all_bodies l.fn.points);
-  so_far : (bodies_tell l.fn.points).is_right ≡ true → PointsSoFar l.may_go l.clear l.fn.machine.memories l.fn.points l.points l.counter l.unit;
+  so_far : (bodies_tell l.fn.points).is_right ≡ true → PointsSoFar l.sequential l.may_go l.clear l.fn.machine.memories l.fn.points l.points l.counter l.unit;
 }
