@@ -2,6 +2,8 @@
 use Rattle.std.specs.Prelude.{ℕ, suc, ◌+◌, List, [], ◌∷◌, ◌++◌, length, codes, Bool, true, false, if◌then◌else◌, slice_index_or}
 use Rattle.std.specs.List.{flat_map}
 use Rattle.std.specs.Fmt.{decimal}
+use Rattle.sd_num.specs.declared.width.Width.{Width}
+use Rattle.sd_num.specs.declared.width.Width.TheVariants.{W32, W64}
 use Rattle.sd_range.specs.declared.affine.Affine.{Affine}
 use Rattle.sd_graph.specs.PlainTree.{KindTree, task, map_scope, consume_scope, nested_graph, reduction, copy, ItemTrees, no_item, and_item, StateTrees, no_state, and_state, ExitTree, GraphTree, graph}
 use Rattle.sd_graph.specs.ContainerParts.{Containers, is_stream}
@@ -16,11 +18,16 @@ use Rattle.sd_print.specs.graphs.AffineText.{affine_text}
 use Rattle.sd_print.specs.graphs.StateText.{order_of, state_text}
 
 abbrev pub kind_words : ContainerKind → List ℕ
-kind_words Argument = codes "array "
-kind_words Transient = codes "transient "
-kind_words Private = codes "private "
-kind_words Stream = codes "stream "
-kind_words PrivateStream = codes "private stream "
+kind_words Argument = codes "array"
+kind_words Transient = codes "transient"
+kind_words Private = codes "private"
+kind_words Stream = codes "stream"
+kind_words PrivateStream = codes "private stream"
+
+-- the number of bits behind the word for a kind; nothing for 64
+abbrev pub width_text : Width → List ℕ
+width_text W32 = codes "32"
+width_text W64 = []
 
 -- extents, joined by commas
 abbrev pub extents_text : (names : List (List ℕ)) → List Affine → List ℕ
@@ -32,7 +39,7 @@ abbrev pub shape_text : (names : List (List ℕ)) → Container → List ℕ
 shape_text names container = if is_stream container.kind then [] else codes "[" ++ (extents_text names container.extents ++ codes "]")
 
 abbrev pub container_text : (names : List (List ℕ)) → List ℕ × Container → List ℕ
-container_text names entry = kind_words entry.1.kind ++ (entry.0 ++ (shape_text names entry.1 ++ codes "\n"))
+container_text names entry = kind_words entry.1.kind ++ (width_text entry.1.width ++ (codes " " ++ (entry.0 ++ (shape_text names entry.1 ++ codes "\n"))))
 
 -- a graph's name and its containers
 abbrev pub head_text : (name : List ℕ) → (names : List (List ℕ)) → Containers → List ℕ
@@ -62,7 +69,7 @@ nested_nodes number (node ∷ nodes) = (if is_nested node.kind then number ∷ [
 abbrev mutual
   pub count_in_kind : KindTree → ℕ
   count_in_kind (task code ins outs) = 0
-  count_in_kind (map_scope params private body) = count_in_items body
+  count_in_kind (map_scope sequential params private body) = count_in_items body
   count_in_kind (consume_scope stream element private body) = count_in_items body
   count_in_kind (nested_graph inner links) = 1
   count_in_kind (reduction resolution axis identity from to) = 0
@@ -93,7 +100,7 @@ abbrev mutual
 
   pub kind_at : KindTree → (nodes : List ℕ) → (place : ℕ) → (path : List ℕ) → List ℕ
   kind_at (task code ins outs) nodes place path = []
-  kind_at (map_scope params private body) nodes place path = nested_at body nodes place path
+  kind_at (map_scope sequential params private body) nodes place path = nested_at body nodes place path
   kind_at (consume_scope stream element private body) nodes place path = nested_at body nodes place path
   kind_at (nested_graph inner links) nodes place path =
       codes "in " ++ (path_text (path ++ slice_index_or nodes place 0 ∷ []) ++ (codes "\n" ++ graph_at inner (path ++ slice_index_or nodes place 0 ∷ [])))

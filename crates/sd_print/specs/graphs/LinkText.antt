@@ -1,5 +1,5 @@
 -- The texts of memlets and edges.
-use Rattle.std.specs.Prelude.{ℕ, ℤ, pos, List, [], ◌∷◌, ◌++◌, codes, Option, Some, None, Bool, if◌then◌else◌}
+use Rattle.std.specs.Prelude.{ℕ, ℤ, pos, List, [], ◌++◌, codes, Option, Some, None, if◌then◌else◌}
 use Rattle.std.specs.Ordering.{int_eq}
 use Rattle.std.specs.Fmt.{decimal, signed_decimal}
 use Rattle.sd_num.specs.declared.resolution.Resolution.{Resolution}

@@ -28,6 +28,11 @@ identity_text (Some identity) = codes " identity " ++ signed_decimal identity
 abbrev pub reduction_text : Resolution → (axis : Option ℕ) → (identity : Option ℤ) → List ℕ
 reduction_text resolution axis identity = codes "reduce " ++ (resolution_word resolution ++ (axis_text axis ++ identity_text identity))
 
+-- the word behind the parameters of a sequential map
+abbrev pub sequential_text : (sequential : Bool) → List ℕ
+sequential_text true = codes " sequential"
+sequential_text false = []
+
 module _ (names : List (List ℕ)) (order : List ℕ) where
   -- a parameter with its range
   abbrev pub param_text : ℕ × Range → List ℕ
@@ -37,11 +42,14 @@ module _ (names : List (List ℕ)) (order : List ℕ) where
   params_text [] = []
   params_text (param ∷ params) = param_text param ++ flat_map (λ other. codes ", " ++ param_text other) params
 
+  abbrev pub map_text : (sequential : Bool) → List (ℕ × Range) → List ℕ
+  map_text sequential params = codes "map " ++ (params_text params ++ sequential_text sequential)
+
 module _ (names : List (List ℕ)) (containers : Containers) (order : List ℕ) where
   -- what the node of an item shows, for a scope its entry
   abbrev pub label : (line : ℕ) → KindTree → List ℕ
   label line (task code ins outs) = codes "tasklet line " ++ decimal line
-  label line (map_scope params private body) = codes "map " ++ params_text names order params
+  label line (map_scope sequential params private body) = map_text names order sequential params
   label line (consume_scope stream element private body) = codes "consume " ++ (name_at containers stream ++ (codes " as " ++ name_at containers element))
   label line (nested_graph inner links) = codes "nested " ++ graph_name inner
   label line (reduction resolution axis identity from to) = reduction_text resolution axis identity
@@ -51,7 +59,7 @@ module _ (names : List (List ℕ)) (containers : Containers) (order : List ℕ) 
   abbrev mutual
     pub body_labels : KindTree → List (List ℕ)
     body_labels (task code ins outs) = []
-    body_labels (map_scope params private body) = labels body
+    body_labels (map_scope sequential params private body) = labels body
     body_labels (consume_scope stream element private body) = labels body
     body_labels (nested_graph inner links) = []
     body_labels (reduction resolution axis identity from to) = []

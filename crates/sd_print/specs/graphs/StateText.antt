@@ -1,5 +1,5 @@
 -- The text of a state, the graphs nested in it aside.
-use Rattle.std.specs.Prelude.{ℕ, List, [], ◌∷◌, ◌++◌, map, length, codes, Option, Some, None, if◌then◌else◌}
+use Rattle.std.specs.Prelude.{ℕ, List, [], ◌++◌, map, codes, Option, Some, None, if◌then◌else◌}
 use Rattle.std.specs.List.{flat_map}
 use Rattle.std.specs.Fmt.{decimal}
 use Rattle.sd_range.specs.declared.affine.Affine.{Affine}
@@ -15,7 +15,7 @@ use Rattle.sd_print.specs.graphs.NodeText.{labels, nodes_text}
 abbrev mutual
   pub kind_params : KindTree → List ℕ
   kind_params (task code ins outs) = []
-  kind_params (map_scope params private body) = map (λ param. param.0) params ++ item_params body
+  kind_params (map_scope sequential params private body) = map (λ param. param.0) params ++ item_params body
   kind_params (consume_scope stream element private body) = item_params body
   kind_params (nested_graph inner links) = []
   kind_params (reduction resolution axis identity from to) = []

@@ -9,6 +9,7 @@ use crate::graphs::affine::push_affine;
 use indexmap::IndexMap;
 use sd_graph::{Container, ContainerKind};
 use sd_list::NoMemory;
+use sd_num::Width;
 use sd_range::Affine;
 use std::alloc::Global;
 
@@ -46,16 +47,26 @@ pub fn names_stream(containers: &IndexMap<String, Container>, container: u32) ->
     }
 }
 
-/// The word for a kind of container, with the space behind it.
+/// The words for a kind of container.
 fn kind_words(kind: ContainerKind) -> &'static str
     ensures { result.now ≡ definition.kind_words kind }
 {
     match kind {
-        ContainerKind::Argument => "array ",
-        ContainerKind::Transient => "transient ",
-        ContainerKind::Private => "private ",
-        ContainerKind::Stream => "stream ",
-        ContainerKind::PrivateStream => "private stream ",
+        ContainerKind::Argument => "array",
+        ContainerKind::Transient => "transient",
+        ContainerKind::Private => "private",
+        ContainerKind::Stream => "stream",
+        ContainerKind::PrivateStream => "private stream",
+    }
+}
+
+/// The number of bits behind the word for a kind, where there are not 64.
+fn width_text(width: Width) -> &'static str
+    ensures { result.now ≡ definition.width_text width }
+{
+    match width {
+        Width::W32 => "32",
+        Width::W64 => "",
     }
 }
 
@@ -108,6 +119,8 @@ fn push_container(
     ensures { OnOk result (string_bytes text.new ≡ string_bytes text.old ++ definition.container_text (map string_bytes names.now) (name.now, container.now)) }
 {
     text.push_str(kind_words(container.kind))?;
+    text.push_str(width_text(container.width))?;
+    text.push_str(" ")?;
     text.push_str(name)?;
     push_shape(alloc, text, names, container)?;
     text.push_str("\n")?;

@@ -59,6 +59,30 @@ fn push_params(
     Ok(())
 }
 
+/// The word behind the parameters of a sequential map.
+fn sequential_text(sequential: bool) -> &'static str
+    ensures { result.now ≡ definition.sequential_text sequential }
+{
+    if sequential { " sequential" } else { "" }
+}
+
+/// Adds what the entry of a map shows.
+fn push_map(
+    alloc: Global,
+    text: &mut String,
+    names: &[String],
+    order: &[u32],
+    sequential: bool,
+    params: &[(u32, Range)],
+) -> Result<(), NoMemory>
+    ensures { OnOk result (string_bytes text.new ≡ string_bytes text.old ++ definition.map_text (map string_bytes names.now) order.now sequential params.now) }
+{
+    text.push_str("map ")?;
+    push_params(alloc, text, names, order, params)?;
+    text.push_str(sequential_text(sequential))?;
+    Ok(())
+}
+
 /// Adds what the node of a reduction shows.
 fn push_reduction(
     text: &mut String,
@@ -92,10 +116,11 @@ fn label(
     let mut text = String::new(alloc);
     match kind {
         ItemKind::Task { .. } => write!(text, "tasklet line {line}")?,
-        ItemKind::Map { params, .. } => {
-            text.push_str("map ")?;
-            push_params(alloc, &mut text, names, order, params)?;
-        }
+        ItemKind::Map {
+            params,
+            sequential,
+            ..
+        } => push_map(alloc, &mut text, names, order, *sequential, params)?,
         ItemKind::Consume {
             stream,
             element,
