@@ -31,7 +31,7 @@ containers_there place = containers_by place.graph place.thing
 mutual
   kind_listed : (kind : KindTree) (place : Place) → flat_map containers_there (places_in kind place) ≡ kind_containers kind
   kind_listed (task code ins outs) place = refl
-  kind_listed (map_scope params private body) place = items_listed body place (in_map place.scopes params private) 0
+  kind_listed (map_scope sequential params private body) place = items_listed body place (in_map place.scopes params private) 0
   kind_listed (consume_scope stream element private body) place = items_listed body place (in_consume place.scopes element private) 0
   kind_listed (nested_graph inner links) place = graph_listed inner place.path (suc place.depth)
   kind_listed (reduction resolution axis identity from to) place = refl

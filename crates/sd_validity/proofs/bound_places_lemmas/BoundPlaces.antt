@@ -24,7 +24,7 @@ state_same sizes around number items exits i =
 mutual
   kind_bound : (sizes : List ℤ) (kind : KindTree) (place : Place) → places_in (bound_kind sizes kind) (bound_place sizes place) ≡ map (bound_place sizes) (places_in kind place)
   kind_bound sizes (task code ins outs) place = refl
-  kind_bound sizes (map_scope params private body) place =
+  kind_bound sizes (map_scope sequential params private body) place =
       ap (λ scopes. item_places (bound_items sizes body) (bound_place sizes place) scopes 0) (in_map_same sizes place.scopes params private)
       ∙ items_bound sizes body place (in_map place.scopes params private) 0
   kind_bound sizes (consume_scope stream element private body) place = items_bound sizes body place (in_consume place.scopes element private) 0

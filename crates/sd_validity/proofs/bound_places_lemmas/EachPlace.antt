@@ -24,7 +24,7 @@ module _ (Whole : GraphTree → Type 0) (Leaving : GraphTree → (state : ℕ) �
     kind_places : (kind : KindTree) (place : Place) → Whole place.graph → place.loops ≡ loops_at place.graph place.state → InKind Whole Leaving Doing kind place.graph place.state place.scopes →
         AllByRecursion AtPlace (places_in kind place)
     kind_places (task code ins outs) place about loops holds = tt
-    kind_places (map_scope params private body) place about loops holds = items_places body place (in_map place.scopes params private) 0 about loops holds
+    kind_places (map_scope sequential params private body) place about loops holds = items_places body place (in_map place.scopes params private) 0 about loops holds
     kind_places (consume_scope stream element private body) place about loops holds = items_places body place (in_consume place.scopes element private) 0 about loops holds
     kind_places (nested_graph inner links) place about loops holds = graph_places inner place.path (suc place.depth) holds
     kind_places (reduction resolution axis identity from to) place about loops holds = tt

@@ -68,7 +68,7 @@ module _ (sizes : List ℤ) (tests : Tests) (link : (part : Link) → tests.link
 
   kind_passed : (kind : KindTree) → is_kind_passed tests (bound_kind sizes kind) ≡ true
   kind_passed (task of ins outs) = rw (code of, links_passed ins) (links_passed outs)
-  kind_passed (map_scope params private body) = params_passed params
+  kind_passed (map_scope sequential params private body) = params_passed params
   kind_passed (consume_scope stream element private body) = refl
   kind_passed (nested_graph inner links) = links_passed links
   kind_passed (reduction resolution axis identity from to) = rw (link_passed from) (link_passed to)

@@ -181,7 +181,7 @@ module _ (sizes : List ℤ) where
 
   pub kind_bound : (kind : KindTree) → HasNormalSides kind → are_shapes_right (doing kind) ≡ true → are_shapes_right (doing (bound_kind sizes kind)) ≡ true
   kind_bound (task code ins outs) normal is = refl
-  kind_bound (map_scope params private body) normal is = refl
+  kind_bound (map_scope sequential params private body) normal is = refl
   kind_bound (consume_scope stream element private body) normal is = refl
   kind_bound (nested_graph inner links) normal is = refl
   kind_bound (reduction resolution axis identity from to) normal is = reduction_bound axis from to normal.0 normal.1 is

@@ -69,7 +69,7 @@ module _ (sizes : List ℤ) (level : ℕ → ℕ) where
   mutual
     kind_lower : (kind : KindTree) → AllByRecursion Before (kind_namings kind) → AllByRecursion After (kind_namings (bound_kind sizes kind))
     kind_lower (plain.task code ins outs) all = tt
-    kind_lower (plain.map_scope params private body) all =
+    kind_lower (plain.map_scope sequential params private body) all =
         joined After (param_namings (map (bound_param sizes) params)) (item_namings (bound_items sizes body))
         (params_lower params (in_first Before (param_namings params) (item_namings body) all)) (items_lower body (in_second Before (param_namings params) (item_namings body) all))
     kind_lower (plain.consume_scope stream element private body) all = items_lower body all

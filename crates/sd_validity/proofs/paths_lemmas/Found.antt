@@ -78,8 +78,8 @@ elim_states tree around states place e e' is (inr (count, (rest, (path, found)))
 mutual
   kind_found : (kind : KindTree) (place : Place) → AllByRecursion (InKind kind place) (places_in kind place)
   kind_found (task code ins outs) place = tt
-  kind_found (map_scope params private body) place =
-      all_so (InItems body place 0) (InKind (map_scope params private body) place) (λ one. body_in (in_kind (map_scope params private body)) body place one (λ rest. refl))
+  kind_found (map_scope sequential params private body) place =
+      all_so (InItems body place 0) (InKind (map_scope sequential params private body) place) (λ one. body_in (in_kind (map_scope sequential params private body)) body place one (λ rest. refl))
       (item_places body place (in_map place.scopes params private) 0) (items_found body place (in_map place.scopes params private) 0)
   kind_found (consume_scope stream element private body) place =
       all_so (InItems body place 0) (InKind (consume_scope stream element private body) place) (λ one. body_in (in_kind (consume_scope stream element private body)) body place one (λ rest. refl))

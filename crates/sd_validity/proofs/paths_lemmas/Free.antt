@@ -17,7 +17,7 @@ HasNoScopesAt place = HasNoScopes place.thing place
 mutual
   kind_free : (kind : KindTree) (place : Place) → AllByRecursion HasNoScopesAt (places_in kind place)
   kind_free (task code ins outs) place = tt
-  kind_free (map_scope params private body) place = items_free body place (in_map place.scopes params private) 0
+  kind_free (map_scope sequential params private body) place = items_free body place (in_map place.scopes params private) 0
   kind_free (consume_scope stream element private body) place = items_free body place (in_consume place.scopes element private) 0
   kind_free (nested_graph inner links) place = graph_free inner place.path (suc place.depth)
   kind_free (reduction resolution axis identity from to) place = tt

@@ -18,7 +18,7 @@ HasItsExits place = HasExits place.thing place
 mutual
   kind_leaves : (kind : KindTree) (place : Place) → AllByRecursion HasItsExits (places_in kind place)
   kind_leaves (task code ins outs) place = tt
-  kind_leaves (map_scope params private body) place = items_leave body place (in_map place.scopes params private) 0
+  kind_leaves (map_scope sequential params private body) place = items_leave body place (in_map place.scopes params private) 0
   kind_leaves (consume_scope stream element private body) place = items_leave body place (in_consume place.scopes element private) 0
   kind_leaves (nested_graph inner links) place = graph_leaves inner place.path (suc place.depth)
   kind_leaves (reduction resolution axis identity from to) place = tt

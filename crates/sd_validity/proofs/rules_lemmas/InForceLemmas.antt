@@ -99,7 +99,7 @@ mutual
       let split = both ((names_tests place).code code) (are_links_passed (names_tests place) ins && are_links_passed (names_tests place) outs) named in
       let links = both (are_links_passed (names_tests place) ins) (are_links_passed (names_tests place) outs) split.1 in
       (links_in_force place ins links.0, links_in_force place outs links.1)
-  kind_in_force (map_scope params private body) place named stream own inside = items_in_force body place (in_map place.scopes params private) 0 inside
+  kind_in_force (map_scope sequential params private body) place named stream own inside = items_in_force body place (in_map place.scopes params private) 0 inside
   kind_in_force (consume_scope from element private body) place named stream own inside =
       let containers = containers_of place.graph in
       let held = both (is_element (container_at containers element)) (list_all (is_own containers) private) own in

@@ -44,7 +44,7 @@ mutual
   kind_streams : (kind : KindTree) (place : Place) → are_streams_in_place (containers_of place.graph) (doing kind) ≡ true → list_all streams_pass (places_in kind place) ≡ true →
       KindHasStreamsInPlace kind (containers_of place.graph)
   kind_streams (task code ins outs) place own inside = to_arrays (containers_of place.graph) ins own
-  kind_streams (map_scope params private body) place own inside = items_streams body place (in_map place.scopes params private) 0 inside
+  kind_streams (map_scope sequential params private body) place own inside = items_streams body place (in_map place.scopes params private) 0 inside
   kind_streams (consume_scope stream element private body) place own inside = (own, items_streams body place (in_consume place.scopes element private) 0 inside)
   kind_streams (nested_graph inner links) place own inside = (to_arrays (containers_of place.graph) links own, graph_streams inner place.path (suc place.depth) inside)
   kind_streams (reduction resolution axis identity from to) place own inside = two_arrays (containers_of place.graph) from to own

@@ -27,7 +27,7 @@ nesting_passes place = is_nesting_right place.graph place.thing
 mutual
   kind_linked : (kind : KindTree) (place : Place) → is_nesting_right place.graph (doing kind) ≡ true → list_all nesting_passes (places_in kind place) ≡ true → IsKindLinked kind
   kind_linked (task code ins outs) place own inside = tt
-  kind_linked (map_scope params private body) place own inside = items_linked body place (in_map place.scopes params private) 0 inside
+  kind_linked (map_scope sequential params private body) place own inside = items_linked body place (in_map place.scopes params private) 0 inside
   kind_linked (consume_scope stream element private body) place own inside = items_linked body place (in_consume place.scopes element private) 0 inside
   kind_linked (nested_graph inner links) place own inside =
       let shaped = nat_eq (length links) (arguments_of inner) && have_shapes (containers_of inner) 0 links in

@@ -52,7 +52,7 @@ from_first count states lead state =
 mutual
   kind_leads_up : (kind : KindTree) (place : Place) → list_all transitions_pass (places_in kind place) ≡ true → KindLeadsUpwards kind
   kind_leads_up (task code ins outs) place inside = tt
-  kind_leads_up (map_scope params private body) place inside = items_lead_up body place (in_map place.scopes params private) 0 inside
+  kind_leads_up (map_scope sequential params private body) place inside = items_lead_up body place (in_map place.scopes params private) 0 inside
   kind_leads_up (consume_scope stream element private body) place inside = items_lead_up body place (in_consume place.scopes element private) 0 inside
   kind_leads_up (nested_graph inner links) place inside = graph_leads_up inner place.path (suc place.depth) inside
   kind_leads_up (reduction resolution axis identity from to) place inside = tt

@@ -53,7 +53,7 @@ item_longer around scopes number kind less = omega (arith, less, length-append a
 mutual
   kind_things : (kind : KindTree) (place : Place) → length place.graph_path < length place.path → things_of place.graph_path (places_in kind place) ≡ things_in kind
   kind_things (task code ins outs) place less = refl
-  kind_things (map_scope params private body) place less = items_things body place (in_map place.scopes params private) 0 (omega (arith, less))
+  kind_things (map_scope sequential params private body) place less = items_things body place (in_map place.scopes params private) 0 (omega (arith, less))
   kind_things (consume_scope stream element private body) place less = items_things body place (in_consume place.scopes element private) 0 (omega (arith, less))
   kind_things (nested_graph inner links) place less =
       none_of place.graph_path (places_of inner place.path (suc place.depth))
@@ -144,7 +144,7 @@ mutual
   kind_walked : (kind : KindTree) (place : Place) (before : List Place) (rest : List Thing) → length place.graph_path < length place.path → AreOff place.path before →
       Goes place.graph place.graph_path before (things_in kind ++ rest) → AllBehind StandsBehind before (places_in kind place)
   kind_walked (task code ins outs) place before rest less off goes = tt
-  kind_walked (map_scope params private body) place before rest less off goes =
+  kind_walked (map_scope sequential params private body) place before rest less off goes =
       items_walked body place (in_map place.scopes params private) 0 before rest (omega (arith, less))
       (all_so (IsOff place.path) (IsAway place.path 0) (λ other off next rest least. off (next ∷ rest)) before off) goes
   kind_walked (consume_scope stream element private body) place before rest less off goes =

@@ -44,7 +44,7 @@ states_in_graph around place same (inr (next, (rest, (least, e)))) = (next ∷ r
 mutual
   pub kind_within : (kind : KindTree) (place : Place) → AllByRecursion (IsInItem place) (places_in kind place)
   kind_within (task code ins outs) place = tt
-  kind_within (map_scope params private body) place =
+  kind_within (map_scope sequential params private body) place =
       all_so (IsInItems place 0) (IsInItem place) (body_in_item place) (item_places body place (in_map place.scopes params private) 0) (items_within body place (in_map place.scopes params private) 0)
   kind_within (consume_scope stream element private body) place =
       all_so (IsInItems place 0) (IsInItem place) (body_in_item place) (item_places body place (in_consume place.scopes element private) 0) (items_within body place (in_consume place.scopes element private) 0)

@@ -10,7 +10,7 @@ module _ (Whole : GraphTree → Type 0) (Leaving : GraphTree → (state : ℕ) �
     -- of what is in an item
     pub InKind : KindTree → GraphTree → (state : ℕ) → Scopes → Type 0
     InKind (task code ins outs) tree state scopes = ⊤
-    InKind (map_scope params private body) tree state scopes = InItems body tree state (in_map scopes params private)
+    InKind (map_scope sequential params private body) tree state scopes = InItems body tree state (in_map scopes params private)
     InKind (consume_scope stream element private body) tree state scopes = InItems body tree state (in_consume scopes element private)
     InKind (nested_graph inner links) tree state scopes = Throughout inner
     InKind (reduction resolution axis identity from to) tree state scopes = ⊤

@@ -21,7 +21,7 @@ HasNormalRanges link = AllByRecursion IsNormalRange (link_spans link)
 -- the two sides of a copy or a reduction
 abbrev pub HasNormalSides : KindTree → Type 0
 HasNormalSides (task code ins outs) = ⊤
-HasNormalSides (map_scope params private body) = ⊤
+HasNormalSides (map_scope sequential params private body) = ⊤
 HasNormalSides (consume_scope stream element private body) = ⊤
 HasNormalSides (nested_graph inner links) = ⊤
 HasNormalSides (reduction resolution axis identity from to) = HasNormalRanges from × HasNormalRanges to

@@ -6,7 +6,7 @@ abbrev mutual
   -- in an item
   pub in_kind : KindTree → (path : List ℕ) → Option GraphTree
   in_kind (task code ins outs) path = None
-  in_kind (map_scope params private body) path = in_items body path
+  in_kind (map_scope sequential params private body) path = in_items body path
   in_kind (consume_scope stream element private body) path = in_items body path
   in_kind (nested_graph inner links) path = graph_at inner path
   in_kind (reduction resolution axis identity from to) path = None

@@ -1,6 +1,6 @@
 -- Conditions that ask whether a variable is below a value.
 use Rattle.std.specs.Prelude.{ℕ, Bool, true, false, if◌then◌else◌, Option, Some, None}
-use Rattle.sd_graph.specs.PlainTree.{ValueTree, literal, variable, local, input, one, two, choice, ValueTrees, no_value, and_value, ActTree, set_local, assign, branch, ActTrees, no_act, and_act}
+use Rattle.sd_graph.specs.PlainTree.{ValueTree, variable, two, ValueTrees, no_value, and_value, ActTree, set_local, assign, branch, ActTrees, no_act, and_act}
 use Rattle.sd_graph.specs.declared.operator.TwoSign.{TwoSign}
 use Rattle.sd_graph.specs.declared.operator.TwoSign.TheVariants.{Less}
 

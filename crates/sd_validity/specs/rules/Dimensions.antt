@@ -40,7 +40,7 @@ abbrev pub is_code_linked : Thing → Bool
 is_code_linked whole = true
 is_code_linked (leaving items exits) = list_all (λ exit. is_condition_sound exit.when) exits
 is_code_linked (doing (task code ins outs)) = are_ports_linked code.ins ins && are_ports_linked code.outs outs
-is_code_linked (doing (map_scope params private body)) = true
+is_code_linked (doing (map_scope sequential params private body)) = true
 is_code_linked (doing (consume_scope stream element private body)) = true
 is_code_linked (doing (nested_graph inner links)) = true
 is_code_linked (doing (reduction resolution axis identity from to)) = true

@@ -44,7 +44,7 @@ abbrev pub are_shapes_right : Thing → Bool
 are_shapes_right whole = true
 are_shapes_right (leaving items exits) = true
 are_shapes_right (doing (task code ins outs)) = true
-are_shapes_right (doing (map_scope params private body)) = true
+are_shapes_right (doing (map_scope sequential params private body)) = true
 are_shapes_right (doing (consume_scope stream element private body)) = true
 are_shapes_right (doing (nested_graph inner links)) = true
 are_shapes_right (doing (reduction resolution axis identity from to)) = is_reduction_right axis from to

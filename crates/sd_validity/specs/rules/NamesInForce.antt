@@ -26,7 +26,7 @@ abbrev pub is_stream_in_force : Containers → (private : List ℕ) → Thing �
 is_stream_in_force containers private whole = true
 is_stream_in_force containers private (leaving items exits) = true
 is_stream_in_force containers private (doing (task code ins outs)) = true
-is_stream_in_force containers private (doing (map_scope params own body)) = true
+is_stream_in_force containers private (doing (map_scope sequential params own body)) = true
 is_stream_in_force containers private (doing (consume_scope stream element own body)) = is_container_in_force containers private stream
 is_stream_in_force containers private (doing (nested_graph inner links)) = true
 is_stream_in_force containers private (doing (reduction resolution axis identity from to)) = true
@@ -35,7 +35,7 @@ is_stream_in_force containers private (doing (copy from to)) = true
 -- those that a scope makes its own
 abbrev pub held_by : KindTree → List ℕ
 held_by (task code ins outs) = []
-held_by (map_scope params private body) = private
+held_by (map_scope sequential params private body) = private
 held_by (consume_scope stream element private body) = element ∷ private
 held_by (nested_graph inner links) = []
 held_by (reduction resolution axis identity from to) = []
@@ -50,7 +50,7 @@ abbrev mutual
   -- those that the scopes among items make their own
   pub held_in_kind : KindTree → List ℕ
   held_in_kind (task code ins outs) = []
-  held_in_kind (map_scope params private body) = private ++ held_in body
+  held_in_kind (map_scope sequential params private body) = private ++ held_in body
   held_in_kind (consume_scope stream element private body) = (element ∷ private) ++ held_in body
   held_in_kind (nested_graph inner links) = []
   held_in_kind (reduction resolution axis identity from to) = []
@@ -90,7 +90,7 @@ abbrev pub are_own_private : Containers → Thing → Bool
 are_own_private containers whole = true
 are_own_private containers (leaving items exits) = true
 are_own_private containers (doing (task code ins outs)) = true
-are_own_private containers (doing (map_scope params private body)) = list_all (is_own containers) private
+are_own_private containers (doing (map_scope sequential params private body)) = list_all (is_own containers) private
 are_own_private containers (doing (consume_scope stream element private body)) =
     is_element (container_at containers element) && list_all (is_own containers) private
 are_own_private containers (doing (nested_graph inner links)) = true
@@ -114,7 +114,7 @@ abbrev pub params_at : Thing → List ℕ
 params_at whole = []
 params_at (leaving items exits) = []
 params_at (doing (task code ins outs)) = []
-params_at (doing (map_scope params private body)) = param_numbers params
+params_at (doing (map_scope sequential params private body)) = param_numbers params
 params_at (doing (consume_scope stream element private body)) = []
 params_at (doing (nested_graph inner links)) = []
 params_at (doing (reduction resolution axis identity from to)) = []

@@ -43,7 +43,7 @@ written_through written number (link ∷ links) =
 abbrev mutual
   pub written_by : KindTree → List ℕ
   written_by (task code ins outs) = map container_of outs
-  written_by (map_scope params private body) = written_in body
+  written_by (map_scope sequential params private body) = written_in body
   written_by (consume_scope stream element private body) = written_in body
   written_by (nested_graph inner links) = written_through (written_of inner) 0 links
   written_by (reduction resolution axis identity from to) = container_of to ∷ []
@@ -81,7 +81,7 @@ abbrev pub is_nesting_right : GraphTree → Thing → Bool
 is_nesting_right tree whole = do_arguments_come_first (arguments_of tree) (containers_of tree)
 is_nesting_right tree (leaving items exits) = true
 is_nesting_right tree (doing (task code ins outs)) = true
-is_nesting_right tree (doing (map_scope params private body)) = true
+is_nesting_right tree (doing (map_scope sequential params private body)) = true
 is_nesting_right tree (doing (consume_scope stream element private body)) = true
 is_nesting_right tree (doing (nested_graph inner links)) = are_links_right inner links
 is_nesting_right tree (doing (reduction resolution axis identity from to)) = true

@@ -64,7 +64,7 @@ is_exit_passed tests exit = is_condition_passed tests exit.when && list_all (λ 
 -- an item itself, without the items of its body and the graph that is nested in it
 abbrev pub is_kind_passed : Tests → KindTree → Bool
 is_kind_passed tests (task code ins outs) = tests.code code && (are_links_passed tests ins && are_links_passed tests outs)
-is_kind_passed tests (map_scope params private body) = are_params_passed tests params
+is_kind_passed tests (map_scope sequential params private body) = are_params_passed tests params
 is_kind_passed tests (consume_scope stream element private body) = true
 is_kind_passed tests (nested_graph inner links) = are_links_passed tests links
 is_kind_passed tests (reduction resolution axis identity from to) = is_link_passed tests from && is_link_passed tests to

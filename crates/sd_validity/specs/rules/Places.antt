@@ -90,7 +90,7 @@ abbrev mutual
   -- what is in an item
   pub places_in : KindTree → Place → List Place
   places_in (task code ins outs) place = []
-  places_in (map_scope params private body) place = item_places body place (in_map place.scopes params private) 0
+  places_in (map_scope sequential params private body) place = item_places body place (in_map place.scopes params private) 0
   places_in (consume_scope stream element private body) place = item_places body place (in_consume place.scopes element private) 0
   places_in (nested_graph inner links) place = places_of inner place.path (suc place.depth)
   places_in (reduction resolution axis identity from to) place = []

@@ -75,7 +75,7 @@ end_namings begun exits = flat_map (λ exit. filter (is_begun begun) (condition_
 abbrev mutual
   pub kind_namings : KindTree → List Naming
   kind_namings (task code ins outs) = []
-  kind_namings (map_scope params private body) = param_namings params ++ item_namings body
+  kind_namings (map_scope sequential params private body) = param_namings params ++ item_namings body
   kind_namings (consume_scope stream element private body) = item_namings body
   kind_namings (nested_graph inner links) = []
   kind_namings (reduction resolution axis identity from to) = []

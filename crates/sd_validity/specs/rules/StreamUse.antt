@@ -26,7 +26,7 @@ abbrev pub are_streams_in_place : Containers → Thing → Bool
 are_streams_in_place containers whole = true
 are_streams_in_place containers (leaving items exits) = list_all (λ exit. is_condition_of_arrays containers exit.when) exits
 are_streams_in_place containers (doing (task code ins outs)) = are_of_arrays containers ins
-are_streams_in_place containers (doing (map_scope params private body)) = true
+are_streams_in_place containers (doing (map_scope sequential params private body)) = true
 are_streams_in_place containers (doing (consume_scope stream element private body)) = is_stream_at containers stream
 are_streams_in_place containers (doing (nested_graph inner links)) = are_of_arrays containers links
 are_streams_in_place containers (doing (reduction resolution axis identity from to)) = is_of_array containers from && is_of_array containers to

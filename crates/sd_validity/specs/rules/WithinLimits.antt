@@ -127,7 +127,7 @@ are_params_small ranks params = is_within 1 8 (length params) && list_all (is_ra
 
 abbrev pub has_small_params : (ranks : List Bool) → KindTree → Bool
 has_small_params ranks (task code ins outs) = true
-has_small_params ranks (map_scope params private body) = are_params_small ranks params
+has_small_params ranks (map_scope sequential params private body) = are_params_small ranks params
 has_small_params ranks (consume_scope stream element private body) = true
 has_small_params ranks (nested_graph inner links) = true
 has_small_params ranks (reduction resolution axis identity from to) = true

@@ -7,7 +7,7 @@ abbrev mutual
   -- in an item
   pub things_in : KindTree → List Thing
   things_in (task code ins outs) = []
-  things_in (map_scope params private body) = item_things body
+  things_in (map_scope sequential params private body) = item_things body
   things_in (consume_scope stream element private body) = item_things body
   things_in (nested_graph inner links) = []
   things_in (reduction resolution axis identity from to) = []

@@ -1,5 +1,6 @@
 -- Parts of which the example graphs are made.
 use Rattle.std.proofs.Common.{ℕ, ℤ, pos, List, [], ◌∷◌, map, Option, None, Bool}
+use Rattle.sd_num.specs.declared.width.Width.TheVariants.{W64}
 use Rattle.sd_range.specs.declared.affine.Affine.{Affine}
 use Rattle.sd_range.specs.declared.range.Range.{Range}
 use Rattle.sd_range.specs.declared.subset.Dim.{Dim}
@@ -25,7 +26,7 @@ abbrev pub span : (begin end : ℤ) → Dim
 span begin end = Span (range (number begin) (number end))
 
 abbrev pub container : (extents : List ℤ) → ContainerKind → List ℕ × Container
-container extents kind = ([], record { extents = map number extents; kind = kind })
+container extents kind = ([], record { extents = map number extents; kind = kind; width = W64 })
 
 abbrev pub link : (container : ℕ) → List Dim → Link
 link container dims = record { connector = []; memlet = record { container = container; subset = record { dims = dims }; volume = pos 1; resolution = None } }

@@ -1,6 +1,7 @@
 -- A valid graph with a thing of each kind, and each rule broken by hand, with the place that is told.
 use Rattle.std.proofs.Common.{◌≡◌, ℕ, pos, List, [], ◌∷◌, Option, Some, None, true, false, refl}
 use Rattle.sd_num.specs.declared.resolution.Resolution.TheVariants.{Sum}
+use Rattle.sd_num.specs.declared.width.Width.TheVariants.{W64}
 use Rattle.sd_range.specs.declared.affine.Affine.{Affine}
 use Rattle.sd_range.specs.declared.subset.Dim.TheVariants.{Index, Span}
 use Rattle.sd_graph.specs.PlainTree.{literal, local, input, no_value, set_local, assign, branch, no_act, and_act, ExitTree, KindTree, task, map_scope, consume_scope, nested_graph, reduction, copy, ItemTrees, no_item, and_item, StateTrees, no_state, and_state, GraphTree, graph}
@@ -28,7 +29,7 @@ whole_graph states = graph [] containers 1 names 0 states
 
 -- the map writes its private array, the consume scope adds what it takes
 abbrev map_item : KindTree
-map_item = map_scope ((1, range (number (pos 0)) (plus 0 (pos 1))) ∷ []) (5 ∷ []) (one_item (writing 5 (plus 1 (pos 0))))
+map_item = map_scope false ((1, range (number (pos 0)) (plus 0 (pos 1))) ∷ []) (5 ∷ []) (one_item (writing 5 (plus 1 (pos 0))))
 
 abbrev consume_item : KindTree
 consume_item = consume_scope 3 4 [] (one_item (copy (link 4 (Index (number (pos 0)) ∷ [])) (link 2 (Index (number (pos 0)) ∷ []))))
@@ -104,13 +105,13 @@ a_loop_variable_outside_of_its_loop = refl
 a_private_container_of_no_scope : invalidity (looped no_item behind_loop) ≡ Some (1, [])
 a_private_container_of_no_scope = refl
 
-a_private_container_of_two_scopes : told (map_scope ((2, range (number (pos 0)) (number (pos 1))) ∷ []) (5 ∷ []) no_item) ≡ at_item 1
+a_private_container_of_two_scopes : told (map_scope false ((2, range (number (pos 0)) (number (pos 1))) ∷ []) (5 ∷ []) no_item) ≡ at_item 1
 a_private_container_of_two_scopes = refl
 
-a_container_of_a_scope_that_is_not_private : told (map_scope ((2, range (number (pos 0)) (number (pos 1))) ∷ []) (1 ∷ []) no_item) ≡ at_item 1
+a_container_of_a_scope_that_is_not_private : told (map_scope false ((2, range (number (pos 0)) (number (pos 1))) ∷ []) (1 ∷ []) no_item) ≡ at_item 1
 a_container_of_a_scope_that_is_not_private = refl
 
-a_container_of_a_scope_that_is_not_there : told (map_scope ((2, range (number (pos 0)) (number (pos 1))) ∷ []) (9 ∷ []) no_item) ≡ at_item 1
+a_container_of_a_scope_that_is_not_there : told (map_scope false ((2, range (number (pos 0)) (number (pos 1))) ∷ []) (9 ∷ []) no_item) ≡ at_item 1
 a_container_of_a_scope_that_is_not_there = refl
 
 an_element_that_is_not_there : told (consume_scope 3 9 [] no_item) ≡ at_item 1
@@ -119,10 +120,10 @@ an_element_that_is_not_there = refl
 an_element_that_is_not_private : told (consume_scope 3 2 [] no_item) ≡ at_item 1
 an_element_that_is_not_private = refl
 
-a_parameter_of_two_maps : told (map_scope ((1, range (number (pos 0)) (number (pos 1))) ∷ []) [] no_item) ≡ at_item 1
+a_parameter_of_two_maps : told (map_scope false ((1, range (number (pos 0)) (number (pos 1))) ∷ []) [] no_item) ≡ at_item 1
 a_parameter_of_two_maps = refl
 
-a_parameter_that_a_transition_sets : told (map_scope ((0, range (number (pos 0)) (number (pos 1))) ∷ []) [] no_item) ≡ at_item 1
+a_parameter_that_a_transition_sets : told (map_scope false ((0, range (number (pos 0)) (number (pos 1))) ∷ []) [] no_item) ≡ at_item 1
 a_parameter_that_a_transition_sets = refl
 
 -- rule 2
@@ -208,11 +209,11 @@ a_target_that_keeps_the_axis = refl
 a_graph_without_a_state : invalidity (graph [] [] 0 [] 0 no_state) ≡ Some (7, [])
 a_graph_without_a_state = refl
 
-a_map_without_parameters : told (map_scope [] [] no_item) ≡ at_item 7
+a_map_without_parameters : told (map_scope false [] [] no_item) ≡ at_item 7
 unfolding ranks_of
 a_map_without_parameters = refl
 
-a_range_that_does_not_rise : told (map_scope ((2, record (range (number (pos 0)) (number (pos 1))) { step = pos 0 }) ∷ []) [] no_item) ≡ at_item 7
+a_range_that_does_not_rise : told (map_scope false ((2, record (range (number (pos 0)) (number (pos 1))) { step = pos 0 }) ∷ []) [] no_item) ≡ at_item 7
 unfolding ranks_of
 a_range_that_does_not_rise = refl
 
@@ -231,7 +232,7 @@ with_symbol containers at = graph [] containers 1 ([] ∷ []) 1 (and_state (one_
 a_size_symbol_in_an_index : invalidity (with_symbol (container (pos 3 ∷ []) Argument ∷ []) (plus 0 (pos 0))) ≡ Some (8, 0 ∷ 0 ∷ [])
 a_size_symbol_in_an_index = refl
 
-an_extent_that_is_no_constant : invalidity (with_symbol (([], record { extents = plus 0 (pos 0) ∷ []; kind = Argument }) ∷ []) (number (pos 0))) ≡ Some (8, [])
+an_extent_that_is_no_constant : invalidity (with_symbol (([], record { extents = plus 0 (pos 0) ∷ []; kind = Argument; width = W64 }) ∷ []) (number (pos 0))) ≡ Some (8, [])
 an_extent_that_is_no_constant = refl
 
 -- of two places the first, and of two rules the lowest, wherever its place
@@ -250,5 +251,5 @@ in_a_nested_graph :
     ≡ Some (1, 3 ∷ 2 ∷ 0 ∷ 0 ∷ [])
 in_a_nested_graph = refl
 
-in_the_body_of_a_scope : told (map_scope ((2, range (number (pos 0)) (number (pos 1))) ∷ []) [] (one_item (writing 5 (plus 2 (pos 0))))) ≡ Some (1, 3 ∷ 2 ∷ 0 ∷ [])
+in_the_body_of_a_scope : told (map_scope false ((2, range (number (pos 0)) (number (pos 1))) ∷ []) [] (one_item (writing 5 (plus 2 (pos 0))))) ≡ Some (1, 3 ∷ 2 ∷ 0 ∷ [])
 in_the_body_of_a_scope = refl
