@@ -48,7 +48,7 @@ module _ (first second : Name → GraphTree) where
     same_items : (statement : StatementTree) (in_scope : Bool) (table : Table) (container variable : ℕ) (rest : ItemTrees) → Agree (called_by statement) →
         items_with first statement in_scope table container variable rest ≡ items_with second statement in_scope table container variable rest
     same_items (map_scope line parameters ranges body) in_scope table container variable rest agree =
-        ap (λ (items : ItemTrees). and_item line (plain.map_scope (parameters_of table.variables ranges variable) (own_of body container) items) rest)
+        ap (λ (items : ItemTrees). and_item line (plain.map_scope false (parameters_of table.variables ranges variable) (own_of body container) items) rest)
         (same_body body (with_variables parameters variable table) container (variable + length parameters) agree)
     same_items (consume_scope line stream size name element worker body) in_scope table container variable rest agree =
         ap

@@ -1,5 +1,5 @@
 -- The items of statements.
-use Rattle.std.specs.Prelude.{ℕ, ◌+◌, pos, nat_abs, List, [], ◌∷◌, length, option_map, None, Bool, true, cond, codes}
+use Rattle.std.specs.Prelude.{ℕ, ◌+◌, pos, nat_abs, List, [], ◌∷◌, length, option_map, None, Bool, true, false, cond, codes}
 use Rattle.sd_lex.specs.PlainTree.{Dimension, StatementTree, assign, copy, reduce, map_scope, tasklet, consume_scope, call, Block, no_statement, and_statement}
 use Rattle.sd_lex.specs.StatementKind.{has_connector}
 use Rattle.sd_range.specs.Arithmetic.{affine_zero}
@@ -41,7 +41,7 @@ module _ (graphs : Name → GraphTree) where
         plain.and_item line (plain.reduction (resolution_of lambda) (option_map nat_abs axis) identity (subset_link table (codes "from") from []) (subset_link table (codes "to") to [])) rest
     items_with (map_scope line parameters ranges body) in_scope table container variable rest =
         plain.and_item line
-        (plain.map_scope (parameters_of table.variables ranges variable) (own_of body container)
+        (plain.map_scope false (parameters_of table.variables ranges variable) (own_of body container)
         (items_of_body body (with_variables parameters variable table) container (variable + length parameters)))
         rest
     items_with (tasklet line body) in_scope table container variable rest = plain.and_item line (tasklet_item table body) rest

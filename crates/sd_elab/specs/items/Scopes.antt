@@ -1,5 +1,5 @@
 -- What the items of scopes are, by their parts.
-use Rattle.std.specs.Prelude.{ℕ, ◌+◌, List, ◌∷◌, length, cond}
+use Rattle.std.specs.Prelude.{ℕ, ◌+◌, List, ◌∷◌, length, cond, false}
 use Rattle.sd_lex.specs.PlainTree.{Dimension, Block}
 use Rattle.sd_lex.specs.StatementKind.{has_connector}
 use Rattle.sd_graph.specs.PlainTree as plain
@@ -29,5 +29,5 @@ module _ (graphs : Name → GraphTree) where
 
   abbrev pub map_kind : Table → (parameters : List Name) → List Dimension → Block → (container variable : ℕ) → KindTree
   map_kind table parameters ranges body container variable =
-      plain.map_scope (parameters_of table.variables ranges variable) (own_of body container)
+      plain.map_scope false (parameters_of table.variables ranges variable) (own_of body container)
       (items_of_body graphs body (with_variables parameters variable table) container (variable + length parameters))

@@ -162,6 +162,7 @@ fn map_scope(
         params,
         private,
         body,
+        sequential: false,
     })
 }
 
