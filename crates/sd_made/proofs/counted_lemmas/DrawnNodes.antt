@@ -152,7 +152,7 @@ module _ (containers : Containers) where
     item_drawn : (kind : KindTree) (scope : Option ℕ) (line : ℕ) (drawing : Drawing) →
         (length (with_nodes_of kind containers scope line drawing).nodes ≡ length drawing.nodes + item_nodes kind containers) × (current_of (with_nodes_of kind containers scope line drawing) ≡ current_of drawing)
     item_drawn (task code ins outs) scope line drawing = (one_node scope Tasklet line drawing, refl)
-    item_drawn (map_scope params private body) scope line drawing = (scope_drawn MapEntry body private scope line drawing (list_drawn body (Some (length drawing.nodes)) private (entered scope MapEntry line drawing)), refl)
+    item_drawn (map_scope sequential params private body) scope line drawing = (scope_drawn MapEntry body private scope line drawing (list_drawn body (Some (length drawing.nodes)) private (entered scope MapEntry line drawing)), refl)
     item_drawn (consume_scope stream element private body) scope line drawing = (scope_drawn ConsumeEntry body private scope line drawing (list_drawn body (Some (length drawing.nodes)) private (entered scope ConsumeEntry line drawing)), refl)
     item_drawn (nested_graph inner links) scope line drawing = (one_node scope Nested line drawing, refl)
     item_drawn (reduction resolution axis identity from to) scope line drawing = (one_node scope Reduce line drawing, refl)

@@ -14,7 +14,7 @@ module _ (Nested : GraphTree → Type 0) (Leave : (state : ℕ) → ExitTree →
   abbrev mutual
     pub KindAlone : KindTree → (state : ℕ) → Scopes → Type 0
     KindAlone (plain.task code ins outs) state scopes = ⊤
-    KindAlone (plain.map_scope params private body) state scopes = ItemsAlone body state (in_map scopes params private)
+    KindAlone (plain.map_scope sequential params private body) state scopes = ItemsAlone body state (in_map scopes params private)
     KindAlone (plain.consume_scope stream element private body) state scopes = ItemsAlone body state (in_consume scopes element private)
     KindAlone (plain.nested_graph inner links) state scopes = Nested inner
     KindAlone (plain.reduction resolution axis identity from to) state scopes = ⊤
@@ -54,7 +54,7 @@ module _ (Whole : GraphTree → Type 0) (Leaving : GraphTree → (state : ℕ) �
   mutual
     kind_throughout : (kind : KindTree) (state : ℕ) (scopes : Scopes) → KindAlone Inner Leave Do kind state scopes → InKind Whole Leaving Doing kind tree state scopes
     kind_throughout (plain.task code ins outs) state scopes holds = tt
-    kind_throughout (plain.map_scope params private body) state scopes holds = items_throughout body state (in_map scopes params private) holds
+    kind_throughout (plain.map_scope sequential params private body) state scopes holds = items_throughout body state (in_map scopes params private) holds
     kind_throughout (plain.consume_scope stream element private body) state scopes holds = items_throughout body state (in_consume scopes element private) holds
     kind_throughout (plain.nested_graph inner links) state scopes holds = holds
     kind_throughout (plain.reduction resolution axis identity from to) state scopes holds = tt

@@ -23,7 +23,7 @@ AtCounted place = IsCounted place.thing place
 mutual
   kind_counted : (kind : KindTree) (place : Place) → CountsLoops place → AllByRecursion AtCounted (places_in kind place)
   kind_counted (task code ins outs) place counts = tt
-  kind_counted (map_scope params private body) place counts = items_counted body place (in_map place.scopes params private) 0 counts
+  kind_counted (map_scope sequential params private body) place counts = items_counted body place (in_map place.scopes params private) 0 counts
   kind_counted (consume_scope stream element private body) place counts = items_counted body place (in_consume place.scopes element private) 0 counts
   kind_counted (nested_graph inner links) place counts = graph_counted inner place.path (suc place.depth)
   kind_counted (reduction resolution axis identity from to) place counts = tt

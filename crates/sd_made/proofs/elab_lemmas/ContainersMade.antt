@@ -1,6 +1,7 @@
 -- The containers that statements declare stand one after another: how many they are, and what they are.
 use Rattle.std.proofs.Common.{◌≡◌, ◌∙◌, ℕ, ◌+◌, ◌<◌, pos, List, [], ◌∷◌, ◌++◌, length, Bool, true, false, cond, refl, ap, sym, subst, arith, add-zero, append_assoc, append-nil, length-append}
 use Rattle.std.proofs.Math.Seq.{get_or-append_seam}
+use Rattle.sd_num.specs.declared.width.Width.TheVariants.{W64}
 use Rattle.sd_lex.specs.PlainTree.{StatementTree, argument_array, local_array, local_stream, assign, copy, reduce, map_scope, tasklet, consume_scope, call, for_loop, while_loop, branch, input, output, set, set_at, tasklet_branch, Block, no_statement, and_statement}
 use Rattle.sd_lex.specs.StatementKind.{has_connector}
 use Rattle.sd_graph.specs.ContainerParts.{no_container, container_at}
@@ -161,13 +162,13 @@ module _ (symbols : Named ℕ) (declared : List Name) where
   first_begins rest in_scope middle all = begins_through middle (containers_with_all symbols declared rest in_scope middle) all (all_grown rest in_scope middle)
 
   pub element_longer : (before : Containers) (is_task : Bool) (element : Name) → length (with_element declared before is_task element) ≡ length before + 1
-  element_longer before is_task element = one_longer before (element_name declared before is_task element, record { extents = affine_number (pos 1) ∷ []; kind = Private })
+  element_longer before is_task element = one_longer before (element_name declared before is_task element, record { extents = affine_number (pos 1) ∷ []; kind = Private; width = W64 })
 
   -- the number of a consume scope's element, and what it is
   pub element_made : (before : Containers) (is_task : Bool) (element : Name) (all : Containers) → Begins (with_element declared before is_task element) all →
-      (length before < length all) × (container_at all (length before) ≡ record { extents = affine_number (pos 1) ∷ []; kind = Private })
+      (length before < length all) × (container_at all (length before) ≡ record { extents = affine_number (pos 1) ∷ []; kind = Private; width = W64 })
   element_made before is_task element all begins =
-      made_at before (element_name declared before is_task element, record { extents = affine_number (pos 1) ∷ []; kind = Private }) all begins
+      made_at before (element_name declared before is_task element, record { extents = affine_number (pos 1) ∷ []; kind = Private; width = W64 }) all begins
 
   element_counted : (is_task : Bool) (body : Block) (element : Name) (place : Place) (before : Containers) →
       EveryFrom IsPlaced (in_consume is_task element place) body →

@@ -2,6 +2,7 @@
 use Rattle.std.proofs.Common.{◌≡◌, ◌∙◌, inl, inr, ℕ, ◌+◌, ◌≤◌, nat_le, ℤ, List, [], ◌∷◌, ◌++◌, map, length, Ok, Bool, true, false, cond, reverse, refl, ap, sym, subst, arith}
 use Rattle.std.specs.List.{AllByRecursion, list_all}
 use Rattle.std.proofs.lemmas.List.{length-map}
+use Rattle.sd_num.specs.declared.width.Width.TheVariants.{W64}
 use Rattle.sd_lex.specs.PlainTree.{Expressions, no_expression, and_expression, StatementTree, argument_array, local_array, local_stream, map_scope, consume_scope, for_loop, while_loop, branch, Block, no_statement, and_statement, FunctionTree, ProgramTree}
 use Rattle.sd_lex.specs.StatementKind.{has_connector}
 use Rattle.sd_range.specs.declared.affine.Affine.{Affine}
@@ -83,10 +84,10 @@ module _ (symbols : Named ℕ) (declared : List Name) where
     statement_formed : (statement : StatementTree) (in_scope : Bool) (before : Containers) → Every HasFewDimensions statement → AreFormed before → AreFormed (containers_with symbols declared statement in_scope before)
     statement_formed (argument_array line name bits extents) in_scope before few all = one_more before _ all (extents_few extents few)
     statement_formed (local_array line name extents bits) in_scope before few all =
-        let is : IsFormed (record { extents = extents_of symbols extents; kind = array_kind in_scope }) = rw (scope_array in_scope) (extents_few extents few) in
+        let is : IsFormed (record { extents = extents_of symbols extents; kind = array_kind in_scope; width = W64 }) = rw (scope_array in_scope) (extents_few extents few) in
         one_more before _ all is
     statement_formed (local_stream line name bits size) in_scope before few all =
-        let is : IsFormed (record { extents = []; kind = stream_kind in_scope }) = rw (scope_stream in_scope) refl in
+        let is : IsFormed (record { extents = []; kind = stream_kind in_scope; width = W64 }) = rw (scope_stream in_scope) refl in
         one_more before _ all is
     statement_formed (map_scope line parameters ranges body) in_scope before few all = block_formed body true before few.1 all
     statement_formed (consume_scope line stream size name element worker body) in_scope before few all =

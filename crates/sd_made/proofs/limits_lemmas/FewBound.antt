@@ -30,7 +30,7 @@ AreFewLinks links = AllByRecursion IsFewLink links
 -- those of the links of an item, and the ranges of its parameters
 abbrev pub HasFewDims : KindTree → Type 0
 HasFewDims (plain.task code ins outs) = AreFewLinks ins × AreFewLinks outs
-HasFewDims (plain.map_scope params private body) = AllByRecursion (λ param. IsFewRange param.1) params
+HasFewDims (plain.map_scope sequential params private body) = AllByRecursion (λ param. IsFewRange param.1) params
 HasFewDims (plain.consume_scope stream element private body) = ⊤
 HasFewDims (plain.nested_graph inner links) = AreFewLinks links
 HasFewDims (plain.reduction resolution axis identity from to) = IsFewLink from × IsFewLink to
@@ -76,7 +76,7 @@ module _ (sizes : List ℤ) (are : AreSizes sizes) where
 
   pub kind_passed : (kind : KindTree) → HasFewDims kind → is_kind_passed expression_tests (bound_kind sizes kind) ≡ true
   kind_passed (plain.task code ins outs) few = rw (links_passed ins few.0) (links_passed outs few.1)
-  kind_passed (plain.map_scope params private body) few = params_passed params few
+  kind_passed (plain.map_scope sequential params private body) few = params_passed params few
   kind_passed (plain.consume_scope stream element private body) few = refl
   kind_passed (plain.nested_graph inner links) few = links_passed links few
   kind_passed (plain.reduction resolution axis identity from to) few = rw (link_passed from few.0) (link_passed to few.1)

@@ -244,7 +244,7 @@ module _ (sizes : List ℤ) where
   mutual
     kind_bound : (kind : KindTree) → IsKindLinked kind → IsKindLinked (bound_kind sizes kind)
     kind_bound (plain.task code ins outs) is = tt
-    kind_bound (plain.map_scope params private body) is = items_bound body is
+    kind_bound (plain.map_scope sequential params private body) is = items_bound body is
     kind_bound (plain.consume_scope stream element private body) is = items_bound body is
     kind_bound (plain.nested_graph inner links) is = (length-map links (bound_link sizes) ∙ is.0 ∙ same_arguments inner, tree_bound inner is.1)
     kind_bound (plain.reduction resolution axis identity from to) is = tt

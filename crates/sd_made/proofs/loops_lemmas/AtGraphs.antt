@@ -15,7 +15,7 @@ module _ (Holds : StateTrees → Type 0) where
   mutual
     kind_graphs : (kind : KindTree) (place : Place) → OfItsGraph place → KindThroughout Holds kind → AllByRecursion OfItsGraph (places_in kind place)
     kind_graphs (task code ins outs) place about holds = tt
-    kind_graphs (map_scope params private body) place about holds = items_graphs body place (in_map place.scopes params private) 0 about holds
+    kind_graphs (map_scope sequential params private body) place about holds = items_graphs body place (in_map place.scopes params private) 0 about holds
     kind_graphs (consume_scope stream element private body) place about holds = items_graphs body place (in_consume place.scopes element private) 0 about holds
     kind_graphs (nested_graph inner links) place about holds = graph_graphs inner place.path (suc place.depth) holds
     kind_graphs (reduction resolution axis identity from to) place about holds = tt
@@ -50,7 +50,7 @@ AreUpwards states = (state : ℕ) → ExitsLeadUpwards (count_states states) sta
 mutual
   kind_upwards : (kind : KindTree) → KindLeadsUpwards kind → KindThroughout AreUpwards kind
   kind_upwards (task code ins outs) leads = tt
-  kind_upwards (map_scope params private body) leads = items_upwards body leads
+  kind_upwards (map_scope sequential params private body) leads = items_upwards body leads
   kind_upwards (consume_scope stream element private body) leads = items_upwards body leads
   kind_upwards (nested_graph inner links) leads = graph_upwards inner leads
   kind_upwards (reduction resolution axis identity from to) leads = tt

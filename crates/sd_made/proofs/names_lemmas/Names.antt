@@ -63,7 +63,7 @@ module _ (tree : GraphTree) (scopes : Scopes) (loops : List ℕ) where
   -- the variables of code, and of the ranges of parameters, which are there
   abbrev pub HasNamedCode : KindTree → Type 0
   HasNamedCode (plain.task code ins outs) = AllByRecursion P code.variables
-  HasNamedCode (plain.map_scope params private body) = AllByRecursion (λ param. InRange P param.1) params × AllByRecursion (λ param. param.0 < length (variables_of tree)) params
+  HasNamedCode (plain.map_scope sequential params private body) = AllByRecursion (λ param. InRange P param.1) params × AllByRecursion (λ param. param.0 < length (variables_of tree)) params
   HasNamedCode (plain.consume_scope stream element private body) = ⊤
   HasNamedCode (plain.nested_graph inner links) = ⊤
   HasNamedCode (plain.reduction resolution axis identity from to) = ⊤
@@ -133,7 +133,7 @@ module _ (sizes : List ℤ) (place : Place) where
     kind_passed : (kind : KindTree) → HasSoundLinks place.graph place.scopes place.loops Sized kind → HasNamedCode place.graph place.scopes place.loops kind →
         is_kind_passed (names_tests (bound_place sizes place)) (bound_kind sizes kind) ≡ true
     kind_passed (plain.task code ins outs) links known = rw (used_bound sizes place code.variables known, array_links ins links.0) (sound_links outs links.1)
-    kind_passed (plain.map_scope params private body) links known = params_bound sizes place params known.0
+    kind_passed (plain.map_scope sequential params private body) links known = params_bound sizes place params known.0
     kind_passed (plain.consume_scope stream element private body) links known = refl
     kind_passed (plain.nested_graph inner of) links known = array_links of links
     kind_passed (plain.reduction resolution axis identity from to) links known = rw (array_link from links.0) (array_link to links.1)
@@ -142,7 +142,7 @@ module _ (sizes : List ℤ) (place : Place) where
     stream_passed : (kind : KindTree) → HasSoundLinks place.graph place.scopes place.loops Sized kind →
         is_stream_in_force (containers_of (bound_graph sizes place.graph)) place.scopes.private (doing (bound_kind sizes kind)) ≡ true
     stream_passed (plain.task code ins outs) links = refl
-    stream_passed (plain.map_scope params private body) links = refl
+    stream_passed (plain.map_scope sequential params private body) links = refl
     stream_passed (plain.consume_scope stream element private body) links = container_bound sizes place stream links.0
     stream_passed (plain.nested_graph inner of) links = refl
     stream_passed (plain.reduction resolution axis identity from to) links = refl
@@ -156,7 +156,7 @@ module _ (sizes : List ℤ) (place : Place) where
 
   params_there : (kind : KindTree) → HasNamedCode place.graph place.scopes place.loops kind → list_all (is_there (bound_graph sizes place.graph)) (params_at (doing (bound_kind sizes kind))) ≡ true
   params_there (plain.task code ins outs) known = refl
-  params_there (plain.map_scope params private body) known = numbers_there params known.1
+  params_there (plain.map_scope sequential params private body) known = numbers_there params known.1
   params_there (plain.consume_scope stream element private body) known = refl
   params_there (plain.nested_graph inner links) known = refl
   params_there (plain.reduction resolution axis identity from to) known = refl

@@ -55,7 +55,7 @@ module _ (sizes : List ℤ) where
     mutual
       item_same : (kind : KindTree) → item_nodes (bound_kind sizes kind) containers ≡ item_nodes kind others
       item_same (task code ins outs) = refl
-      item_same (map_scope params private body) = ap (λ count. 2 + count) (list_same body private [])
+      item_same (map_scope sequential params private body) = ap (λ count. 2 + count) (list_same body private [])
       item_same (consume_scope stream element private body) = ap (λ count. 2 + count) (list_same body private [])
       item_same (nested_graph inner links) = refl
       item_same (reduction resolution axis identity from to) = refl
@@ -85,7 +85,7 @@ module _ (sizes : List ℤ) where
   mutual
     kind_nested : (kind : KindTree) → nested_in (bound_kind sizes kind) ≡ nested_in kind
     kind_nested (task code ins outs) = refl
-    kind_nested (map_scope params private body) = items_nested body
+    kind_nested (map_scope sequential params private body) = items_nested body
     kind_nested (consume_scope stream element private body) = items_nested body
     kind_nested (nested_graph inner links) = graph_nodes inner
     kind_nested (reduction resolution axis identity from to) = refl
@@ -106,7 +106,7 @@ module _ (sizes : List ℤ) where
     mutual
       kind_few : (kind : KindTree) → IsFew most kind → IsFew most (bound_kind sizes kind)
       kind_few (task code ins outs) few = tt
-      kind_few (map_scope params private body) few = items_few body few
+      kind_few (map_scope sequential params private body) few = items_few body few
       kind_few (consume_scope stream element private body) few = items_few body few
       kind_few (nested_graph inner links) few = graph_few inner few
       kind_few (reduction resolution axis identity from to) few = tt

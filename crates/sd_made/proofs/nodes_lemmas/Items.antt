@@ -225,7 +225,7 @@ module _ (most : ℕ) (above : List FunctionTree) (graphs : Name → GraphTree) 
 
   map_agrees : (line : ℕ) (params : List (ℕ × Range)) (body : Block) (items : ItemTrees) (place : Place) (container : ℕ) → place.around ≡ scope → EveryFrom IsPlaced place body → AllByRecursion Is (entries_in body container) →
       AllAgree items (items_of functions.parameters body) container (containers_in_all body) (λ level. AreClear level body container) →
-      Agrees (plain.map_scope params (own_of body container) items) (source.map_scope line (with_locals [] body) (items_of functions.parameters body)) container (containers_in_all body)
+      Agrees (plain.map_scope false params (own_of body container) items) (source.map_scope line (with_locals [] body) (items_of functions.parameters body)) container (containers_in_all body)
   map_agrees line params body items place container around placed has agree = record {
     does = λ access entry is outside.
         outside_same (own_of body container) (is_of (drawn_as access)) entry.number (outside_own body container entry.number outside) (item_uses items all) ∙ agree.does access entry is outside;
@@ -356,7 +356,7 @@ module _ (most : ℕ) (above : List FunctionTree) (graphs : Name → GraphTree) 
         agree
     statement_agrees (map_scope line parameters ranges body) in_scope table container variable place rest others behind around of are fit has agree =
         let inside : ItemTrees = items_of_body graphs body (with_variables parameters variable table) container (variable + length parameters) in
-        one_more line (plain.map_scope (parameters_of table.variables ranges variable) (own_of body container) inside) _ rest others container (containers_in_all body) (containers_in_all behind) (λ level. AreClear level behind (container + (containers_in_all body)))
+        one_more line (plain.map_scope false (parameters_of table.variables ranges variable) (own_of body container) inside) _ rest others container (containers_in_all body) (containers_in_all behind) (λ level. AreClear level behind (container + (containers_in_all body)))
         (map_agrees line (parameters_of table.variables ranges variable) body inside (in_map place) container refl (placed_from (in_map place) body fit.1) has
         (body_agrees body (with_variables parameters variable table) container (variable + length parameters) (in_map place) refl of are fit.1 has))
         agree

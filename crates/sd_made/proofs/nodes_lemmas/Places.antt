@@ -19,7 +19,7 @@ abbrev mutual
   -- the nodes of the graphs nested in an item
   pub nested_in : KindTree → ℕ
   nested_in (task code ins outs) = 0
-  nested_in (map_scope params private body) = nested_in_all body
+  nested_in (map_scope sequential params private body) = nested_in_all body
   nested_in (consume_scope stream element private body) = nested_in_all body
   nested_in (nested_graph inner links) = nodes_in inner
   nested_in (reduction resolution axis identity from to) = 0
@@ -52,7 +52,7 @@ among_joined (place ∷ first) second = omega (arith, among_joined first second,
 mutual
   kind_summed : (kind : KindTree) (place : Place) → nodes_among (places_in kind place) ≡ nested_in kind
   kind_summed (task code ins outs) place = refl
-  kind_summed (map_scope params private body) place = items_summed body place (in_map place.scopes params private) 0
+  kind_summed (map_scope sequential params private body) place = items_summed body place (in_map place.scopes params private) 0
   kind_summed (consume_scope stream element private body) place = items_summed body place (in_consume place.scopes element private) 0
   kind_summed (nested_graph inner links) place = graph_summed inner place.path (suc place.depth)
   kind_summed (reduction resolution axis identity from to) place = refl
@@ -95,7 +95,7 @@ abbrev mutual
   -- each state of a graph nested in an item has at most so many
   pub IsFew : (most : ℕ) → KindTree → Type 0
   IsFew most (task code ins outs) = ⊤
-  IsFew most (map_scope params private body) = AreFew most body
+  IsFew most (map_scope sequential params private body) = AreFew most body
   IsFew most (consume_scope stream element private body) = AreFew most body
   IsFew most (nested_graph inner links) = HasFew most inner
   IsFew most (reduction resolution axis identity from to) = ⊤
@@ -119,7 +119,7 @@ module _ (most : ℕ) where
   mutual
     kind_few : (kind : KindTree) (place : Place) → IsFew most kind → AllByRecursion IsFewAt (places_in kind place)
     kind_few (task code ins outs) place few = tt
-    kind_few (map_scope params private body) place few = items_few body place (in_map place.scopes params private) 0 few
+    kind_few (map_scope sequential params private body) place few = items_few body place (in_map place.scopes params private) 0 few
     kind_few (consume_scope stream element private body) place few = items_few body place (in_consume place.scopes element private) 0 few
     kind_few (nested_graph inner links) place few = graph_few inner place.path (suc place.depth) few
     kind_few (reduction resolution axis identity from to) place few = tt

@@ -39,7 +39,7 @@ module _ (tree : GraphTree) (scopes : Scopes) (loops : List ℕ) (Sized : Type 0
   -- the links of an item are sound; those that are no outputs of tasklets are of arrays, and what is consumed is a stream
   abbrev pub HasSoundLinks : KindTree → Type 0
   HasSoundLinks (plain.task code ins outs) = ArrayLinks ins × SoundLinks outs
-  HasSoundLinks (plain.map_scope params private body) = ⊤
+  HasSoundLinks (plain.map_scope sequential params private body) = ⊤
   HasSoundLinks (plain.consume_scope stream element private body) = IsInForce (containers_of tree) scopes.private stream × (is_stream (container_at (containers_of tree) stream).kind ≡ true)
   HasSoundLinks (plain.nested_graph inner links) = ArrayLinks links
   HasSoundLinks (plain.reduction resolution axis identity from to) = IsArrayLink from × IsArrayLink to

@@ -1,5 +1,6 @@
 -- The items of statements are told, one for one.
 use Rattle.std.proofs.Common.{◌≡◌, ◌∙◌, inl, inr, ℕ, ◌+◌, ◌<◌, ◌≤◌, pos, List, [], ◌∷◌, ◌++◌, length, Bool, true, false, cond, ◌&&◌, nat_eq, refl, ap, sym, subst, arith}
+use Rattle.sd_num.specs.declared.width.Width.TheVariants.{W64}
 use Rattle.sd_lex.specs.PlainTree.{Dimension, Expressions, no_expression, and_expression, StatementTree, argument_array, local_array, local_stream, assign, copy, reduce, map_scope, tasklet, consume_scope, call, for_loop, while_loop, branch, tasklet_branch, Block, no_statement, and_statement, FunctionTree}
 use Rattle.sd_lex.specs.StatementKind.{has_connector}
 use Rattle.sd_graph.specs.PlainTree as plain
@@ -70,11 +71,11 @@ module _ (symbols : Named ℕ) (declared : List Name) (all : Containers) where
       AreHeld all private known table.containers → AreHeld all private (behind statement known) (table_behind statement container table).containers
   held_behind (argument_array line name bits extents) table container private own known before stands e begins more are = absurd stands
   held_behind (local_array line name extents bits) table container private own known before stands e begins more are =
-      let entry : Name × Container = (name, record { extents = extents_of symbols extents; kind = Private }) in
+      let entry : Name × Container = (name, record { extents = extents_of symbols extents; kind = Private; width = W64 }) in
       let holder : Holder = of_dimensions (length_of extents) in
       one_more_held all private known table.containers name holder container (own_held all private own before entry container holder e begins more (refl, extents_counted symbols extents)) are
   held_behind (local_stream line name bits size) table container private own known before stands e begins more are =
-      let entry : Name × Container = (name, record { extents = []; kind = PrivateStream }) in
+      let entry : Name × Container = (name, record { extents = []; kind = PrivateStream; width = W64 }) in
       one_more_held all private known table.containers name of_values container (own_held all private own before entry container of_values e begins more (refl, refl)) are
   held_behind (for_loop line name begin end step body) table container private own known before stands e begins more are = absurd stands
   held_behind (while_loop line when body) table container private own known before stands e begins more are = absurd stands
@@ -143,7 +144,7 @@ module _ (Given : Place → StatementTree → Type 0) (Is : List Name → Functi
     consumed_made true body line table container variable element scopes own place before e begins stands given of_body =
         let more : (number : ℕ) → has_number scopes.private number ≡ true → has_number (container ∷ own ++ scopes.private) number ≡ true =
         λ number e. or_second (nat_eq number container) (has_number (own ++ scopes.private) number) (in_second own scopes.private number e) in
-        let made : (length before < length all) × (container_at all (length before) ≡ record { extents = affine_number (pos 1) ∷ []; kind = Private }) = element_made symbols declared before true element all begins in (
+        let made : (length before < length all) × (container_at all (length before) ≡ record { extents = affine_number (pos 1) ∷ []; kind = Private; width = W64 }) = element_made symbols declared before true element all begins in (
           inr (record {
             place = place;
             body = body;
@@ -158,7 +159,7 @@ module _ (Given : Place → StatementTree → Type 0) (Is : List Name → Functi
             given = given;
             there = subst (λ number. number < length all) e made.0;
             private = has_first container (own ++ scopes.private);
-            held = subst (λ number. container_at all number ≡ record { extents = affine_number (pos 1) ∷ []; kind = Private }) e made.1;
+            held = subst (λ number. container_at all number ≡ record { extents = affine_number (pos 1) ∷ []; kind = Private; width = W64 }) e made.1;
             made = refl;
           }),
           tt,
@@ -168,7 +169,7 @@ module _ (Given : Place → StatementTree → Type 0) (Is : List Name → Functi
         let more : (number : ℕ) → has_number scopes.private number ≡ true → has_number (container ∷ own ++ scopes.private) number ≡ true =
         λ number e. or_second (nat_eq number container) (has_number (own ++ scopes.private) number) (in_second own scopes.private number e) in
         let with : Containers = with_element declared before false element in
-        let made : (length before < length all) × (container_at all (length before) ≡ record { extents = affine_number (pos 1) ∷ []; kind = Private }) =
+        let made : (length before < length all) × (container_at all (length before) ≡ record { extents = affine_number (pos 1) ∷ []; kind = Private; width = W64 }) =
         element_made symbols declared before false element all (first_begins symbols declared body true with all begins) in
         let found : IsOf (of_dimensions 1) (container_at all (length before)) = subst (λ found. IsOf (of_dimensions 1) found) (sym made.1) (refl, λ least. refl) in
         of_body with (omega (arith, element_longer symbols declared before false element, e)) begins

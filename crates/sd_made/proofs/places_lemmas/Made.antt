@@ -1,5 +1,6 @@
 -- What stands at a place of the graph of a program is what a statement makes where it stands.
 use Rattle.std.proofs.Common.{◌≡◌, ◌⊎◌, ℕ, ◌+◌, ◌<◌, ◌≤◌, ℤ, pos, List, [], ◌∷◌, length, Option, Some, Bool, true, false}
+use Rattle.sd_num.specs.declared.width.Width.TheVariants.{W64}
 use Rattle.sd_lex.specs.PlainTree.{Expression, StatementTree, for_loop, while_loop, branch, Block, FunctionTree}
 use Rattle.sd_range.specs.Arithmetic.{affine_zero}
 use Rattle.sd_graph.specs.PlainTree.{KindTree, GraphTree, ExitTree}
@@ -91,7 +92,7 @@ module _ (Given : Place → StatementTree → Type 0) (Is : List Name → Functi
     pub given : EveryFrom Given (in_consume true element place) body
     pub there : container < length (containers_of tree)
     pub private : has_number scopes.private container ≡ true
-    pub held : container_at (containers_of tree) container ≡ record { extents = affine_number (pos 1) ∷ []; kind = Private }
+    pub held : container_at (containers_of tree) container ≡ record { extents = affine_number (pos 1) ∷ []; kind = Private; width = W64 }
     pub made : kind ≡ taking_task table element container body
 
   abbrev pub IsItem : GraphTree → (state : ℕ) → Scopes → KindTree → Type 0

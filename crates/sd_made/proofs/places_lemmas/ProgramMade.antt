@@ -2,6 +2,7 @@
 use Rattle.std.proofs.Common.{◌≡◌, ◌∙◌, inl, inr, ℕ, ◌+◌, ◌≤◌, List, [], ◌∷◌, ◌++◌, length, Option, Some, unwrap_or, Bool, true, false, cond, reverse, refl, ap, subst, arith, bytes_eq, zero-add}
 use Rattle.std.proofs.lemmas.Grind.{reverse_onto}
 use Rattle.std.specs.List.{AllByRecursion}
+use Rattle.sd_num.specs.declared.width.Width.TheVariants.{W64}
 use Rattle.sd_lex.specs.PlainTree.{StatementTree, argument_array, Block, no_statement, and_statement, FunctionTree, ProgramTree}
 use Rattle.sd_graph.specs.PlainTree.{no_item, GraphTree}
 use Rattle.sd_graph.specs.TreeParts.{containers_of}
@@ -41,7 +42,7 @@ module _ (symbols : Named ℕ) (declared : List Name) (all : Containers) where
   arguments_held (and_statement (argument_array line name bits extents) rest) numbers next place before around e begins placed are =
       let first : StatementTree = argument_array line name bits extents in
       let middle : Containers = containers_with symbols declared first false before in
-      let entry : Name × Container = (name, record { extents = extents_of symbols extents; kind = Argument }) in
+      let entry : Name × Container = (name, record { extents = extents_of symbols extents; kind = Argument; width = W64 }) in
       let holder : Holder = of_dimensions (dimensions_of extents) in
       arguments_held rest ((name, next) ∷ numbers) (next + 1) (past first place) middle around
       (counted symbols declared first false place before placed.0 ∙ ap (λ number. number + 1) e) begins placed.1

@@ -39,7 +39,7 @@ module _ (Whole Other : GraphTree → Type 0) (Leaving : GraphTree → (state : 
   mutual
     kind_whole : (kind : KindTree) (tree : GraphTree) (state : ℕ) (scopes : Scopes) → InKind Whole Leaving Doing kind tree state scopes → InKind Other NoExit NoItem kind tree state scopes
     kind_whole (task code ins outs) tree state scopes holds = tt
-    kind_whole (map_scope params private body) tree state scopes holds = items_whole body tree state (in_map scopes params private) holds
+    kind_whole (map_scope sequential params private body) tree state scopes holds = items_whole body tree state (in_map scopes params private) holds
     kind_whole (consume_scope stream element private body) tree state scopes holds = items_whole body tree state (in_consume scopes element private) holds
     kind_whole (nested_graph inner links) tree state scopes holds = graph_whole inner holds
     kind_whole (reduction resolution axis identity from to) tree state scopes holds = tt

@@ -1,6 +1,7 @@
 -- The states of a program's block are told, one after another.
 use Rattle.std.proofs.Common.{◌≡◌, ◌∙◌, inl, inr, ℕ, suc, ◌+◌, ◌<◌, ◌≤◌, List, [], ◌∷◌, ◌++◌, length, true, false, refl, ap, sym, subst, arith, add-zero}
 use Rattle.std.specs.List.{AllByRecursion}
+use Rattle.sd_num.specs.declared.width.Width.TheVariants.{W64}
 use Rattle.sd_lex.specs.PlainTree.{StatementTree, argument_array, local_array, local_stream, for_loop, while_loop, branch, tasklet_branch, Block, no_statement, and_statement, FunctionTree}
 use Rattle.sd_graph.specs.PlainTree.{ItemTrees, no_item, ExitTree, GraphTree}
 use Rattle.sd_graph.specs.TreeFold.{PlainState, states_listed}
@@ -98,11 +99,11 @@ module _ (symbols : Named ℕ) (declared : List Name) (all : Containers) where
         AreHeld all [] (place_of.behind statement place.containers) (table_behind_state statement container table).containers
     held_past (argument_array line name bits extents) table container place before around e begins placed are = absurd (stands_in_program place (argument_array line name bits extents) around placed)
     held_past (local_array line name extents bits) table container place before around e begins placed are =
-        let entry : Name × Container = (name, record { extents = extents_of symbols extents; kind = Transient }) in
+        let entry : Name × Container = (name, record { extents = extents_of symbols extents; kind = Transient; width = W64 }) in
         let holder : Holder = of_dimensions (length_of extents) in
         one_more_held all [] place.containers table.containers name holder container (whole_held all before entry container holder e begins refl (refl, extents_counted symbols extents)) are
     held_past (local_stream line name bits size) table container place before around e begins placed are =
-        let entry : Name × Container = (name, record { extents = []; kind = Stream }) in
+        let entry : Name × Container = (name, record { extents = []; kind = Stream; width = W64 }) in
         one_more_held all [] place.containers table.containers name of_values container (whole_held all before entry container of_values e begins refl (refl, refl)) are
     held_past (for_loop line name begin end step body) table container place before around e begins placed are = all_held_past body table container (in_loop place) before around e begins placed.1 are
     held_past (while_loop line when body) table container place before around e begins placed are = all_held_past body table container (in_loop place) before around e begins placed.1 are

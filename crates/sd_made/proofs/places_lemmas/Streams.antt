@@ -45,7 +45,7 @@ module _ (sizes : List ℤ) (tree : GraphTree) where
 
     kind_streams : (kind : KindTree) → HasSoundLinks tree scopes loops Sized kind → are_streams_in_place (containers_of (bound_graph sizes tree)) (doing (bound_kind sizes kind)) ≡ true
     kind_streams (plain.task code ins outs) sound = links_arrays ins sound.0
-    kind_streams (plain.map_scope params private body) sound = refl
+    kind_streams (plain.map_scope sequential params private body) sound = refl
     kind_streams (plain.consume_scope stream element private body) sound = kind_bound stream ∙ sound.1
     kind_streams (plain.nested_graph inner links) sound = links_arrays links sound
     kind_streams (plain.reduction resolution axis identity from to) sound = rw (one_array from sound.0.1) (one_array to sound.1.1)

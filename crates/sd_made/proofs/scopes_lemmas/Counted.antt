@@ -65,7 +65,7 @@ element_counted numbers number line table in_scope name at add value rest none =
 mutual
   kind_held : (number : ℕ) (kind : KindTree) → times number (held_by kind) + counted held_at number (things_in kind) ≡ times number (held_in_kind kind)
   kind_held number (task code ins outs) = refl
-  kind_held number (map_scope params private body) = ap (λ (count : ℕ). times number private + count) (items_held number body) ∙ sym (times_joined number private (held_in body))
+  kind_held number (map_scope sequential params private body) = ap (λ (count : ℕ). times number private + count) (items_held number body) ∙ sym (times_joined number private (held_in body))
   kind_held number (consume_scope stream element private body) =
       ap (λ (count : ℕ). times number (element ∷ private) + count) (items_held number body) ∙ sym (times_joined number (element ∷ private) (held_in body))
   kind_held number (nested_graph inner links) = refl
@@ -92,7 +92,7 @@ module _ (sizes : List ℤ) where
   mutual
     kind_bound : (kind : KindTree) → things_in (bound_kind sizes kind) ≡ map (bound_thing sizes) (things_in kind)
     kind_bound (task code ins outs) = refl
-    kind_bound (map_scope params private body) = items_bound body
+    kind_bound (map_scope sequential params private body) = items_bound body
     kind_bound (consume_scope stream element private body) = items_bound body
     kind_bound (nested_graph inner links) = refl
     kind_bound (reduction resolution axis identity from to) = refl
@@ -126,7 +126,7 @@ module _ (sizes : List ℤ) where
   held_bound whole = refl
   held_bound (leaving items exits) = refl
   held_bound (doing (task code ins outs)) = refl
-  held_bound (doing (map_scope params private body)) = refl
+  held_bound (doing (map_scope sequential params private body)) = refl
   held_bound (doing (consume_scope stream element private body)) = refl
   held_bound (doing (nested_graph inner links)) = refl
   held_bound (doing (reduction resolution axis identity from to)) = refl
@@ -140,7 +140,7 @@ module _ (sizes : List ℤ) where
   params_bound whole = refl
   params_bound (leaving items exits) = refl
   params_bound (doing (task code ins outs)) = refl
-  params_bound (doing (map_scope params private body)) = param_numbers_bound params
+  params_bound (doing (map_scope sequential params private body)) = param_numbers_bound params
   params_bound (doing (consume_scope stream element private body)) = refl
   params_bound (doing (nested_graph inner links)) = refl
   params_bound (doing (reduction resolution axis identity from to)) = refl

@@ -2,6 +2,7 @@
 use Rattle.std.proofs.Common.{◌≡◌, inl, inr, ℕ, zero, suc, ◌<◌, ℤ, pos, List, [], ◌∷◌, map, length, Some, Bool, true, false, cond, ◌&&◌, refl, ap, sym, subst, arith}
 use Rattle.std.specs.Prelude.{⊤}
 use Rattle.std.proofs.lemmas.Option.{same_Some}
+use Rattle.sd_num.specs.declared.width.Width.TheVariants.{W64}
 use Rattle.sd_lex.specs.PlainTree.{StatementTree, assign, copy, reduce, map_scope, tasklet, consume_scope, call, Block, FunctionTree}
 use Rattle.sd_lex.specs.StatementKind.{has_connector}
 use Rattle.sd_graph.specs.PlainTree as plain
@@ -24,14 +25,14 @@ use Rattle.sd_validity.specs.rules.NamesInForce.{is_element}
 use Rattle.sd_made.proofs.places_lemmas.Made.{IsItem}
 
 abbrev one_element : Container
-one_element = record { extents = affine_number (pos 1) ∷ []; kind = Private }
+one_element = record { extents = affine_number (pos 1) ∷ []; kind = Private; width = W64 }
 
 abbrev IsElement : GraphTree → ℕ → Type 0
 IsElement tree element = container_at (containers_of tree) element ≡ one_element
 
 abbrev HasElement : GraphTree → KindTree → Type 0
 HasElement tree (plain.task code ins outs) = ⊤
-HasElement tree (plain.map_scope params private body) = ⊤
+HasElement tree (plain.map_scope sequential params private body) = ⊤
 HasElement tree (plain.consume_scope stream element private body) = IsElement tree element
 HasElement tree (plain.nested_graph inner links) = ⊤
 HasElement tree (plain.reduction resolution axis identity from to) = ⊤
@@ -70,7 +71,7 @@ element_bound sizes (entry ∷ containers) (suc number) is = element_bound sizes
 
 abbrev pub HasBoundElement : GraphTree → KindTree → Type 0
 HasBoundElement tree (plain.task code ins outs) = ⊤
-HasBoundElement tree (plain.map_scope params private body) = ⊤
+HasBoundElement tree (plain.map_scope sequential params private body) = ⊤
 HasBoundElement tree (plain.consume_scope stream element private body) = is_element (container_at (containers_of tree) element) ≡ true
 HasBoundElement tree (plain.nested_graph inner links) = ⊤
 HasBoundElement tree (plain.reduction resolution axis identity from to) = ⊤
@@ -81,7 +82,7 @@ tree_bound sizes (graph name containers arguments variables symbols states) elem
 
 kind_bound : (sizes : List ℤ) (tree : GraphTree) (kind : KindTree) → HasElement tree kind → HasBoundElement (bound_graph sizes tree) (bound_kind sizes kind)
 kind_bound sizes tree (plain.task code ins outs) is = tt
-kind_bound sizes tree (plain.map_scope params private body) is = tt
+kind_bound sizes tree (plain.map_scope sequential params private body) is = tt
 kind_bound sizes tree (plain.consume_scope stream element private body) is = tree_bound sizes tree element is
 kind_bound sizes tree (plain.nested_graph inner links) is = tt
 kind_bound sizes tree (plain.reduction resolution axis identity from to) is = tt

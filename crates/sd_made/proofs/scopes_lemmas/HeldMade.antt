@@ -49,7 +49,7 @@ module _ (graphs : Name → GraphTree) (number : ℕ) where
     items_held (reduce line lambda from to axis identity) in_scope table container variable rest = omega arith
     items_held (map_scope line parameters ranges body) in_scope table container variable rest =
         let inside : ItemTrees = items_of_body graphs body (with_variables parameters variable table) container (variable + length parameters) in
-        let split = item_counted held_at number line (plain.map_scope (parameters_of table.variables ranges variable) (own_of body container) inside) rest in
+        let split = item_counted held_at number line (plain.map_scope false (parameters_of table.variables ranges variable) (own_of body container) inside) rest in
         omega (arith, split, body_held body (with_variables parameters variable table) container (variable + length parameters))
     items_held (tasklet line body) in_scope table container variable rest = omega arith
     items_held (consume_scope line stream size name element worker body) in_scope table container variable rest =

@@ -1,5 +1,6 @@
 -- Which containers of a program are private: those that the blocks of scopes declare, and elements.
 use Rattle.std.proofs.Common.{◌≡◌, ◌∙◌, ℕ, zero, suc, ◌+◌, ◌<◌, ◌≤◌, nat_eq, List, [], ◌∷◌, ◌++◌, length, Bool, true, false, cond, ◌&&◌, refl, ap, sym, subst, arith, add-zero, zero-add}
+use Rattle.sd_num.specs.declared.width.Width.TheVariants.{W64}
 use Rattle.sd_lex.specs.PlainTree.{StatementTree, argument_array, local_array, local_stream, map_scope, consume_scope, for_loop, while_loop, branch, tasklet_branch, Block, no_statement, and_statement, FunctionTree}
 use Rattle.sd_lex.specs.StatementKind.{has_connector}
 use Rattle.sd_graph.specs.ContainerParts.{Containers, container_at}
@@ -129,8 +130,8 @@ module _ (symbols : Named ℕ) (declared : List Name) (number : ℕ) where
         private_at (containers_with symbols declared statement true before) number
         ≡ private_at before number + (times number (own_before statement (length before) []) + nested number statement (length before))
     nested_private (argument_array line name bits extents) place before around placed = absurd (stands_in_scope place (argument_array line name bits extents) around placed)
-    nested_private (local_array line name extents bits) place before around placed = omega (arith, private_more before (name, record { extents = extents_of symbols extents; kind = Private }) number)
-    nested_private (local_stream line name bits size) place before around placed = omega (arith, private_more before (name, record { extents = []; kind = PrivateStream }) number)
+    nested_private (local_array line name extents bits) place before around placed = omega (arith, private_more before (name, record { extents = extents_of symbols extents; kind = Private; width = W64 }) number)
+    nested_private (local_stream line name bits size) place before around placed = omega (arith, private_more before (name, record { extents = []; kind = PrivateStream; width = W64 }) number)
     nested_private (map_scope line parameters ranges body) place before around placed = omega (arith, within_private body (in_map place) before refl placed.1)
     nested_private (consume_scope line stream size name element worker body) place before around placed =
         omega (arith, consumed_private (has_connector body) body element place before placed.1 (λ with placed. within_private body (in_consume false element place) with refl placed))

@@ -81,7 +81,7 @@ HasElementAt tree (doing kind) = HasBoundElement tree kind
 module _ (tree : GraphTree) where
   kind_private : (kind : KindTree) → HasBoundElement tree kind → ((number : ℕ) → 1 ≤ times number (held_at (doing kind)) → is_own (containers_of tree) number ≡ true) → are_own_private (containers_of tree) (doing kind) ≡ true
   kind_private (plain.task code ins outs) element own = refl
-  kind_private (plain.map_scope params private body) element own = each_passes (is_own (containers_of tree)) private own
+  kind_private (plain.map_scope sequential params private body) element own = each_passes (is_own (containers_of tree)) private own
   kind_private (plain.consume_scope stream number private body) element own =
       rw element (each_passes (is_own (containers_of tree)) private (λ number some. own number (omega (arith, some))))
   kind_private (plain.nested_graph inner links) element own = refl

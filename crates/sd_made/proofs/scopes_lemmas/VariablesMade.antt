@@ -56,7 +56,7 @@ module _ (graphs : Name → GraphTree) (number : ℕ) where
     items_given (map_scope line parameters ranges body) in_scope table container variable rest few =
         let params : List ℕ = param_numbers (parameters_of table.variables ranges variable) in
         let inside : ItemTrees = items_of_body graphs body (with_variables parameters variable table) container (variable + length parameters) in
-        let split = item_counted given_at number line (plain.map_scope (parameters_of table.variables ranges variable) (own_of body container) inside) rest in
+        let split = item_counted given_at number line (plain.map_scope false (parameters_of table.variables ranges variable) (own_of body container) inside) rest in
         let own : times number params ≡ span number variable (length parameters) = params_spanned number table.variables ranges variable ∙ ap (λ (count : ℕ). span number variable count) (sym few.0.0) in
         omega (
           arith,

@@ -59,7 +59,7 @@ module _ (sizes : List ℤ) where
   thing_moved place whole at is = refl
   thing_moved place (leaving items exits) at is = refl
   thing_moved place (doing (plain.task code ins outs)) at is = refl
-  thing_moved place (doing (plain.map_scope params private body)) at is = refl
+  thing_moved place (doing (plain.map_scope sequential params private body)) at is = refl
   thing_moved place (doing (plain.consume_scope stream element private body)) at is = refl
   thing_moved place (doing (plain.nested_graph inner links)) at is = refl
   thing_moved place (doing (plain.reduction resolution axis identity from to)) at is = kind_bound sizes (plain.reduction resolution axis identity from to) at.1 is
@@ -104,7 +104,7 @@ module _ (sizes : List ℤ) where
   thing_nested place whole at is = whole_nested place.graph is
   thing_nested place (leaving items exits) at is = refl
   thing_nested place (doing (plain.task code ins outs)) at is = refl
-  thing_nested place (doing (plain.map_scope params private body)) at is = refl
+  thing_nested place (doing (plain.map_scope sequential params private body)) at is = refl
   thing_nested place (doing (plain.consume_scope stream element private body)) at is = refl
   thing_nested place (doing (plain.nested_graph inner links)) at is = links_kept inner links at.1.0 at.1.1 is
   thing_nested place (doing (plain.reduction resolution axis identity from to)) at is = refl

@@ -40,7 +40,7 @@ IsLeaving tree state exit = ⊤
 
 abbrev pub HasNormalLinks : KindTree → Type 0
 HasNormalLinks (plain.task code ins outs) = ⊤
-HasNormalLinks (plain.map_scope params private body) = ⊤
+HasNormalLinks (plain.map_scope sequential params private body) = ⊤
 HasNormalLinks (plain.consume_scope stream element private body) = ⊤
 HasNormalLinks (plain.nested_graph inner links) = AreNormal (containers_of inner) × AllByRecursion HasNormalRanges links
 HasNormalLinks (plain.reduction resolution axis identity from to) = HasNormalRanges from × HasNormalRanges to

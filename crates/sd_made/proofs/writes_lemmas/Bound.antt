@@ -29,7 +29,7 @@ module _ (sizes : List ℤ) where
   mutual
     kind_same : (kind : KindTree) → written_by (bound_kind sizes kind) ≡ written_by kind
     kind_same (task code ins outs) = links_same outs
-    kind_same (map_scope params private body) = items_same body
+    kind_same (map_scope sequential params private body) = items_same body
     kind_same (consume_scope stream element private body) = items_same body
     kind_same (nested_graph inner links) = ap (λ written. written_through written 0 (map (bound_link sizes) links)) (graph_same inner) ∙ through_same (written_of inner) 0 links
     kind_same (reduction resolution axis identity from to) = refl
@@ -58,7 +58,7 @@ module _ (sizes : List ℤ) where
   mutual
     kind_apart : (kind : KindTree) → IsKindApart kind → IsKindApart (bound_kind sizes kind)
     kind_apart (task code ins outs) is = tt
-    kind_apart (map_scope params private body) is = items_apart body is
+    kind_apart (map_scope sequential params private body) is = items_apart body is
     kind_apart (consume_scope stream element private body) is = items_apart body is
     kind_apart (nested_graph inner links) is =
         (ap (λ written. are_unshared written 0 (map (bound_link sizes) links)) (graph_same inner) ∙ all_same (written_of inner) 0 links ∙ is.0, graph_apart inner is.1)

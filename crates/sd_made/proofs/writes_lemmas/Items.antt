@@ -117,7 +117,7 @@ module _ (W : Name → Type 0) (above : List FunctionTree) (graphs : Name → Gr
         ((number_written all table place.containers are W to (part_known place.containers to [] fit.1.0.1) written.0, good.0), (tt, good.1))
     item_good (map_scope line parameters ranges body) in_scope table container variable rest place before around e begins of are fit written good =
         let inside : ItemTrees = items_of_body graphs body (with_variables parameters variable table) container (variable + length parameters) in
-        with_item line (plain.map_scope (parameters_of table.variables ranges variable) (own_of body container) inside) rest
+        with_item line (plain.map_scope false (parameters_of table.variables ranges variable) (own_of body container) inside) rest
         (body_good body (with_variables parameters variable table) container (variable + length parameters) (in_map place) before refl e begins of are fit.1 written) good
     item_good (tasklet line body) in_scope table container variable rest place before around e begins of are fit written good =
         let inside : Place = in_tasklet place in

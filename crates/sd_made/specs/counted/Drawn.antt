@@ -24,7 +24,7 @@ abbrev mutual
   -- of an item itself: one, or a scope's entry and exit with those of its body
   pub item_nodes : KindTree → Containers → ℕ
   item_nodes (task code ins outs) containers = 1
-  item_nodes (map_scope params private body) containers = 2 + list_nodes body containers private []
+  item_nodes (map_scope sequential params private body) containers = 2 + list_nodes body containers private []
   item_nodes (consume_scope stream element private body) containers = 2 + list_nodes body containers private []
   item_nodes (nested_graph inner links) containers = 1
   item_nodes (reduction resolution axis identity from to) containers = 1

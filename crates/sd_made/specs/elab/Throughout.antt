@@ -7,7 +7,7 @@ module _ (Holds : StateTrees → Type 0) where
     -- in the graphs nested in an item
     pub KindThroughout : KindTree → Type 0
     KindThroughout (task code ins outs) = ⊤
-    KindThroughout (map_scope params private body) = ItemsThroughout body
+    KindThroughout (map_scope sequential params private body) = ItemsThroughout body
     KindThroughout (consume_scope stream element private body) = ItemsThroughout body
     KindThroughout (nested_graph inner links) = Throughout inner
     KindThroughout (reduction resolution axis identity from to) = ⊤

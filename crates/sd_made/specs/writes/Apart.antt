@@ -31,7 +31,7 @@ CallsApart place statement = ⊤
 abbrev mutual
   pub IsKindApart : KindTree → Type 0
   IsKindApart (task code ins outs) = ⊤
-  IsKindApart (map_scope params private body) = AreItemsApart body
+  IsKindApart (map_scope sequential params private body) = AreItemsApart body
   IsKindApart (consume_scope stream element private body) = AreItemsApart body
   IsKindApart (nested_graph inner links) = (are_unshared (written_of inner) 0 links ≡ true) × IsGraphApart inner
   IsKindApart (reduction resolution axis identity from to) = ⊤
