@@ -1,9 +1,10 @@
 //! The race check of a graph.
 //!
 //! `check` answers the first pair of accesses of a scope that is not accepted, in the order of
-//! `race`, exactly where the graph is not accepted; `scope_accepted` asks one scope. Only accesses of
-//! one container, in modes that conflict, are compared, each two of a scope once. Nothing is asked of the
-//! graph; want of memory is the one refusal beside a race.
+//! `race`, exactly where the graph is not accepted: it passes over sequential maps, and looks at the
+//! scopes inside them. `scope_accepted` asks one scope, sequential or not. Only accesses of one container, in
+//! modes that conflict, are compared, each two of a scope once. Nothing is asked of the graph; want of
+//! memory is the one refusal beside a race.
 mod alike;
 mod clear;
 mod enclosing;

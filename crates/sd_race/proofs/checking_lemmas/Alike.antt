@@ -1,10 +1,10 @@
 -- A scope that is like an accepted one is accepted.
 use Rattle.std.specs.List.{AllByRecursion, All, Contains}
 use Rattle.std.proofs.lemmas.List.Elements.{All-contains}
-use Rattle.std.proofs.Common.{List, [], ◌∷◌, map, sym, subst}
+use Rattle.std.proofs.Common.{List, [], ◌∷◌, map, ap, sym, ◌∙◌, subst}
 use Rattle.sd_prop.specs.propagation.Accesses.{Access}
-use Rattle.sd_prop.specs.propagation.Scopes.{Scope}
-use Rattle.sd_race.specs.race.Pairs.{AreHarmlessOver, IsAccepted, pair_of, pairs_among, pairs_of}
+use Rattle.sd_prop.specs.propagation.Scopes.{is_sequential, Scope}
+use Rattle.sd_race.specs.race.Pairs.{AreHarmlessOver, IsAccepted, IsFreeOfRaces, IsScopeAccepted, pair_of, pairs_among}
 use Rattle.sd_race.specs.checking.Clear.{AreAlike}
 use Rattle.sd_race.proofs.race_lemmas.Members.{all-parts, all-joined}
 
@@ -25,9 +25,10 @@ module _ (scope other : Scope) (alike : AreAlike scope other) where
       all-joined IsAccepted (map (pair_of scope access) (access ∷ accesses)) (pairs_among scope accesses)
       (with_one-alike access (access ∷ accesses) parts.0) (among-alike accesses parts.1)
 
-  scope-alike : AllByRecursion IsAccepted (pairs_of other) → AllByRecursion IsAccepted (pairs_of scope)
+  scope-alike : IsFreeOfRaces other → IsFreeOfRaces scope
   scope-alike all = subst (λ accesses. AllByRecursion IsAccepted (pairs_among scope accesses)) (sym alike.accesses) (among-alike other.accesses all)
 
 -- of accepted scopes one is like another
-pub like_earlier : (scope : Scope) (earlier : List Scope) → ((other : Scope) × Contains earlier other × AreAlike scope other) → All (λ passed. AllByRecursion IsAccepted (pairs_of passed)) earlier → AllByRecursion IsAccepted (pairs_of scope)
-like_earlier scope earlier found all = scope-alike scope found.0 found.2 (All-contains (λ passed. AllByRecursion IsAccepted (pairs_of passed)) earlier found.0 all found.1)
+pub like_earlier : (scope : Scope) (earlier : List Scope) → ((other : Scope) × Contains earlier other × AreAlike scope other) → All IsScopeAccepted earlier → IsScopeAccepted scope
+like_earlier scope earlier found all is =
+    scope-alike scope found.0 found.2 (All-contains IsScopeAccepted earlier found.0 all found.1 (ap is_sequential (sym found.2.over) ∙ is))

@@ -152,7 +152,7 @@ harmless-within around own whole box beyond other encloses encloses' (inl apart)
 harmless-within around own whole box beyond other encloses encloses' (inr all) = inr (all_separated-within around own own whole box beyond other encloses encloses' all)
 
 pub harmless_over-within : (over : Over) (around : List Parameter) (whole box beyond other : Box) → Encloses whole box → Encloses beyond other → AreHarmlessOver over around whole beyond → AreHarmlessOver over around box other
-harmless_over-within (points params) around whole box beyond other encloses encloses' harmless = harmless-within around params whole box beyond other encloses encloses' harmless
+harmless_over-within (points sequential params) around whole box beyond other encloses encloses' harmless = harmless-within around params whole box beyond other encloses encloses' harmless
 harmless_over-within elements around whole box beyond other encloses encloses' harmless = absurd harmless
 
 only : (first one : Bounds) → Some first ≡ Some one → first ≡ one

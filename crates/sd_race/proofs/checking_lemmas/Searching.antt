@@ -4,10 +4,10 @@ use Rattle.std.specs.Option.{is_some}
 use Rattle.std.proofs.lemmas.Bool.{true≢false}
 use Rattle.std.proofs.Common.{◌≡◌, ◌↔◌, ℕ, Bool, true, false, not, IsTrue, ◌+◌, ◌<◌, List, [], ◌∷◌, ◌++◌, Option, Some, None, option_map, map, length, drop, slice_index_or, sym, subst, ◌∙◌, ap, refl, append_assoc}
 use Rattle.sd_prop.specs.propagation.Accesses.{Access}
-use Rattle.sd_prop.specs.propagation.Scopes.{Scope}
-use Rattle.sd_race.specs.race.Pairs.{Pair, IsAccepted, IsScopeAccepted, AreScopesAccepted, pair_of, pairs_among, pairs_of}
+use Rattle.sd_prop.specs.propagation.Scopes.{is_sequential, Scope}
+use Rattle.sd_race.specs.race.Pairs.{Pair, IsAccepted, IsFreeOfRaces, IsScopeAccepted, AreScopesAccepted, pair_of, pairs_among, pairs_of, asked_pairs}
 use Rattle.sd_race.specs.race.Race.{Race, race_of}
-use Rattle.sd_race.proofs.race_lemmas.Members.{all-parts, all-joined}
+use Rattle.sd_race.proofs.race_lemmas.Members.{all-parts, all-joined, asked-all, asked-accepted, scope-accepted}
 use Rattle.sd_race.proofs.race_lemmas.FirstLaws.{none-refused}
 use Rattle.sd_subset.proofs.boxes_lemmas.Walks.{drop-next}
 use Rattle.sd_race.specs.declared.checking.race.Race as told
@@ -47,12 +47,12 @@ first_already pairs behind race first = (
 pub first_here : (pair : Pair) (behind : List Pair) → (IsAccepted pair → ⊥) → IsFirstOf (pair ∷ behind) (Some (race_of pair))
 first_here pair behind refused = (pair, record { passed = []; rest = behind; split = refl; accepted = tt; refused = refused }, refl)
 
--- each pair of each scope is accepted, so each scope is
-pub scopes_accepted : (scopes : List Scope) → AllByRecursion IsAccepted (flat_map pairs_of scopes) → AreScopesAccepted scopes
+-- each pair that is asked of each scope is accepted, so each scope is
+pub scopes_accepted : (scopes : List Scope) → AllByRecursion IsAccepted (flat_map asked_pairs scopes) → AreScopesAccepted scopes
 scopes_accepted [] all = tt
 scopes_accepted (scope ∷ scopes) all =
-    let parts = all-parts IsAccepted (pairs_of scope) (flat_map pairs_of scopes) all in
-    (parts.0, scopes_accepted scopes parts.1)
+    let parts = all-parts IsAccepted (asked_pairs scope) (flat_map asked_pairs scopes) all in
+    (scope-accepted scope parts.0, scopes_accepted scopes parts.1)
 
 module _ (scope : Scope) (access : Access) (others : List Access) (i : ℕ) (other : Access) (below : i < length others) (is : other ≡ slice_index_or others i other) where
   -- past an accepted pair
@@ -68,17 +68,17 @@ module _ (scope : Scope) (access : Access) (others : List Access) (i : ℕ) (oth
       (first_here (pair_of scope access other) (map (pair_of scope access) (drop (i + 1) others)) refused)
 
 module _ (scopes : List Scope) (i : ℕ) (scope : Scope) (below : i < length scopes) (is : scope ≡ slice_index_or scopes i scope) where
-  -- past a scope without a race
-  pub scope_passed : IsFirstOf (pairs_of scope) None → (race : Option Race) → IsFirstOf (flat_map pairs_of (drop (i + 1) scopes)) race → IsFirstOf (flat_map pairs_of (drop i scopes)) race
+  -- past an accepted scope
+  pub scope_passed : IsScopeAccepted scope → (race : Option Race) → IsFirstOf (flat_map asked_pairs (drop (i + 1) scopes)) race → IsFirstOf (flat_map asked_pairs (drop i scopes)) race
   scope_passed accepted race first =
-      subst (λ rest. IsFirstOf (flat_map pairs_of rest) race) (sym (drop-next scopes i scope below is))
-      (first_later (pairs_of scope) (flat_map pairs_of (drop (i + 1) scopes)) race accepted first)
+      subst (λ rest. IsFirstOf (flat_map asked_pairs rest) race) (sym (drop-next scopes i scope below is))
+      (first_later (asked_pairs scope) (flat_map asked_pairs (drop (i + 1) scopes)) race (asked-accepted scope accepted) first)
 
-  -- at one with a race
-  pub scope_found : (race : Race) → IsFirstOf (pairs_of scope) (Some race) → IsFirstOf (flat_map pairs_of (drop i scopes)) (Some race)
-  scope_found race first =
-      subst (λ rest. IsFirstOf (flat_map pairs_of rest) (Some race)) (sym (drop-next scopes i scope below is))
-      (first_already (pairs_of scope) (flat_map pairs_of (drop (i + 1) scopes)) race first)
+  -- at one with a race that is not sequential
+  pub scope_found : is_sequential scope.over ≡ false → (race : Race) → IsFirstOf (pairs_of scope) (Some race) → IsFirstOf (flat_map asked_pairs (drop i scopes)) (Some race)
+  scope_found unmarked race first =
+      subst (λ rest. IsFirstOf (flat_map asked_pairs rest) (Some race)) (sym (drop-next scopes i scope below is))
+      (first_already (asked_pairs scope) (flat_map asked_pairs (drop (i + 1) scopes)) race (subst (λ pairs. IsFirstOf pairs (Some race)) (sym (asked-all scope unmarked)) first))
 
 module _ (scope : Scope) (access : Access) (left behind : List Access) (is : left ≡ access ∷ behind) where
   -- past an access without a race
@@ -102,8 +102,8 @@ none_found pairs (Some race) not first = absurd (not race refl)
 pub some_found : (pairs : List Pair) (found : Option told.Race) (race : told.Race) → found ≡ Some race → IsFirstOf pairs (option_map found_specs.race_of found) → IsFirstOf pairs (Some (found_specs.race_of race))
 some_found pairs found race is first = subst (λ some. IsFirstOf pairs (option_map found_specs.race_of some)) is first
 
--- a scope is accepted exactly where a search finds no race in it
-pub scope_verdict : (scope : Scope) (found : Option told.Race) (is : Bool) → is_some found ≡ not is → IsFirstOf (pairs_of scope) (option_map found_specs.race_of found) → IsTrue is ↔ IsScopeAccepted scope
+-- a scope is free of races exactly where a search finds none in it
+pub scope_verdict : (scope : Scope) (found : Option told.Race) (is : Bool) → is_some found ≡ not is → IsFirstOf (pairs_of scope) (option_map found_specs.race_of found) → IsTrue is ↔ IsFreeOfRaces scope
 scope_verdict scope None true none first = (λ yes. first, λ accepted. refl)
 scope_verdict scope None false none first = absurd (true≢false (sym none))
 scope_verdict scope (Some race) true none first = absurd (true≢false none)

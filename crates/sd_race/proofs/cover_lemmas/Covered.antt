@@ -185,7 +185,7 @@ mutual
   kind-covered (task code ins outs) around line nodes context touch fit in_force (inr (given, effects, is, some)) =
       covered-right context.values context.reach (map (access_of (own_node nodes) Read) ins) (map (output_access context.containers (own_node nodes)) outs) touch
       (evaluation-covered context (own_node nodes) code ins outs given effects touch fit.1 is some)
-  kind-covered (map_scope params private body) around line nodes context touch fit in_force is =
+  kind-covered (map_scope sequential params private body) around line nodes context touch fit in_force is =
       let (point, member, at) = point_terms-touches _ (points (ranges_of params) context.values) touch is in
       let accesses = item_accesses body context.containers (nodes_behind nodes) in
       let there = at_point context params private point in

@@ -72,7 +72,7 @@ mutual
   uses-kind (task code ins outs) containers nodes =
       uses-append (map (use_of Read) ins) (map (output_use containers) outs) (map (access_of (own_node nodes) Read) ins) (map (output_access containers (own_node nodes)) outs)
       (uses-links (own_node nodes) (λ link. Read) ins) (uses-links (own_node nodes) (output_mode containers) outs)
-  uses-kind (map_scope parameters private body) containers nodes =
+  uses-kind (map_scope sequential parameters private body) containers nodes =
       uses-replaced parameters (outside private (item_uses body containers)) (outside_accesses private (item_accesses body containers (nodes_behind nodes)))
       (uses-outside private (item_uses body containers) (item_accesses body containers (nodes_behind nodes)) (uses-items body containers (nodes_behind nodes)))
   uses-kind (consume_scope stream element private body) containers nodes =
@@ -128,7 +128,7 @@ mutual
   pub normal-kind : (kind : KindTree) (containers : Containers) (nodes : List ℕ) (around : List Parameter) → IsFit kind around → AreNormal (kind_accesses kind containers nodes)
   normal-kind (task code ins outs) containers nodes around fit =
       normal-append (map (access_of (own_node nodes) Read) ins) (map (output_access containers (own_node nodes)) outs) (normal-links (own_node nodes) (λ link. Read) ins fit.0) (normal-links (own_node nodes) (output_mode containers) outs fit.1)
-  normal-kind (map_scope parameters private body) containers nodes around fit =
+  normal-kind (map_scope sequential parameters private body) containers nodes around fit =
       normal-each_replaced parameters (outside_accesses private (item_accesses body containers (nodes_behind nodes))) (normal-outside private (item_accesses body containers (nodes_behind nodes)) (normal-items body containers (nodes_behind nodes) (around ++ parameters) fit.1))
   normal-kind (consume_scope stream element private body) containers nodes around fit =
       (tt, normal-outside (element ∷ private) (item_accesses body containers (nodes_behind nodes)) (normal-items body containers (nodes_behind nodes) around fit))

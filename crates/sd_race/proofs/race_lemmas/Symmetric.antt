@@ -43,5 +43,5 @@ harmless-turned around own box other (inl apart) =
 harmless-turned around own box other (inr all) = inr (all_separated-turned around own own box other all)
 
 pub harmless_over-turned : (over : Over) (around : List Parameter) (box other : Box) → AreHarmlessOver over around box other → AreHarmlessOver over around other box
-harmless_over-turned (points params) around box other harmless = harmless-turned around params box other harmless
+harmless_over-turned (points sequential params) around box other harmless = harmless-turned around params box other harmless
 harmless_over-turned elements around box other harmless = absurd harmless

@@ -3,7 +3,7 @@ use Rattle.std.specs.Prelude.{◌≡◌, ◌↔◌, List, Option, Some, None, Bo
 use Rattle.std.specs.List.{AllByRecursion}
 use Rattle.sd_graph.specs.PlainTree.{GraphTree}
 use Rattle.sd_prop.specs.propagation.Scopes.{Scope}
-use Rattle.sd_race.specs.race.Pairs.{Pair, IsAccepted, IsScopeAccepted}
+use Rattle.sd_race.specs.race.Pairs.{Pair, IsAccepted, IsFreeOfRaces}
 use Rattle.sd_race.specs.race.Race.{IsFirstRefused, IsRaceOf}
 use Rattle.sd_race.specs.race.Race as plain
 use Rattle.sd_race.specs.declared.checking.race.Race.{Race}
@@ -24,9 +24,9 @@ abbrev pub TellsRaceOf : GraphTree → RaceError → Type 0
 TellsRaceOf tree (At race) = IsRaceOf tree (race_of race)
 TellsRaceOf tree Memory = ⊤
 
--- whether the scope that was found is accepted; none where none was found
+-- whether the scope that was found is free of races; none where none was found
 abbrev pub IsVerdict : Option Bool → Option Scope → Type 0
 IsVerdict None None = ⊤
 IsVerdict None (Some scope) = ⊥
 IsVerdict (Some is) None = ⊥
-IsVerdict (Some is) (Some scope) = IsTrue is ↔ IsScopeAccepted scope
+IsVerdict (Some is) (Some scope) = IsTrue is ↔ IsFreeOfRaces scope

@@ -84,7 +84,7 @@ abbrev mutual
   -- an item, where these parameters are in force around it, the outermost first
   pub IsFit : KindTree → (around : List Parameter) → Type 0
   IsFit (task code ins outs) around = AllByRecursion IsNormalLink ins × AllByRecursion IsNormalLink outs
-  IsFit (map_scope params private body) around = AreFresh around params × AreFit body (around ++ params)
+  IsFit (map_scope sequential params private body) around = AreFresh around params × AreFit body (around ++ params)
   IsFit (consume_scope stream element private body) around = AreFit body around
   IsFit (nested_graph inner links) around =
       AllByRecursion IsNormalLink links × IsGraphFit inner links × IsAliasFree links (graph_uses inner) × AreArrays links (graph_uses inner)

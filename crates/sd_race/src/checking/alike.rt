@@ -33,9 +33,13 @@ fn is_same_over(over: &Over, other: &Over) -> bool
     ensures { IsTrue result → over_of over.now ≡ over_of other.now }
 {
     match (over, other) {
-        (Over::Points(params), Over::Points(others)) => {
-            have_same_ranges(params.as_slice(), others.as_slice())
-        }
+        (
+            Over::Points { params, sequential },
+            Over::Points {
+                params: others,
+                sequential: marked,
+            },
+        ) => sequential == marked && have_same_ranges(params.as_slice(), others.as_slice()),
         (Over::Elements, Over::Elements) => true,
         _ => false,
     }

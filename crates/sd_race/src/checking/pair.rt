@@ -21,7 +21,7 @@ pub(crate) fn are_harmless_over(
     ensures { IfOk result (λ are. (IsTrue are) ↔ (AreHarmlessOver (over_of over.now) around.now one.now other.now)) }
 {
     match over {
-        Over::Points(params) => are_harmless(alloc, around, params.as_slice(), one, other),
+        Over::Points { params, .. } => are_harmless(alloc, around, params.as_slice(), one, other),
         Over::Elements => Ok(false),
     }
 }

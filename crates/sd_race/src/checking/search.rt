@@ -3,7 +3,7 @@ ghost use Rattle.std.specs.Prelude.{◌≡◌, ◌↔◌, Option, Some, None, ma
 ghost use Rattle.std.specs.List.{flat_map};
 ghost use Rattle.sd_graph.specs.TreeFold.{graph_tree};
 ghost use Rattle.sd_prop.specs.propagation.Scopes.{scope_at};
-ghost use Rattle.sd_race.specs.race.Pairs.{IsGraphAccepted, IsScopeAccepted, pair_of, pairs_among, pairs_of};
+ghost use Rattle.sd_race.specs.race.Pairs.{IsGraphAccepted, asked_pairs, pair_of, pairs_among, pairs_of};
 ghost use Rattle.sd_race.specs.race.Race as plain;
 ghost use Rattle.sd_race.specs.checking.Found.{IsFirstOf, TellsRaceOf, IsVerdict, race_of};
 
@@ -71,12 +71,15 @@ fn race_in(alloc: Global, scope: &Scope<'_>) -> Result<Option<Race>, NoMemory>
     Ok(None)
 }
 
-/// The first race of scopes.
+/// The first race of scopes. The own pairs of sequential maps are passed over.
 fn race_among(alloc: Global, all: &[Scope<'_>]) -> Result<Option<Race>, NoMemory>
-    ensures { IfOk result (λ found. IsFirstOf (flat_map pairs_of all.now) (option_map race_of found)) }
+    ensures { IfOk result (λ found. IsFirstOf (flat_map asked_pairs all.now) (option_map race_of found)) }
 {
     let mut known = BTreeMap::new(alloc);
     for (i, scope) in all.iter().enumerate() {
+        if scope.is_sequential() {
+            continue;
+        }
         let digest = digest_of(scope);
         if is_like_earlier(scope, &all[..i], known.get(&digest).copied()) {
             continue;
@@ -90,7 +93,8 @@ fn race_among(alloc: Global, all: &[Scope<'_>]) -> Result<Option<Race>, NoMemory
 }
 
 /// The race check: refuses exactly where some two accesses of a scope are not accepted, with the first such
-/// pair, by scopes in the order of states and nodes, and in a scope by its accesses.
+/// pair, by scopes in the order of states and nodes, and in a scope by its accesses. The points of a
+/// sequential map come one after another, so only the scopes inside it are looked at.
 pub fn check(alloc: Global, bound: &Bound) -> Result<(), RaceError>
     ensures accepted { IfOk result (λ _. IsGraphAccepted (graph_tree bound.now.graph)) }
     ensures refused { IfErr result (TellsRaceOf (graph_tree bound.now.graph)) }
@@ -102,7 +106,8 @@ pub fn check(alloc: Global, bound: &Bound) -> Result<(), RaceError>
     }
 }
 
-/// Whether each two accesses of the scope with this path are accepted. `None` where no scope has the path.
+/// Whether the scope with this path is free of races: each two of its accesses are accepted. A mark that
+/// makes a map sequential is not looked at. `None` where no scope has the path.
 pub fn scope_accepted(alloc: Global, bound: &Bound, path: &Path) -> Result<Option<bool>, NoMemory>
     ensures { IfOk result (λ verdict. IsVerdict verdict (scope_at (graph_tree bound.now.graph) path.now.steps)) }
 {

@@ -1,17 +1,30 @@
 //! What the definitions mean, in words of their own: each law is a function that does nothing.
 
-ghost use Rattle.std.specs.Prelude.{◌≡◌};
+ghost use Rattle.std.specs.Prelude.{◌≡◌, ◌↔◌, false};
 ghost use Rattle.std.specs.List.{Contains};
 ghost use Rattle.sd_graph.specs.PlainTree.{GraphTree};
 ghost use Rattle.sd_prop.specs.propagation.Accesses.{Access};
-ghost use Rattle.sd_prop.specs.propagation.Scopes.{Scope};
-ghost use Rattle.sd_race.specs.race.Pairs.{pair_of, IsAccepted, IsScopeAccepted, IsGraphAccepted};
+ghost use Rattle.sd_prop.specs.propagation.Scopes.{Scope, all_scopes, is_sequential};
+ghost use Rattle.sd_race.specs.race.Pairs.{pair_of, IsAccepted, IsFreeOfRaces, IsGraphAccepted};
 ghost use Rattle.sd_race.specs.race.Race.{Race, IsRaceOf};
 
-/// Each two accesses of an accepted scope are accepted, in either order.
-pub fn each_two_accesses_of_an_accepted_scope_are_accepted()
+/// Each two accesses of a scope that is free of races are accepted, in either order.
+pub fn each_two_accesses_of_a_scope_free_of_races_are_accepted()
     ensures { (scope : Scope) (access other : Access)
-        → IsScopeAccepted scope → Contains scope.accesses access → Contains scope.accesses other → IsAccepted (pair_of scope access other) }
+        → IsFreeOfRaces scope → Contains scope.accesses access → Contains scope.accesses other → IsAccepted (pair_of scope access other) }
+{}
+
+/// A graph is accepted exactly where each of its scopes that is no sequential map is free of races,
+/// wherever it stands: the own accesses of sequential maps are not asked.
+pub fn sequential_maps_are_passed_over()
+    ensures { (tree : GraphTree)
+        → IsGraphAccepted tree ↔ ((scope : Scope) → Contains (all_scopes tree) scope → is_sequential scope.over ≡ false → IsFreeOfRaces scope) }
+{}
+
+/// A race is told of a scope of the graph, and never of a sequential map.
+pub fn no_race_is_told_of_a_sequential_map()
+    ensures { (tree : GraphTree) (race : Race)
+        → IsRaceOf tree race → (scope : Scope) × Contains (all_scopes tree) scope × (is_sequential scope.over ≡ false) × (race.at ≡ scope.path) }
 {}
 
 /// An accepted graph has no race.

@@ -1,25 +1,25 @@
 -- Small graphs: which are accepted, and which race is told.
-use Rattle.std.proofs.Common.{inl, inr, pos, [], ◌∷◌, Some, None, codes, refl, arith}
+use Rattle.std.proofs.Common.{inl, inr, pos, [], ◌∷◌, Some, None, true, false, codes, refl, arith}
 use Rattle.std.proofs.lemmas.Int.{ints}
 use Rattle.sd_num.specs.declared.resolution.Resolution.TheVariants.{Sum, Last}
 use Rattle.sd_subset.specs.boxes.Apart.{AreHarmless}
 use Rattle.sd_subset.proofs.boxes_lemmas.examples.BoxExamples.{i, not_single, own_elements_are_harmless}
 use Rattle.sd_range.specs.declared.subset.Dim.TheVariants.{Index}
 use Rattle.sd_graph.specs.Mode.{Read, Write, Push}
-use Rattle.sd_graph.specs.PlainTree.{task, consume_scope, no_item, and_item, no_state, and_state, GraphTree, graph}
+use Rattle.sd_graph.specs.PlainTree.{KindTree, task, map_scope, consume_scope, no_item, and_item, no_state, and_state, GraphTree, graph}
 use Rattle.sd_graph.specs.declared.container.ContainerKind.TheVariants.{Argument, Private, Stream}
 use Rattle.sd_graph.proofs.examples.ExampleParts.{constant, link_of, container_of}
 use Rattle.sd_prop.specs.propagation.Accesses.{Access}
 use Rattle.sd_graph.specs.TreeParts.{containers_of}
 use Rattle.sd_prop.specs.propagation.Scopes.{points, elements, Scope}
-use Rattle.sd_prop.proofs.propagation_lemmas.examples.AccessExamples.{access_by, any_code, element_at, shifted, shift, drain}
+use Rattle.sd_prop.proofs.propagation_lemmas.examples.AccessExamples.{access_by, any_code, element_at, shifted, shift, shift_of, drain}
 use Rattle.sd_race.specs.race.Pairs.{IsGraphAccepted}
 use Rattle.sd_race.specs.race.Race.{IsRaceOf}
 
 -- A[i] = A[i + 4]: all that is read lies above all that is written
 pub a_shift_by_four_is_accepted : IsGraphAccepted (shift (pos 4))
 a_shift_by_four_is_accepted = (
-  (λ same conflict. cc, (λ same conflict. inl (inl (inl (record { constant = refl; above = omega (arith, ints) }))), (λ same conflict. own_elements_are_harmless, tt))),
+  λ unmarked. (λ same conflict. cc, (λ same conflict. inl (inl (inl (record { constant = refl; above = omega (arith, ints) }))), (λ same conflict. own_elements_are_harmless, tt))),
   tt,
 )
 
@@ -44,7 +44,7 @@ the_scope = record {
   path = 1 ∷ 1 ∷ [];
   containers = containers_of (shift (pos 1));
   around = [];
-  over = points (i (pos 1) ∷ []);
+  over = points false (i (pos 1) ∷ []);
   accesses = read ∷ write ∷ [];
 }
 
@@ -62,9 +62,13 @@ a_shift_by_one_has_a_race = record {
   told = refl;
 }
 
+-- marked as sequential, the same map is accepted
+a_sequential_shift_is_accepted : IsGraphAccepted (shift_of true (pos 1))
+a_sequential_shift_is_accepted = (λ unmarked. cc, tt)
+
 -- a sum in a consume body is accepted
 a_sum_is_accepted : IsGraphAccepted (drain Sum)
-a_sum_is_accepted = ((λ same conflict. cc, (λ same conflict. cc, (λ same conflict. cc, tt))), tt)
+a_sum_is_accepted = (λ unmarked. (λ same conflict. cc, (λ same conflict. cc, (λ same conflict. cc, tt))), tt)
 
 -- the last value is written: race at 2.1: write res by 2, write res by 2
 abbrev push_by_the_body : Access
@@ -96,11 +100,17 @@ the_last_value_has_a_race = record {
 }
 
 -- a consume body that reads R[1] and adds to R[0] is refused: in no two modes that conflict may it use a container, whatever the boxes are
-abbrev adding : GraphTree
-adding =
-    graph (codes "ad") ((codes "R", container_of (constant (pos 2) ∷ []) Argument) ∷ (codes "S", container_of [] Stream) ∷ (codes "e", container_of (constant (pos 1) ∷ []) Private) ∷ []) 1 [] 0
-    (and_state (and_item 5 (consume_scope 1 2 [] (and_item 6 (task any_code (link_of (codes "in") 0 (Index (constant (pos 1)) ∷ []) None ∷ [])
-    (link_of (codes "out") 0 (Index (constant (pos 0)) ∷ []) (Some Sum) ∷ [])) no_item)) no_item) [] no_state)
+abbrev adding : KindTree
+adding = consume_scope 1 2 [] (and_item 6 (task any_code (link_of (codes "in") 0 (Index (constant (pos 1)) ∷ []) None ∷ []) (link_of (codes "out") 0 (Index (constant (pos 0)) ∷ []) (Some Sum) ∷ [])) no_item)
 
-adding_is_refused : IsGraphAccepted adding → ⊥
-adding_is_refused accepted = accepted.0.1.0 refl refl
+abbrev alone : KindTree → GraphTree
+alone kind =
+    graph (codes "ad") ((codes "R", container_of (constant (pos 2) ∷ []) Argument) ∷ (codes "S", container_of [] Stream) ∷ (codes "e", container_of (constant (pos 1) ∷ []) Private) ∷ []) 1 (codes "i" ∷ []) 0
+    (and_state (and_item 5 kind no_item) [] no_state)
+
+adding_is_refused : IsGraphAccepted (alone adding) → ⊥
+adding_is_refused accepted = (accepted.0 refl).1.0 refl refl
+
+-- so it is in a sequential map
+adding_in_sequence_is_refused : IsGraphAccepted (alone (map_scope true (i (pos 1) ∷ []) [] (and_item 6 adding no_item))) → ⊥
+adding_in_sequence_is_refused accepted = (accepted.1.0 refl).1.0 refl refl

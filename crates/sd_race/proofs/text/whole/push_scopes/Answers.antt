@@ -1,4 +1,4 @@
-use Rattle.std.proofs.Common.{ℕ, List, ◌++◌, map, length, string_bytes, ap, ◌∙◌}
+use Rattle.std.proofs.Common.{ℕ, List, ◌++◌, map, string_bytes, ap, ◌∙◌}
 use Rattle.sd_graph.specs.TreeFold.{named_container, state_trees}
 use Rattle.sd_graph.specs.LoopScope.{loops_in_force}
 use Rattle.sd_wire.specs.declared.loops.span.LoopSpan.{LoopSpan}
