@@ -165,7 +165,7 @@ module _ (sizes : List ℤ) (graphs : Name → GraphTree) (callable : Place → 
   map_follows : (line : ℕ) (parameters : List Name) (ranges : List Dimension) (body : Block) (most : ℕ) → BodyFollows body most →
       (place : Place) (c v : ℕ) (table : Table) (told : Setting) (context : Context) → Stands sizes all place.containers c v table told context →
       StandsAt [] context.names (variables_named (map_scope line parameters ranges body)) v → HaveElements context.containers body c → EveryAt (Fits callable) place (map_scope line parameters ranges body) →
-      KindFollows (plain.map_scope (parameters_of table.variables ranges v) (own_of body c) (items_of_body graphs body (tables.with_variables parameters v table) c (v + length parameters))) line context
+      KindFollows (plain.map_scope false (parameters_of table.variables ranges v) (own_of body c) (items_of_body graphs body (tables.with_variables parameters v table) c (v + length parameters))) line context
       (λ memories turns. one_by_one (λ point memories turns. leaving (says_body calls all body c (setting.at_point (zip parameters point) told) most (scope_memory all (said.own_of body c) ∷ memories) turns)) (tuples (ranges_in told.variables ranges)) memories turns)
   map_follows line parameters ranges body most all_body place c v table told context stands names elements fits memories turns o h =
       let inside : Table = tables.with_variables parameters v table in

@@ -42,7 +42,7 @@ module _ (sizes : List ℤ) where
   mutual
     kind_bound : (kind : KindTree) → kind_containers (bound_kind sizes kind) ≡ map (bound_entry sizes) (kind_containers kind)
     kind_bound (task code ins outs) = refl
-    kind_bound (map_scope params private body) = items_bound body
+    kind_bound (map_scope sequential params private body) = items_bound body
     kind_bound (consume_scope stream element private body) = items_bound body
     kind_bound (nested_graph inner links) = all_bound inner
     kind_bound (reduction resolution axis identity from to) = refl

@@ -2,6 +2,7 @@
 use Rattle.std.proofs.Common.{◌≡◌, ◌∙◌, ℕ, zero, suc, ℤ, pos, List, [], ◌∷◌, ◌++◌, map, unsigned_abs, Bool, true, false, cond, ◌||◌, negsuc, int_lt, slice_index_or, refl, ap, sym, subst, append_assoc, append-nil}
 use Rattle.std.specs.Prelude.{⊤}
 use Rattle.std.specs.List.{list_any}
+use Rattle.sd_num.specs.declared.width.Width.TheVariants.{W64}
 use Rattle.sd_lex.specs.PlainTree.{Expressions, StatementTree, argument_array, local_array, local_stream, map_scope, consume_scope, for_loop, while_loop, branch, Block, no_statement, and_statement, FunctionTree}
 use Rattle.sd_lex.specs.StatementKind.{has_connector}
 use Rattle.sd_range.specs.Affine.{affine_value}
@@ -80,7 +81,7 @@ module _ (named : Named ℤ) where
 
   -- ---- one container
 
-  right_array : (kind : ContainerKind) → is_stream kind ≡ false → (extents : Expressions) → EachExpression IsAffine extents → IsRight (record { extents = extents_of (numbered named) extents; kind = kind })
+  right_array : (kind : ContainerKind) → is_stream kind ≡ false → (extents : Expressions) → EachExpression IsAffine extents → IsRight (record { extents = extents_of (numbered named) extents; kind = kind; width = W64 })
   right_array Argument e extents affine = record { bare = refl; extents = λ none values. extents_stay named extents affine values ∙ numbers_again (extents_of (numbered named) extents) none }
   right_array Transient e extents affine = record { bare = refl; extents = λ none values. extents_stay named extents affine values ∙ numbers_again (extents_of (numbered named) extents) none }
   right_array Private e extents affine = record { bare = refl; extents = λ none values. extents_stay named extents affine values ∙ numbers_again (extents_of (numbered named) extents) none }
@@ -88,10 +89,10 @@ module _ (named : Named ℤ) where
   right_array PrivateStream e extents affine = cc
 
   as_array : (kind : ContainerKind) (owner : Owner) → is_stream kind ≡ false → owner_of kind ≡ owner → (name : Name) (extents : Expressions) → EachExpression IsAffine extents →
-      IsAs (name, record { extents = extents_of (numbered named) extents; kind = kind }) (array_declared named extents owner)
+      IsAs (name, record { extents = extents_of (numbered named) extents; kind = kind; width = W64 }) (array_declared named extents owner)
   as_array kind owner e of name extents affine = record { declared = made kind e of; right = right_array kind e extents affine }
     where
-      made : (kind : ContainerKind) → is_stream kind ≡ false → owner_of kind ≡ owner → declared_by sizes (name, record { extents = extents_of (numbered named) extents; kind = kind }) ≡ array_declared named extents owner
+      made : (kind : ContainerKind) → is_stream kind ≡ false → owner_of kind ≡ owner → declared_by sizes (name, record { extents = extents_of (numbered named) extents; kind = kind; width = W64 }) ≡ array_declared named extents owner
       made Argument e of = λ i. record { shape = array_of (extents_said named extents affine i); unit = said.is_unit (symbols_of named) extents; owner = of i }
       made Transient e of = λ i. record { shape = array_of (extents_said named extents affine i); unit = said.is_unit (symbols_of named) extents; owner = of i }
       made Private e of = λ i. record { shape = array_of (extents_said named extents affine i); unit = said.is_unit (symbols_of named) extents; owner = of i }
@@ -99,15 +100,15 @@ module _ (named : Named ℤ) where
       made PrivateStream e of = cc
 
   as_local : (in_scope : Bool) (name : Name) (extents : Expressions) → EachExpression IsAffine extents →
-      IsAs (name, record { extents = extents_of (numbered named) extents; kind = array_kind in_scope }) (array_declared named extents (owner_in in_scope))
+      IsAs (name, record { extents = extents_of (numbered named) extents; kind = array_kind in_scope; width = W64 }) (array_declared named extents (owner_in in_scope))
   as_local true name extents affine = as_array Private of_scope refl refl name extents affine
   as_local false name extents affine = as_array Transient of_run refl refl name extents affine
 
-  as_stream : (in_scope : Bool) (name : Name) → IsAs (name, record { extents = []; kind = stream_kind in_scope }) (stream_declared (owner_in in_scope))
+  as_stream : (in_scope : Bool) (name : Name) → IsAs (name, record { extents = []; kind = stream_kind in_scope; width = W64 }) (stream_declared (owner_in in_scope))
   as_stream true name = record { declared = refl; right = record { bare = refl; extents = λ none values. refl } }
   as_stream false name = record { declared = refl; right = record { bare = refl; extents = λ none values. refl } }
 
-  as_element : (name : Name) → IsAs (name, record { extents = affine_number (pos 1) ∷ []; kind = Private }) element_declared
+  as_element : (name : Name) → IsAs (name, record { extents = affine_number (pos 1) ∷ []; kind = Private; width = W64 }) element_declared
   as_element name = record {
     declared = λ i. record { shape = array_of (unsigned_abs (number_value sizes (pos 1) i) ∷ []); unit = true; owner = of_scope };
     right = record {

@@ -2,6 +2,7 @@
 use Rattle.std.proofs.Common.{◌≡◌, ◌∙◌, ℕ, zero, suc, ◌+◌, pos, List, [], ◌∷◌, ◌++◌, length, Bool, true, false, not, cond, ◌||◌, nat_eq, bytes_eq, decimal, refl, ap, sym, subst, arith, append_assoc}
 use Rattle.std.specs.List.{list_any}
 use Rattle.std.proofs.Math.Seq.{get_or-append_seam}
+use Rattle.sd_num.specs.declared.width.Width.TheVariants.{W64}
 use Rattle.sd_lex.proofs.TextLaws.{run_more, run_none}
 use Rattle.sd_lex.specs.PlainTree.{StatementTree, map_scope, consume_scope, for_loop, while_loop, branch, Block, no_statement, and_statement}
 use Rattle.sd_lex.specs.StatementKind.{has_connector}
@@ -70,7 +71,7 @@ module _ (symbols : Named ℕ) (declared : List Name) (all : Containers) where
   element_first : (is_task : Bool) (body : Block) (element : Name) (before : Containers) (next : ℕ) → list_any (nat_eq 36) element ≡ false → length before ≡ next →
       Begins (with_element declared before is_task element) all → source_name (name_at all next) ≡ element
   element_first is_task body element before next plain e begins =
-      ap source_name (ap (name_at all) (sym e) ∙ name_made before (element_name declared before is_task element, record { extents = affine_number (pos 1) ∷ []; kind = Private }) all begins)
+      ap source_name (ap (name_at all) (sym e) ∙ name_made before (element_name declared before is_task element, record { extents = affine_number (pos 1) ∷ []; kind = Private; width = W64 }) all begins)
       ∙ named_element declared before is_task element plain
 
   mutual

@@ -1,6 +1,7 @@
 -- The names of a program's variables, and its arguments.
 use Rattle.std.proofs.Common.{◌≡◌, ◌∙◌, ◌⊎◌, inl, inr, ℕ, zero, suc, ◌+◌, ◌<◌, ◌≤◌, ℤ, List, [], ◌∷◌, ◌++◌, length, true, false, refl, ap, sym, subst, arith, append_assoc, append-nil, length-append}
 use Rattle.std.proofs.Math.Seq.{get_or-append_seam}
+use Rattle.sd_num.specs.declared.width.Width.TheVariants.{W64}
 use Rattle.sd_lex.specs.PlainTree.{StatementTree, argument_array, map_scope, consume_scope, for_loop, while_loop, branch, Block, no_statement, and_statement}
 use Rattle.sd_graph.specs.ContainerParts.{container_at, name_at, is_argument}
 use Rattle.sd_graph.specs.Context.{source_name}
@@ -59,7 +60,7 @@ pub argument_there : (symbols : Named ℕ) (declared : List Name) (all : Contain
 argument_there symbols declared all no_statement place before number around placed begins least most = absurd (omega (arith, least, most))
 argument_there symbols declared all (and_statement (argument_array line name bits extents) rest) place before number around placed begins least most =
     let first : StatementTree = argument_array line name bits extents in
-    let entry : Name × Container = (name, record { extents = extents_of symbols extents; kind = Argument }) in
+    let entry : Name × Container = (name, record { extents = extents_of symbols extents; kind = Argument; width = W64 }) in
     let middle : Containers = containers_with symbols declared first false before in
     elim (first_or_later number (length before) least) [
       | inl here ↦ subst (λ number. is_argument (container_at all number).kind ≡ true) here
