@@ -99,7 +99,7 @@ sets_passed set = nothing_asked set
 -- the code of a tasklet is small
 abbrev pub HasBriefCode : KindTree → Type 0
 HasBriefCode (plain.task code ins outs) = IsBrief code
-HasBriefCode (plain.map_scope params private body) = ⊤
+HasBriefCode (plain.map_scope sequential params private body) = ⊤
 HasBriefCode (plain.consume_scope stream element private body) = ⊤
 HasBriefCode (plain.nested_graph inner links) = ⊤
 HasBriefCode (plain.reduction resolution axis identity from to) = ⊤
@@ -107,7 +107,7 @@ HasBriefCode (plain.copy from to) = ⊤
 
 pub kind_passed : (sizes : List ℤ) (kind : KindTree) → HasBriefCode kind → is_kind_passed code_tests (bound_kind sizes kind) ≡ true
 kind_passed sizes (plain.task code ins outs) is = rw (brief_bound sizes code is, links_passed (map (bound_link sizes) ins)) (links_passed (map (bound_link sizes) outs))
-kind_passed sizes (plain.map_scope params private body) is = params_passed (map (bound_param sizes) params)
+kind_passed sizes (plain.map_scope sequential params private body) is = params_passed (map (bound_param sizes) params)
 kind_passed sizes (plain.consume_scope stream element private body) is = refl
 kind_passed sizes (plain.nested_graph inner links) is = links_passed (map (bound_link sizes) links)
 kind_passed sizes (plain.reduction resolution axis identity from to) is = rw (dims_passed (bound_link sizes from).memlet.subset.dims) (dims_passed (bound_link sizes to).memlet.subset.dims)

@@ -117,7 +117,7 @@ module _ (containers : Containers) where
       let fit = both_true (are_links_passed (subset_tests containers) ins) (are_links_passed (subset_tests containers) outs) fits in
       let name = both_true (is_code_known code) (are_links_passed names_tests ins && are_links_passed names_tests outs) named in
       rw (name.0, links_both ins fit.0) (links_both outs fit.1)
-  kind_both (map_scope params private body) fits named = params_both params fits
+  kind_both (map_scope sequential params private body) fits named = params_both params fits
   kind_both (consume_scope stream element private body) fits named = refl
   kind_both (nested_graph inner links) fits named = links_both links fits
   kind_both (reduction resolution axis identity from to) fits named =

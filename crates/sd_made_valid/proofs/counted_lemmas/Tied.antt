@@ -1,6 +1,7 @@
 -- The names that are known stand for containers whose connectors are counted.
 use Rattle.std.proofs.Common.{◌≡◌, ◌∙◌, ℕ, ◌+◌, ◌≤◌, pos, List, [], ◌∷◌, ◌++◌, length, Option, Some, Bool, true, false, cond, bytes_eq, refl, ap, sym, subst, arith}
 use Rattle.std.proofs.lemmas.Slice.Eq.{bytes_eq-Decides}
+use Rattle.sd_num.specs.declared.width.Width.TheVariants.{W64}
 use Rattle.sd_lex.specs.PlainTree.{Expressions, no_expression, and_expression, StatementTree, argument_array, local_array, local_stream, for_loop, while_loop, branch, tasklet_branch, Block, no_statement, and_statement}
 use Rattle.sd_graph.specs.ContainerParts.{Containers, container_at}
 use Rattle.sd_graph.specs.declared.container.Container.{Container}
@@ -92,18 +93,18 @@ module _ (symbols : List Name) (wholes : Named ℕ) (declared : List Name) (all 
 
   -- an array that is declared
   array_of : (before : Containers) (name : Name) (extents : Expressions) (kind : ContainerKind) (container count : ℕ) → length before ≡ container →
-      Begins (before ++ (name, record { extents = extents_of known extents; kind = kind }) ∷ []) all → (1 ≤ count → length (extents_of known extents) ≡ count) →
+      Begins (before ++ (name, record { extents = extents_of known extents; kind = kind; width = W64 }) ∷ []) all → (1 ≤ count → length (extents_of known extents) ≡ count) →
       IsArray wholes name (extents_written extents) → AreExtents symbols (extents_written extents) → IsOf name (of_dimensions count) container
   array_of before name extents kind container count e begins counts is over =
-      let one' : Container = record { extents = extents_of known extents; kind = kind } in
+      let one' : Container = record { extents = extents_of known extents; kind = kind; width = W64 } in
       let made : (container_at all container).extents ≡ extents_of known extents =
       ap (λ (container : Container). container.extents) (subst (λ number. container_at all number ≡ one') e (made_at before (name, one') all begins).1) in
       (λ least. ap length made ∙ counts least, is.1.0 ∙ ap Some (count_same symbols extents is.0 over is.1.1 ∙ ap whole_ranges (sym made)))
 
   -- a stream
-  stream_of : (before : Containers) (name : Name) (kind : ContainerKind) (container : ℕ) → length before ≡ container → Begins (before ++ (name, record { extents = []; kind = kind }) ∷ []) all → in_force wholes name ≡ Some 0 → IsOf name of_values container
+  stream_of : (before : Containers) (name : Name) (kind : ContainerKind) (container : ℕ) → length before ≡ container → Begins (before ++ (name, record { extents = []; kind = kind; width = W64 }) ∷ []) all → in_force wholes name ≡ Some 0 → IsOf name of_values container
   stream_of before name kind container e begins counts =
-      let one' : Container = record { extents = []; kind = kind } in
+      let one' : Container = record { extents = []; kind = kind; width = W64 } in
       let made : (container_at all container).extents ≡ [] = ap (λ (container : Container). container.extents) (subst (λ number. container_at all number ≡ one') e (made_at before (name, one') all begins).1) in
       (made, counts ∙ ap (λ extents. Some (whole_ranges extents)) (sym made))
 

@@ -79,7 +79,7 @@ module _ (sizes : List ℤ) (tree : GraphTree) (scopes : Scopes) (loops : List �
 
   pub kind_fits : (kind : KindTree) → HasSoundLinks tree scopes loops Sized kind → is_kind_passed (subset_tests there) (bound_kind sizes kind) ≡ true
   kind_fits (plain.task code ins outs) links = rw (array_links ins links.0) (sound_links outs links.1)
-  kind_fits (plain.map_scope params private body) links = params_passed there (map (bound_param sizes) params)
+  kind_fits (plain.map_scope sequential params private body) links = params_passed there (map (bound_param sizes) params)
   kind_fits (plain.consume_scope stream element private body) links = refl
   kind_fits (plain.nested_graph inner of) links = array_links of links
   kind_fits (plain.reduction resolution axis identity from to) links = rw (link_passed from links.0.0) (link_passed to links.1.0)

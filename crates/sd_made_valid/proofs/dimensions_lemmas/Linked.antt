@@ -26,7 +26,7 @@ use Rattle.sd_made_valid.proofs.dimensions_lemmas.Ports.{ports_linked, condition
 module _ (sizes : List ℤ) where
   kind_linked : (kind : KindTree) → HasPorts kind → is_code_linked (doing (bound_kind sizes kind)) ≡ true
   kind_linked (plain.task code ins outs) ports = rw (ports.0, ports.1, ports_linked sizes ins) (ports_linked sizes outs)
-  kind_linked (plain.map_scope params private body) ports = refl
+  kind_linked (plain.map_scope sequential params private body) ports = refl
   kind_linked (plain.consume_scope stream element private body) ports = refl
   kind_linked (plain.nested_graph inner links) ports = refl
   kind_linked (plain.reduction resolution axis identity from to) ports = refl

@@ -93,7 +93,7 @@ condition_sound sizes table line when =
 -- the connectors of code are those of its links
 abbrev pub HasPorts : KindTree → Type 0
 HasPorts (plain.task code ins outs) = (code.ins ≡ ports_of ins) × (code.outs ≡ ports_of outs)
-HasPorts (plain.map_scope params private body) = ⊤
+HasPorts (plain.map_scope sequential params private body) = ⊤
 HasPorts (plain.consume_scope stream element private body) = ⊤
 HasPorts (plain.nested_graph inner links) = ⊤
 HasPorts (plain.reduction resolution axis identity from to) = ⊤

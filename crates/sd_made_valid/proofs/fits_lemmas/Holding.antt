@@ -19,7 +19,7 @@ IsLinked tree state scopes kind = HaveShapes kind
 mutual
   kind_shaped : (kind : KindTree) (tree : GraphTree) (state : ℕ) (scopes : Scopes) → InKind IsWhole IsLeaving IsDoing kind tree state scopes → InKind IsWhole IsLeaving IsLinked kind tree state scopes
   kind_shaped (task code ins outs) tree state scopes right = tt
-  kind_shaped (map_scope params private body) tree state scopes right = items_shaped body tree state (in_map scopes params private) right
+  kind_shaped (map_scope sequential params private body) tree state scopes right = items_shaped body tree state (in_map scopes params private) right
   kind_shaped (consume_scope stream element private body) tree state scopes right = items_shaped body tree state (in_consume scopes element private) right
   kind_shaped (nested_graph inner links) tree state scopes right = graph_shaped inner right
   kind_shaped (reduction resolution axis identity from to) tree state scopes right = tt

@@ -2,6 +2,7 @@
 use Rattle.std.proofs.Common.{◌≡◌, ◌∙◌, ℕ, suc, List, [], ◌∷◌, ◌++◌, length, Option, Some, unwrap_or, Bool, true, false, cond, bytes_eq, reverse, refl, ap, sym, subst, arith, append_assoc, append-nil, zero-add}
 use Rattle.std.specs.Prelude.{⊤}
 use Rattle.std.proofs.lemmas.Grind.{reverse_onto}
+use Rattle.sd_num.specs.declared.width.Width.TheVariants.{W64}
 use Rattle.sd_lex.specs.PlainTree.{Expression, StatementTree, argument_array, Block, no_statement, and_statement, FunctionTree, ProgramTree}
 use Rattle.sd_graph.specs.PlainTree.{no_item, GraphTree}
 use Rattle.sd_graph.specs.TreeParts.{containers_of}
@@ -40,7 +41,7 @@ module _ (known : Named ℕ) (declared : List Name) (all : Containers) where
   parameters_made (and_statement (argument_array line name bits extents) rest) number place before around e begins placed =
       let first : StatementTree = argument_array line name bits extents in
       let middle : Containers = containers_with known declared first false before in
-      let one' : Container = record { extents = extents_of known extents; kind = Argument } in
+      let one' : Container = record { extents = extents_of known extents; kind = Argument; width = W64 } in
       let made : container_at all number ≡ one' = subst (λ number. container_at all number ≡ one') e (made_at before (name, one') all (first_begins known declared rest false middle all begins)).1 in
       let next : length middle ≡ suc number = counted known declared first false place before placed.0 ∙ omega (arith, e) in
       (ap (λ (container : Container). container.extents) made ∙ extents_listed known extents, parameters_made rest (suc number) (past first place) middle around next begins placed.1)

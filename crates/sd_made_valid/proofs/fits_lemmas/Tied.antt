@@ -2,6 +2,7 @@
 use Rattle.std.proofs.Common.{◌≡◌, ◌∙◌, ℕ, ◌+◌, ◌≤◌, pos, List, [], ◌∷◌, ◌++◌, length, Option, Some, Bool, true, false, cond, bytes_eq, refl, ap, sym, subst, arith}
 use Rattle.std.specs.Prelude.{⊤}
 use Rattle.std.proofs.lemmas.Slice.Eq.{bytes_eq-Decides}
+use Rattle.sd_num.specs.declared.width.Width.TheVariants.{W64}
 use Rattle.sd_lex.specs.PlainTree.{Expression, number, Expressions, no_expression, and_expression, StatementTree, argument_array, local_array, local_stream, for_loop, while_loop, branch, tasklet_branch, Block, no_statement, and_statement, FunctionTree}
 use Rattle.sd_graph.specs.ContainerParts.{Containers, name_at, container_at}
 use Rattle.sd_graph.specs.declared.container.Container.{Container}
@@ -86,10 +87,10 @@ module _ (symbols : List Name) (arrays : Named (List Expression)) (above : List 
 
   -- an array that is declared
   array_of : (before : Containers) (name : Name) (extents : Expressions) (kind : ContainerKind) (container count : ℕ) → length before ≡ container →
-      Begins (before ++ (name, record { extents = extents_of known extents; kind = kind }) ∷ []) all → (1 ≤ count → length (extents_of known extents) ≡ count) →
+      Begins (before ++ (name, record { extents = extents_of known extents; kind = kind; width = W64 }) ∷ []) all → (1 ≤ count → length (extents_of known extents) ≡ count) →
       (in_force arrays name ≡ Some (extents_written extents)) × AreExtents symbols (extents_written extents) → IsOf name (of_dimensions count) container
   array_of before name extents kind container count e begins counts fit =
-      let one' : Container = record { extents = extents_of known extents; kind = kind } in
+      let one' : Container = record { extents = extents_of known extents; kind = kind; width = W64 } in
       let made : container_at all container ≡ one' = subst (λ number. container_at all number ≡ one') e (made_at before (name, one') all begins).1 in (
         made_named before (name, one') all container e begins,
         (

@@ -21,7 +21,7 @@ module _ (Holds : GraphTree → Type 0) where
     -- of each graph that is nested in an item, but not of those in it
     pub KindHolds : KindTree → Type 0
     KindHolds (plain.task code ins outs) = ⊤
-    KindHolds (plain.map_scope params private body) = ItemsHold body
+    KindHolds (plain.map_scope sequential params private body) = ItemsHold body
     KindHolds (plain.consume_scope stream element private body) = ItemsHold body
     KindHolds (plain.nested_graph inner links) = Holds inner
     KindHolds (plain.reduction resolution axis identity from to) = ⊤

@@ -46,7 +46,7 @@ module _ (deepest : ℕ) where
   mutual
     kind_little : (kind : KindTree) (place : Place) → Little place → KindHolds (Nests place.depth) kind → AllByRecursion Little (places_in kind place)
     kind_little (plain.task code ins outs) place is holds = tt
-    kind_little (plain.map_scope params private body) place is holds = items_little body place (in_map place.scopes params private) 0 is holds
+    kind_little (plain.map_scope sequential params private body) place is holds = items_little body place (in_map place.scopes params private) 0 is holds
     kind_little (plain.consume_scope stream element private body) place is holds = items_little body place (in_consume place.scopes element private) 0 is holds
     kind_little (plain.nested_graph inner links) place is holds = holds place.path
     kind_little (plain.reduction resolution axis identity from to) place is holds = tt

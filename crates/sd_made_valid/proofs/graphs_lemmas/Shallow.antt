@@ -35,7 +35,7 @@ module _ (First Second : GraphTree → Type 0) (so : (tree : GraphTree) → Firs
   mutual
     kind_so : (kind : KindTree) → KindHolds First kind → KindHolds Second kind
     kind_so (plain.task code ins outs) holds = tt
-    kind_so (plain.map_scope params private body) holds = items_so body holds
+    kind_so (plain.map_scope sequential params private body) holds = items_so body holds
     kind_so (plain.consume_scope stream element private body) holds = items_so body holds
     kind_so (plain.nested_graph inner links) holds = so inner holds
     kind_so (plain.reduction resolution axis identity from to) holds = tt

@@ -83,7 +83,7 @@ statement_few statement in_scope place table container variable graphs kind give
 module _ (sizes : List ℤ) where
   kind_bound : (kind : KindTree) → IsFew kind → IsFew (bound_kind sizes kind)
   kind_bound (plain.task code ins outs) few = refl
-  kind_bound (plain.map_scope params private body) few = ap (is_within 1 8) (length-map params (bound_param sizes)) ∙ few
+  kind_bound (plain.map_scope sequential params private body) few = ap (is_within 1 8) (length-map params (bound_param sizes)) ∙ few
   kind_bound (plain.consume_scope stream element private body) few = refl
   kind_bound (plain.nested_graph inner links) few = refl
   kind_bound (plain.reduction resolution axis identity from to) few = refl

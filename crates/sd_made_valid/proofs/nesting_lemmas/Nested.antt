@@ -45,7 +45,7 @@ AllRight places = AllByRecursion (HoldsAt rule_5) places
 
 item_right : (tree : GraphTree) (kind : KindTree) → IsKindLinked kind → IsKindApart kind → HaveShapes kind → is_nesting_right tree (doing kind) ≡ true
 item_right tree (task code ins outs) linked apart shaped = refl
-item_right tree (map_scope params private body) linked apart shaped = refl
+item_right tree (map_scope sequential params private body) linked apart shaped = refl
 item_right tree (consume_scope stream element private body) linked apart shaped = refl
 item_right tree (nested_graph inner links) linked apart shaped =
     let many : nat_eq (length links) (arguments_of inner) ≡ true = nat_eq_same (length links) (arguments_of inner) linked.0 in
@@ -56,7 +56,7 @@ item_right tree (copy from to) linked apart shaped = refl
 mutual
   kind_right : (kind : KindTree) (place : Place) → IsKindLinked kind → IsKindApart kind → KindShaped kind place.graph place.state place.scopes → AllRight (places_in kind place)
   kind_right (task code ins outs) place linked apart shaped = tt
-  kind_right (map_scope params private body) place linked apart shaped = items_right body place (in_map place.scopes params private) 0 linked apart shaped
+  kind_right (map_scope sequential params private body) place linked apart shaped = items_right body place (in_map place.scopes params private) 0 linked apart shaped
   kind_right (consume_scope stream element private body) place linked apart shaped = items_right body place (in_consume place.scopes element private) 0 linked apart shaped
   kind_right (nested_graph inner links) place linked apart shaped = graph_right inner place.path (suc place.depth) linked.1 apart.1 shaped
   kind_right (reduction resolution axis identity from to) place linked apart shaped = tt

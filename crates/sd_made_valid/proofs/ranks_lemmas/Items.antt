@@ -70,7 +70,7 @@ module _ (symbols : ℕ) (level : ℕ → ℕ) where
   abbrev mutual
     pub KindRight : KindTree → Type 0
     KindRight (plain.task code ins outs) = ⊤
-    KindRight (plain.map_scope params private body) = AllByRecursion IsRightParam params × ItemsRight body
+    KindRight (plain.map_scope sequential params private body) = AllByRecursion IsRightParam params × ItemsRight body
     KindRight (plain.consume_scope stream element private body) = ItemsRight body
     KindRight (plain.nested_graph inner links) = ⊤
     KindRight (plain.reduction resolution axis identity from to) = ⊤

@@ -47,7 +47,7 @@ module _ (symbols : ℕ) (level : ℕ → ℕ) where
   mutual
     kind_lower : (kind : KindTree) → KindRight symbols level kind → AllByRecursion (Lower symbols level) (kind_namings kind)
     kind_lower (plain.task code ins outs) right = tt
-    kind_lower (plain.map_scope params private body) right = joined (Lower symbols level) (param_namings params) (item_namings body) (params_lower params right.0) (items_lower body right.1)
+    kind_lower (plain.map_scope sequential params private body) right = joined (Lower symbols level) (param_namings params) (item_namings body) (params_lower params right.0) (items_lower body right.1)
     kind_lower (plain.consume_scope stream element private body) right = items_lower body right
     kind_lower (plain.nested_graph inner links) right = tt
     kind_lower (plain.reduction resolution axis identity from to) right = tt

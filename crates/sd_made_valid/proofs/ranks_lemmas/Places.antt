@@ -60,7 +60,7 @@ module _ (sizes : List ℤ) where
   kind_parameters : (ranks : List Bool) (level : ℕ → ℕ) → ((number : ℕ) → level number < 7 → is_ranked ranks number ≡ true) → (kind : KindTree) → KindRight (length sizes) level kind →
       has_ranked_parameters ranks (bound_kind sizes kind) ≡ true
   kind_parameters ranks level so (plain.task code ins outs) right = refl
-  kind_parameters ranks level so (plain.map_scope params private body) right = params_ranked ranks level so params right.0
+  kind_parameters ranks level so (plain.map_scope sequential params private body) right = params_ranked ranks level so params right.0
   kind_parameters ranks level so (plain.consume_scope stream element private body) right = refl
   kind_parameters ranks level so (plain.nested_graph inner links) right = refl
   kind_parameters ranks level so (plain.reduction resolution axis identity from to) right = refl
@@ -77,7 +77,7 @@ module _ (sizes : List ℤ) where
   mutual
     kind_ranked : (kind : KindTree) (place : Place) (level : ℕ → ℕ) → RanksLow place.graph level → KindRight (length sizes) level kind → KindThroughout Has kind → AllByRecursion At (places_in kind place)
     kind_ranked (plain.task code ins outs) place level so right through = tt
-    kind_ranked (plain.map_scope params private body) place level so right through = items_ranked body place (in_map place.scopes params private) 0 level so right.1 through
+    kind_ranked (plain.map_scope sequential params private body) place level so right through = items_ranked body place (in_map place.scopes params private) 0 level so right.1 through
     kind_ranked (plain.consume_scope stream element private body) place level so right through = items_ranked body place (in_consume place.scopes element private) 0 level so right through
     kind_ranked (plain.nested_graph inner links) place level so right through = graph_ranked inner place.path (suc place.depth) through
     kind_ranked (plain.reduction resolution axis identity from to) place level so right through = tt

@@ -1,7 +1,7 @@
 -- What an accepted line adds: statements, blocks, containers and connectors.
 use Rattle.std.proofs.Common.{◌≡◌, ◌∙◌, ℕ, ◌≤◌, List, [], ◌∷◌, ◌++◌, length, take, Bool, true, false, ◌||◌, refl, ap, sym, subst}
 use Rattle.std.specs.List.{AllByRecursion, list_any}
-use Rattle.sd_lex.specs.PlainTree.{StatementTree, tasklet}
+use Rattle.sd_lex.specs.PlainTree.{StatementTree}
 use Rattle.sd_lex.specs.StatementKind.{is_connector}
 use Rattle.sd_line.specs.declared.line.head.BlockKind.{BlockKind}
 use Rattle.sd_line.specs.declared.line.head.BlockKind.TheVariants.{Top, Program, Scope, Tasklet}
@@ -12,10 +12,9 @@ use Rattle.sd_names.specs.Names.{Name, Names, put, is_free, noted}
 use Rattle.sd_uses.specs.Uses.{uses}
 use Rattle.sd_uses.specs.UnknownName.{is_unknown_use, assigns_unknown}
 use Rattle.sd_refusal.specs.NotAForm.{is_misplaced, misuses, block_is_misplaced, map_is_misplaced, set_is_misplaced}
-use Rattle.sd_refusal.specs.NotAForm as form
 use Rattle.sd_uses.specs.Twice.{declares}
 use Rattle.sd_refusal.specs.declared.site.Site.{Site}
-use Rattle.sd_context.specs.context.Context.{Opener, file, function, statement, consumer, if_block, else_block, OpenBlock, block, Context}
+use Rattle.sd_context.specs.context.Context.{Opener, file, function, statement, consumer, if_block, else_block, OpenBlock, Context}
 use Rattle.sd_program.specs.Every.{Every}
 use Rattle.sd_program.specs.Names.{Named}
 use Rattle.sd_read.proofs.readable_lemmas.kept.Heads.{IsTaskletStatement, Fits, IsBody}

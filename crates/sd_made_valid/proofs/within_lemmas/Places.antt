@@ -35,7 +35,7 @@ pub record IsKept (place : Place) : Type 0 where
 
 params_small : (ranks : List Bool) (kind : KindTree) → has_few_parameters kind ≡ true → has_ranked_parameters ranks kind ≡ true → has_small_params ranks kind ≡ true
 params_small ranks (task code ins outs) few ranked = refl
-params_small ranks (map_scope params private body) few ranked = λ i. few i && ranked i
+params_small ranks (map_scope sequential params private body) few ranked = λ i. few i && ranked i
 params_small ranks (consume_scope stream element private body) few ranked = refl
 params_small ranks (nested_graph inner links) few ranked = refl
 params_small ranks (reduction resolution axis identity from to) few ranked = refl

@@ -52,7 +52,7 @@ kind_passed (task code ins outs) expressions codes =
     let small : (are_links_passed limits_tests ins && are_links_passed limits_tests outs) ≡ true = (λ i. links_same ins i && links_same outs i) ∙ expressions in
     let code_passed = both (is_code_small code) (are_links_passed code_tests ins && are_links_passed code_tests outs) codes in
     λ i. code_passed.0 i && small i
-kind_passed (map_scope params private body) expressions codes = expressions
+kind_passed (map_scope sequential params private body) expressions codes = expressions
 kind_passed (consume_scope stream element private body) expressions codes = refl
 kind_passed (nested_graph inner links) expressions codes = links_same links ∙ expressions
 kind_passed (reduction resolution axis identity from to) expressions codes = (λ i. link_same from i && link_same to i) ∙ expressions

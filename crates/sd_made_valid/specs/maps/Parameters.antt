@@ -7,7 +7,7 @@ use Rattle.sd_validity.specs.rules.WithinLimits.{is_within}
 -- a map has 1 to 8 parameters
 abbrev pub has_few_parameters : KindTree → Bool
 has_few_parameters (task code ins outs) = true
-has_few_parameters (map_scope params private body) = is_within 1 8 (length params)
+has_few_parameters (map_scope sequential params private body) = is_within 1 8 (length params)
 has_few_parameters (consume_scope stream element private body) = true
 has_few_parameters (nested_graph inner links) = true
 has_few_parameters (reduction resolution axis identity from to) = true

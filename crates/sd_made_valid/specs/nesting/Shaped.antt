@@ -8,7 +8,7 @@ use Rattle.sd_validity.specs.bound_places.Throughout.{Throughout}
 -- the links of a nested graph, one after another
 abbrev pub HaveShapes : KindTree → Type 0
 HaveShapes (task code ins outs) = ⊤
-HaveShapes (map_scope params private body) = ⊤
+HaveShapes (map_scope sequential params private body) = ⊤
 HaveShapes (consume_scope stream element private body) = ⊤
 HaveShapes (nested_graph inner links) = have_shapes (containers_of inner) 0 links ≡ true
 HaveShapes (reduction resolution axis identity from to) = ⊤

@@ -9,7 +9,7 @@ use Rattle.sd_validity.specs.rules.Ranks.{begun_at, is_ranked}
 -- the parameters of a map have a rank
 abbrev pub has_ranked_parameters : (ranks : List Bool) → KindTree → Bool
 has_ranked_parameters ranks (task code ins outs) = true
-has_ranked_parameters ranks (map_scope params private body) = list_all (is_ranked ranks) (param_numbers params)
+has_ranked_parameters ranks (map_scope sequential params private body) = list_all (is_ranked ranks) (param_numbers params)
 has_ranked_parameters ranks (consume_scope stream element private body) = true
 has_ranked_parameters ranks (nested_graph inner links) = true
 has_ranked_parameters ranks (reduction resolution axis identity from to) = true
