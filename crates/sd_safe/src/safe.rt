@@ -1,10 +1,10 @@
 //! An accepted graph is safe: its work may be done in any order.
 //!
 //! The premise beside acceptance is `IsGraphFit`, what of a graph's validity its boxes rest on; a valid
-//! graph has it (`fit`). By `laws`, items without a path between them, points of an accepted map and
-//! elements of an accepted consume scope do not conflict; so the run of a valid, accepted graph by any
-//! picks is done where its sequential run is. `specs/safe/Reached.antt` has where work may stand so,
-//! `Standing.antt` where an item of a graph stands.
+//! graph has it (`fit`). By `laws`, items without a path between them, points of an accepted map that do
+//! not come one after another, and elements of an accepted consume scope do not conflict; so the run of a
+//! valid, accepted graph by any picks is done where its sequential run is. `specs/safe/Reached.antt` has
+//! where work may stand so, `Standing.antt` where an item of a graph stands.
 mod laws;
 
 pub use laws::{

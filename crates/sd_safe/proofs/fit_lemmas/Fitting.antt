@@ -69,8 +69,8 @@ mutual
       let split = both (limits_tests.code code) (are_links_passed limits_tests ins && are_links_passed limits_tests outs) right.limits in
       let links = both (are_links_passed limits_tests ins) (are_links_passed limits_tests outs) split.1 in
       (normal_links ins links.0 normal.0, normal_links outs links.1 normal.1)
-  kind-fit (map_scope params private body) around scopes number parameters right inside normal streams linked known =
-      let place = item_place around scopes number (map_scope params private body) in
+  kind-fit (map_scope sequential params private body) around scopes number parameters right inside normal streams linked known =
+      let place = item_place around scopes number (map_scope sequential params private body) in
       let ranges = params-known place params right.fresh.named right.free in
       let unknown = params-unknown place (param_numbers params) right.fresh.other right.fresh.unset in (
         are-fresh scopes.params around.loops parameters params right.fresh.once unknown (normal_params params right.limits normal.0) known ranges,

@@ -53,8 +53,8 @@ mutual
   kind_new : (kind : KindTree) (around : Place) (scopes : Scopes) (number : ℕ) (before : List Place) → failing rule_1 before (places_in kind (item_place around scopes number kind)) ≡ None →
       Contains before (item_place around scopes number kind) → AreKnown before around.graph_path scopes.params → AllByRecursion IsNew (places_in kind (item_place around scopes number kind))
   kind_new (task code ins outs) around scopes number before none among known = tt
-  kind_new (map_scope params private body) around scopes number before none among known =
-      let place = item_place around scopes number (map_scope params private body) in
+  kind_new (map_scope sequential params private body) around scopes number before none among known =
+      let place = item_place around scopes number (map_scope sequential params private body) in
       items_new body place (in_map scopes params private) 0 before none (known-own before place (param_numbers params) scopes.params refl among known)
   kind_new (consume_scope stream element private body) around scopes number before none among known =
       items_new body (item_place around scopes number (consume_scope stream element private body)) (in_consume scopes element private) 0 before none known
@@ -151,8 +151,8 @@ mutual
   kind_loops : (kind : KindTree) (around : Place) (scopes : Scopes) (number : ℕ) (all : List Place) → AreAllAmong (places_in kind (item_place around scopes number kind)) all → AreLoopsSet all around →
       AllByRecursion (AreLoopsSet all) (places_in kind (item_place around scopes number kind))
   kind_loops (task code ins outs) around scopes number all among set = tt
-  kind_loops (map_scope params private body) around scopes number all among set =
-      items_loops body (item_place around scopes number (map_scope params private body)) (in_map scopes params private) 0 all among set
+  kind_loops (map_scope sequential params private body) around scopes number all among set =
+      items_loops body (item_place around scopes number (map_scope sequential params private body)) (in_map scopes params private) 0 all among set
   kind_loops (consume_scope stream element private body) around scopes number all among set =
       items_loops body (item_place around scopes number (consume_scope stream element private body)) (in_consume scopes element private) 0 all among set
   kind_loops (nested_graph inner links) around scopes number all among set =

@@ -207,7 +207,7 @@ mutual
   kind-sound : (kind : KindTree) (containers : Containers) → KindHasStreamsInPlace kind containers → IsKindLinked kind → AreSound (written_by kind) containers (kind_uses kind containers)
   kind-sound (task code ins outs) containers streams linked =
       each-append (IsSound (map container_of outs) containers) (map (use_of Read) ins) (map (output_use containers) outs) (reads-sound (map container_of outs) containers ins) (outputs-sound containers outs)
-  kind-sound (map_scope params private body) containers streams linked =
+  kind-sound (map_scope sequential params private body) containers streams linked =
       outside-sound private (written_in body) containers (item_uses body containers) (items-sound body containers streams linked)
   kind-sound (consume_scope stream element private body) containers streams linked =
       (streams.0, outside-sound (element ∷ private) (written_in body) containers (item_uses body containers) (items-sound body containers streams.1 linked))

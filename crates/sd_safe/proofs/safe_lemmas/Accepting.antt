@@ -1,6 +1,6 @@
 -- What accepted scopes say of each two of their accesses.
 use Rattle.std.specs.List.{Contains}
-use Rattle.std.proofs.Common.{◌≡◌, ℕ, List, ◌++◌, true}
+use Rattle.std.proofs.Common.{◌≡◌, ℕ, List, ◌++◌, Bool, true, refl}
 use Rattle.sd_subset.specs.boxes.Box.{Parameter}
 use Rattle.sd_subset.specs.boxes.Apart.{AreHarmless}
 use Rattle.sd_graph.specs.ContainerParts.{Containers}
@@ -9,7 +9,7 @@ use Rattle.sd_graph.specs.PlainTree.{KindTree, ItemTrees}
 use Rattle.sd_prop.specs.propagation.ItemNodes.{nodes_behind, past}
 use Rattle.sd_prop.specs.propagation.Accesses.{Access, outside_accesses, item_accesses}
 use Rattle.sd_prop.specs.propagation.Scopes.{points, elements, scope_of, scopes_itself, scopes_inside, item_scopes}
-use Rattle.sd_race.specs.race.Pairs.{IsScopeAccepted, AreScopesAccepted}
+use Rattle.sd_race.specs.race.Pairs.{IsFreeOfRaces, IsScopeAccepted, AreScopesAccepted}
 use Rattle.sd_race.proofs.race_lemmas.Members.{all-parts, accepted-two}
 
 -- of a map's body: each two in modes that conflict are harmless
@@ -21,15 +21,15 @@ AreMapHarmless around own accesses = (access other : Access) → Contains access
 abbrev pub AreFree : List Access → Type 0
 AreFree accesses = (access other : Access) → Contains accesses access → Contains accesses other → access.container ≡ other.container → do_conflict access.mode other.mode ≡ true → ⊥
 
-pub map-harmless : (params : List Parameter) (private : List ℕ) (body : ItemTrees) (containers : Containers) (path : List ℕ) (around : List Parameter) (nodes : List ℕ) → IsScopeAccepted (scope_of (points params) private body containers path around nodes) →
+pub map-harmless : (sequential : Bool) (params : List Parameter) (private : List ℕ) (body : ItemTrees) (containers : Containers) (path : List ℕ) (around : List Parameter) (nodes : List ℕ) → IsFreeOfRaces (scope_of (points sequential params) private body containers path around nodes) →
     AreMapHarmless around params (outside_accesses private (item_accesses body containers (nodes_behind nodes)))
-map-harmless params private body containers path around nodes accepted access other member second =
-    accepted-two (scope_of (points params) private body containers path around nodes) (outside_accesses private (item_accesses body containers (nodes_behind nodes))) accepted access other member second
+map-harmless sequential params private body containers path around nodes free access other member second =
+    accepted-two (scope_of (points sequential params) private body containers path around nodes) (outside_accesses private (item_accesses body containers (nodes_behind nodes))) free access other member second
 
 pub elements-free : (own : List ℕ) (body : ItemTrees) (containers : Containers) (path : List ℕ) (around : List Parameter) (nodes : List ℕ) → IsScopeAccepted (scope_of elements own body containers path around nodes) →
     AreFree (outside_accesses own (item_accesses body containers (nodes_behind nodes)))
 elements-free own body containers path around nodes accepted access other member second =
-    accepted-two (scope_of elements own body containers path around nodes) (outside_accesses own (item_accesses body containers (nodes_behind nodes))) accepted access other member second
+    accepted-two (scope_of elements own body containers path around nodes) (outside_accesses own (item_accesses body containers (nodes_behind nodes))) (accepted refl) access other member second
 
 -- the scopes of a list are those of its first item and those of the others
 pub record OfItems (kind : KindTree) (items : ItemTrees) (containers : Containers) (path : List ℕ) (around : List Parameter) (nodes : List ℕ) : Type 0 where

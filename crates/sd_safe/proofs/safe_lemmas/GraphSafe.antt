@@ -1,13 +1,14 @@
 -- The work of a fit graph that is accepted is safe.
 use Rattle.std.specs.List.{AllByRecursion, Contains}
-use Rattle.std.proofs.Common.{◌≡◌, ◌≢◌, ◌⊎◌, inl, inr, zero, suc, ℕ, ◌<◌, ℤ, pos, List, [], ◌∷◌, ◌++◌, length, map, true, false, replicate, slice_index_or, refl, ap, sym, ◌∙◌, subst}
+use Rattle.std.proofs.Common.{◌≡◌, ◌≢◌, ◌⊎◌, inl, inr, zero, suc, ℕ, ◌<◌, ℤ, pos, List, [], ◌∷◌, ◌++◌, length, map, Bool, true, false, replicate, slice_index_or, refl, ap, sym, ◌∙◌, subst}
+use Rattle.std.proofs.lemmas.Bool.{lt-ltb, true≢false}
 use Rattle.std.proofs.lemmas.List.Elements.{Contains-append_left, Contains-append_right, All-from_recursion}
 use Rattle.sd_range.specs.Range.{IsRange}
 use Rattle.sd_range.specs.Points.{points, ranges_of}
 use Rattle.sd_range.proofs.RangeLaws.{points-distinct}
-use Rattle.sd_work.specs.Residual.{Term, owning, part_at, idle}
+use Rattle.sd_work.specs.Residual.{Term, Terms, Parts, Points, owning, part_at, idle}
 use Rattle.sd_work.specs.Touch.{Touch, takes, Touches, PoolTouches}
-use Rattle.sd_confluence.specs.Safe.{TouchCompatibly, TakesNothingOutside, IsPoolSafe, IsSafe, AreSafe}
+use Rattle.sd_confluence.specs.Safe.{TouchCompatibly, TakesNothingOutside, ArePartsSafe, IsPoolSafe, IsSafe, AreSafe}
 use Rattle.sd_subset.specs.boxes.Box.{Parameter}
 use Rattle.sd_subset.specs.boxes.InForce.{IsNormalRange, AreFresh, AreInForce, IsNormalBox, IsPoint}
 use Rattle.sd_subset.specs.boxes.InForce as box
@@ -19,11 +20,12 @@ use Rattle.sd_graph.specs.Mode.{Take, do_conflict}
 use Rattle.sd_graph.specs.Wiring.{Use, outside, exit_uses, kind_uses, item_uses, state_uses, uses_of_each, uses_at, is_before, before}
 use Rattle.sd_range.specs.Variables.{with_variables}
 use Rattle.sd_graph.specs.Context.{Reach, Context, private_memory, frames_at, source_name}
-use Rattle.sd_graph.specs.Unfold.{assigned, name_of, at_point, point_terms, at_element, element_memory, list_of, at_state, reach_inside, unfold_kind, unfold_items, unfold_state}
+use Rattle.sd_graph.specs.Unfold.{assigned, name_of, at_point, one_after_another, order_of_points, point_terms, at_element, element_memory, list_of, at_state, reach_inside, unfold_kind, unfold_items, unfold_state}
 use Rattle.sd_graph.proofs.WiringLaws.{edges_are_paths}
 use Rattle.sd_prop.specs.propagation.Accesses.{Access, take_access, outside_accesses, item_accesses}
 use Rattle.sd_prop.specs.propagation.ItemNodes.{item_nodes, own_node, nodes_behind, past}
-use Rattle.sd_prop.specs.propagation.Scopes.{further, scopes_itself, scopes_inside, item_scopes, state_scopes}
+use Rattle.sd_prop.specs.propagation.Scopes.{further, scope_of, scopes_itself, scopes_inside, item_scopes, state_scopes}
+use Rattle.sd_prop.specs.propagation.Scopes as scopes
 use Rattle.sd_race.specs.race.Pairs.{IsScopeAccepted, AreScopesAccepted}
 use Rattle.sd_race.proofs.race_lemmas.Members.{all-parts}
 use Rattle.sd_safe.proofs.safe_lemmas.Accepting.{AreMapHarmless, AreFree, map-harmless, elements-free, of_items}
@@ -140,6 +142,25 @@ points-take around parameters private body nodes context fresh fit in_force acce
     let separate = map-separate around parameters values point later accesses access access fresh in_force (normal-outside private (item_accesses body context.containers nodes) (normal-items body context.containers nodes (around ++ parameters) fit)) accepted two.here two.there two.different member member in
     separate.streams refl (ap (λ m. do_conflict m access.mode) covers.0 ∙ ap (do_conflict Take) covers.0) (inl covers.1)
 
+-- parts that come one after another are before each other
+in_sequence-safe : (kind : Parts) (parts : Terms Place) → ArePartsSafe kind one_after_another parts
+in_sequence-safe kind parts = record {
+  compatible = λ i j less free. absurd (true≢false (sym (lt-ltb i j less) ∙ free));
+  points = λ is i j less free. absurd (true≢false (sym (lt-ltb i j less) ∙ free));
+}
+
+-- so the points of an accepted map may be done as they are marked
+pub points-safe : (sequential : Bool) (around parameters : List Parameter) (private : List ℕ) (body : ItemTrees) (path nodes : List ℕ) (context : Context) → AreFresh around parameters → AreFit body (around ++ parameters) → AreInForce context.values around →
+    FindOnce context.reach → AreApartFor context.reach (outside private (item_uses body context.containers)) → IsScopeAccepted (scope_of (scopes.points sequential parameters) private body context.containers path around nodes) →
+    ArePartsSafe Points (order_of_points sequential) (point_terms (point_of parameters private body context) (points (ranges_of parameters) context.values))
+points-safe true around parameters private body path nodes context fresh fit in_force once apart accepted =
+    in_sequence-safe Points (point_terms (point_of parameters private body context) (points (ranges_of parameters) context.values))
+points-safe false around parameters private body path nodes context fresh fit in_force once apart accepted =
+    let harmless = map-harmless false parameters private body context.containers path around nodes (accepted refl) in record {
+      compatible = λ i j less free. points-compatible around parameters private body (nodes_behind nodes) context fresh fit in_force once apart harmless i j less;
+      points = λ is i j less free. points-take around parameters private body (nodes_behind nodes) context fresh fit in_force harmless i j less;
+    }
+
 -- what one element of a consume scope does
 abbrev pub element_term : ℕ → List ℕ → ItemTrees → Context → ℤ → Term Place
 element_term element private body context value =
@@ -185,7 +206,7 @@ mutual
   pub kind-safe : (kind : KindTree) (around : List Parameter) (line : ℕ) (path nodes : List ℕ) (context : Context) → IsFit kind around → AreInForce context.values around → FindOnce context.reach → AreApartFor context.reach (kind_uses kind context.containers) →
       AreScopesAccepted (scopes_itself kind context.containers path around nodes) → AreScopesAccepted (scopes_inside kind context.containers path around nodes) → IsSafe (unfold_kind kind line context)
   kind-safe (task code ins outs) around line path nodes context fit in_force once apart itself within = tt
-  kind-safe (map_scope parameters private body) around line path nodes context fit in_force once apart itself within = (
+  kind-safe (map_scope sequential parameters private body) around line path nodes context fit in_force once apart itself within = (
     point_terms-safe (point_of parameters private body context) (points (ranges_of parameters) context.values)
         (λ point member.
         let there = at_point context parameters private point in
@@ -193,10 +214,7 @@ mutual
         let once' = inside-once private context.containers context.reach once in
         let apart' = inside-apart private context.containers context.reach (item_uses body context.containers) apart in
         list-safe (around ++ parameters) body there fit.1 in_force' once' apart' (items-safe body (around ++ parameters) path (nodes_behind nodes) there fit.1 in_force' once' apart' within)),
-    record {
-      compatible = λ i j less free. points-compatible around parameters private body (nodes_behind nodes) context fit.0 fit.1 in_force once apart (map-harmless parameters private body context.containers path around nodes itself.0) i j less;
-      points = λ is i j less free. points-take around parameters private body (nodes_behind nodes) context fit.0 fit.1 in_force (map-harmless parameters private body context.containers path around nodes itself.0) i j less;
-    },
+    points-safe sequential around parameters private body path nodes context fit.0 fit.1 in_force once apart itself.0,
   )
   kind-safe (consume_scope source element private body) around line path nodes context fit in_force once apart itself within =
       let own = element ∷ private in

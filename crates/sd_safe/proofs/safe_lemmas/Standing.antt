@@ -26,7 +26,7 @@ mutual
   kind-item : (sought : KindTree) (at : Spot) (kind : KindTree) (here : Spot) (path nodes : List ℕ) → StandsInKind sought at kind here → IsFit kind here.around →
       AreScopesAccepted (scopes_inside kind here.containers path here.around nodes) → IsItemAccepted at sought
   kind-item sought at (task code ins outs) here path nodes stands fit accepted = absurd stands
-  kind-item sought at (map_scope params private body) here path nodes stands fit accepted =
+  kind-item sought at (map_scope sequential params private body) here path nodes stands fit accepted =
       items-item sought at body (record here { around = here.around ++ params }) path (nodes_behind nodes) stands fit.1 accepted
   kind-item sought at (consume_scope stream element private body) here path nodes stands fit accepted = items-item sought at body here path (nodes_behind nodes) stands fit accepted
   kind-item sought at (nested_graph (graph name containers arguments variables symbols states) links) here path nodes stands fit accepted =

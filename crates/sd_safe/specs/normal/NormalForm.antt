@@ -51,7 +51,7 @@ AreContainersNormal containers = AllByRecursion (λ (entry : List ℕ × Contain
 abbrev mutual
   pub IsKindNormal : KindTree → Type 0
   IsKindNormal (task code ins outs) = AreLinksNormal ins × AreLinksNormal outs
-  IsKindNormal (map_scope params private body) = AreParamsNormal params × AreItemsNormal body
+  IsKindNormal (map_scope sequential params private body) = AreParamsNormal params × AreItemsNormal body
   IsKindNormal (consume_scope stream element private body) = AreItemsNormal body
   IsKindNormal (nested_graph inner links) = AreLinksNormal links × IsGraphNormal inner
   IsKindNormal (reduction resolution axis identity from to) = IsLinkNormal from × IsLinkNormal to

@@ -16,7 +16,7 @@ abbrev mutual
   -- an item does this, or one in it
   pub StandsInKind : KindTree → Spot → (kind : KindTree) → (here : Spot) → Type 0
   StandsInKind sought at (task code ins outs) here = ⊥
-  StandsInKind sought at (map_scope params private body) here = StandsInItems sought at body (record here { around = here.around ++ params })
+  StandsInKind sought at (map_scope sequential params private body) here = StandsInItems sought at body (record here { around = here.around ++ params })
   StandsInKind sought at (consume_scope stream element private body) here = StandsInItems sought at body here
   StandsInKind sought at (nested_graph inner links) here = StandsInGraph sought at inner
   StandsInKind sought at (reduction resolution axis identity from to) here = ⊥

@@ -1,6 +1,6 @@
 //! What acceptance gives: each law is a function that does nothing.
 
-ghost use Rattle.std.specs.Prelude.{◌≡◌, ◌<◌, ◌++◌, ◌∷◌, ℕ, List, [], false};
+ghost use Rattle.std.specs.Prelude.{◌≡◌, ◌<◌, ◌++◌, ◌∷◌, ℕ, List, [], Bool, false};
 ghost use Rattle.sd_work.specs.Memory.{Memory};
 ghost use Rattle.sd_work.specs.Residual.{Points, owning, idle, part_at};
 ghost use Rattle.sd_work.specs.Step.{Done};
@@ -14,7 +14,7 @@ ghost use Rattle.sd_subset.specs.boxes.InForce.{AreFresh};
 ghost use Rattle.sd_graph.specs.PlainTree.{KindTree, ItemTrees, GraphTree, consume_scope};
 ghost use Rattle.sd_graph.specs.Wiring.{outside, item_uses, before};
 ghost use Rattle.sd_graph.specs.Context.{Context, own_reach, private_memory};
-ghost use Rattle.sd_graph.specs.Unfold.{at_point, at_element, element_memory, in_any_order, list_of, point_terms, unfold_items, run_of};
+ghost use Rattle.sd_graph.specs.Unfold.{at_point, at_element, element_memory, list_of, order_of_points, point_terms, unfold_items, run_of};
 ghost use Rattle.sd_prop.specs.propagation.Scopes as scopes;
 ghost use Rattle.sd_prop.specs.propagation.Scopes.{scope_of, scopes_itself, scopes_inside};
 ghost use Rattle.sd_race.specs.race.Pairs.{IsScopeAccepted, AreScopesAccepted, IsGraphAccepted};
@@ -32,13 +32,14 @@ pub fn items_without_a_path_do_not_conflict()
         → TouchCompatibly (part_at (unfold_items items context) i) (part_at (unfold_items items context) j) }
 {}
 
-/// The points of an accepted map do not conflict, and no later one takes from a stream outside of it.
+/// The points of an accepted map that do not come one after another do not conflict, and no later one takes
+/// from a stream outside of it. Those of a sequential map may: each is before all behind it.
 pub fn points_of_an_accepted_map_do_not_conflict()
-    ensures { (params : List Parameter) (private : List ℕ) (body : ItemTrees) (path nodes : List ℕ) (around : List Parameter) (context : Context)
+    ensures { (sequential : Bool) (params : List Parameter) (private : List ℕ) (body : ItemTrees) (path nodes : List ℕ) (around : List Parameter) (context : Context)
         → AreFresh around params → AreFit body (around ++ params)
         → MayStand context around (outside private (item_uses body context.containers))
-        → IsScopeAccepted (scope_of (scopes.points params) private body context.containers path around nodes)
-        → ArePartsSafe Points in_any_order
+        → IsScopeAccepted (scope_of (scopes.points sequential params) private body context.containers path around nodes)
+        → ArePartsSafe Points (order_of_points sequential)
         (point_terms (λ point. owning (private_memory context.containers private)
         (list_of (at_point context params private point) body (unfold_items body (at_point context params private point))))
         (points (ranges_of params) context.values)) }

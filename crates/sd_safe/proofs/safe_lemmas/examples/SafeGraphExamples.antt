@@ -1,6 +1,6 @@
--- A small graph that is fit and accepted: its premises can be met.
+-- Small graphs that are fit and accepted: the premises can be met, also of a sequential map that has a race.
 use Rattle.std.specs.List.{AllByRecursion}
-use Rattle.std.proofs.Common.{pos, [], ◌∷◌, arith}
+use Rattle.std.proofs.Common.{pos, [], ◌∷◌, true, arith}
 use Rattle.std.proofs.lemmas.Int.{ints}
 use Rattle.sd_range.specs.declared.subset.Dim.TheVariants.{Index}
 use Rattle.sd_subset.specs.boxes.InForce.{AreFresh}
@@ -8,7 +8,7 @@ use Rattle.sd_subset.proofs.boxes_lemmas.examples.BoxExamples.{i}
 use Rattle.sd_work.specs.Memory.{Memory}
 use Rattle.sd_confluence.specs.Safe.{MayInterleave}
 use Rattle.sd_graph.specs.Unfold.{run_of}
-use Rattle.sd_prop.proofs.propagation_lemmas.examples.AccessExamples.{shifted, shift}
+use Rattle.sd_prop.proofs.propagation_lemmas.examples.AccessExamples.{shifted, shift, shift_of}
 use Rattle.sd_race.proofs.race_lemmas.examples.RaceExamples.{a_shift_by_four_is_accepted}
 use Rattle.sd_race.specs.cover.Fit.{IsNormalDim, IsGraphFit}
 use Rattle.sd_safe.proofs.safe_lemmas.Whole.{may_interleave}
@@ -35,3 +35,13 @@ a_shift_is_fit = (tt, ((tt, tt), ((((fresh, (((normal, tt), (normal_target, tt))
 
 a_shift_may_interleave : (memory : Memory) → MayInterleave (run_of (shift (pos 4)) memory)
 a_shift_may_interleave memory = may_interleave (shift (pos 4)) memory a_shift_is_fit a_shift_by_four_is_accepted
+
+-- A[i] = A[i + 1], one point after another
+normal_next : AllByRecursion IsNormalDim (Index (shifted (pos 1)) ∷ [])
+normal_next = ((λ is. cc, tt, tt), tt)
+
+a_sequential_shift_is_fit : IsGraphFit (shift_of true (pos 1)) []
+a_sequential_shift_is_fit = (tt, ((tt, tt), ((((fresh, (((normal_next, tt), (normal_target, tt)), tt)), tt), tt), tt)))
+
+a_sequential_shift_may_interleave : (memory : Memory) → MayInterleave (run_of (shift_of true (pos 1)) memory)
+a_sequential_shift_may_interleave memory = may_interleave (shift_of true (pos 1)) memory a_sequential_shift_is_fit (λ unmarked. cc, tt)

@@ -1,5 +1,5 @@
 -- A small graph that is valid and accepted, with its expressions in normal form: the premises of the laws can be met.
-use Rattle.std.proofs.Common.{◌≡◌, inl, pos, [], ◌∷◌, None, refl, arith}
+use Rattle.std.proofs.Common.{◌≡◌, inl, pos, [], ◌∷◌, None, false, refl, arith}
 use Rattle.std.proofs.lemmas.Int.{ints}
 use Rattle.sd_range.specs.declared.subset.Dim.TheVariants.{Index}
 use Rattle.sd_subset.proofs.boxes_lemmas.examples.BoxExamples.{own_elements_are_harmless}
@@ -19,7 +19,7 @@ use Rattle.sd_safe.proofs.safe_lemmas.Whole.{may_interleave}
 
 -- for i from 0 to 3: A[i] = A[i + 4]
 abbrev shift : GraphTree
-shift = graph [] (container (pos 8 ∷ []) Argument ∷ []) 1 ([] ∷ []) 0 (and_state (one_item (map_scope ((0, range (number (pos 0)) (number (pos 3))) ∷ []) [] (one_item (
+shift = graph [] (container (pos 8 ∷ []) Argument ∷ []) 1 ([] ∷ []) 0 (and_state (one_item (map_scope false ((0, range (number (pos 0)) (number (pos 3))) ∷ []) [] (one_item (
     task (giving (0 ∷ []) 1 [] (input 0 no_value)) (link 0 (Index (plus 0 (pos 4)) ∷ []) ∷ []) (link 0 (Index (plus 0 (pos 0)) ∷ []) ∷ []))))) [] no_state)
 
 all_rules_hold : invalidity shift ≡ None
@@ -31,7 +31,7 @@ is_normal = (((tt, tt), tt), ((((((tt, (tt, tt)), tt), (((((λ is. cc, tt, tt), 
 
 is_accepted : IsGraphAccepted shift
 is_accepted = (
-  (λ same conflict. cc, (λ same conflict. inl (inl (inl (record { constant = refl; above = omega (arith, ints) }))), (λ same conflict. own_elements_are_harmless, tt))),
+  λ unmarked. (λ same conflict. cc, (λ same conflict. inl (inl (inl (record { constant = refl; above = omega (arith, ints) }))), (λ same conflict. own_elements_are_harmless, tt))),
   tt,
 )
 
