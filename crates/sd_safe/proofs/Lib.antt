@@ -1,2 +1,3 @@
 pub mod fit_lemmas
 pub mod safe_lemmas
+pub mod commuting_lemmas

@@ -14,10 +14,13 @@ pub use normal::show_normal_forms;
 pub use safe::{
     a_valid_accepted_graph_may_interleave, an_accepted_consume_scope_may_interleave,
     an_accepted_graph_ends_alike, an_accepted_graph_may_interleave,
+    an_item_inside_maps_over_a_memory_of_its_graph_stands_alone,
     an_item_over_a_memory_of_its_graph_stands_alone,
     each_interleaving_of_a_valid_accepted_graph_ends_as_the_sequential_run,
     elements_of_an_accepted_consume_scope_do_not_conflict, items_without_a_path_do_not_conflict,
     points_of_an_accepted_map_do_not_conflict,
+    steps_in_two_parts_of_a_valid_accepted_graph_commute,
     the_order_of_taking_in_a_valid_accepted_graph_makes_no_difference,
     the_order_of_taking_of_an_accepted_scope_makes_no_difference,
+    what_is_left_of_a_valid_graph_lies_in_its_boxes,
 };
