@@ -4,10 +4,10 @@ use Rattle.std.specs.Option.{is_some}
 use Rattle.std.proofs.lemmas.Bool.{true≢false}
 use Rattle.std.proofs.Common.{◌≡◌, ◌↔◌, ℕ, Bool, true, false, not, IsTrue, ◌+◌, ◌<◌, List, [], ◌∷◌, ◌++◌, Option, Some, None, option_map, map, length, drop, slice_index_or, sym, subst, ◌∙◌, ap, refl, append_assoc}
 use Rattle.sd_prop.specs.propagation.Accesses.{Access}
-use Rattle.sd_prop.specs.propagation.Scopes.{is_sequential, Scope}
+use Rattle.sd_prop.specs.propagation.Scopes.{Scope}
 use Rattle.sd_race.specs.race.Pairs.{Pair, IsAccepted, IsFreeOfRaces, IsScopeAccepted, AreScopesAccepted, pair_of, pairs_among, pairs_of, asked_pairs}
 use Rattle.sd_race.specs.race.Race.{Race, race_of}
-use Rattle.sd_race.proofs.race_lemmas.Members.{all-parts, all-joined, asked-all, asked-accepted, scope-accepted}
+use Rattle.sd_race.proofs.race_lemmas.Members.{all-parts, all-joined, asked-accepted, scope-accepted}
 use Rattle.sd_race.proofs.race_lemmas.FirstLaws.{none-refused}
 use Rattle.sd_subset.proofs.boxes_lemmas.Walks.{drop-next}
 use Rattle.sd_race.specs.declared.checking.race.Race as told
@@ -74,11 +74,11 @@ module _ (scopes : List Scope) (i : ℕ) (scope : Scope) (below : i < length sco
       subst (λ rest. IsFirstOf (flat_map asked_pairs rest) race) (sym (drop-next scopes i scope below is))
       (first_later (asked_pairs scope) (flat_map asked_pairs (drop (i + 1) scopes)) race (asked-accepted scope accepted) first)
 
-  -- at one with a race that is not sequential
-  pub scope_found : is_sequential scope.over ≡ false → (race : Race) → IsFirstOf (pairs_of scope) (Some race) → IsFirstOf (flat_map asked_pairs (drop i scopes)) (Some race)
-  scope_found unmarked race first =
+  -- at one with a race
+  pub scope_found : (race : Race) → IsFirstOf (asked_pairs scope) (Some race) → IsFirstOf (flat_map asked_pairs (drop i scopes)) (Some race)
+  scope_found race first =
       subst (λ rest. IsFirstOf (flat_map asked_pairs rest) (Some race)) (sym (drop-next scopes i scope below is))
-      (first_already (asked_pairs scope) (flat_map asked_pairs (drop (i + 1) scopes)) race (subst (λ pairs. IsFirstOf pairs (Some race)) (sym (asked-all scope unmarked)) first))
+      (first_already (asked_pairs scope) (flat_map asked_pairs (drop (i + 1) scopes)) race first)
 
 module _ (scope : Scope) (access : Access) (left behind : List Access) (is : left ≡ access ∷ behind) where
   -- past an access without a race

@@ -71,20 +71,27 @@ fn race_in(alloc: Global, scope: &Scope<'_>) -> Result<Option<Race>, NoMemory>
     Ok(None)
 }
 
-/// The first race of scopes. The own pairs of sequential maps are passed over.
+/// The first race of a scope among the pairs that are asked of it: of a sequential map there are none.
+fn asked_race(alloc: Global, scope: &Scope<'_>) -> Result<Option<Race>, NoMemory>
+    ensures { IfOk result (λ found. IsFirstOf (asked_pairs scope.now) (option_map race_of found)) }
+{
+    if scope.is_sequential() {
+        return Ok(None);
+    }
+    race_in(alloc, scope)
+}
+
+/// The first race of scopes.
 fn race_among(alloc: Global, all: &[Scope<'_>]) -> Result<Option<Race>, NoMemory>
     ensures { IfOk result (λ found. IsFirstOf (flat_map asked_pairs all.now) (option_map race_of found)) }
 {
     let mut known = BTreeMap::new(alloc);
     for (i, scope) in all.iter().enumerate() {
-        if scope.is_sequential() {
-            continue;
-        }
         let digest = digest_of(scope);
         if is_like_earlier(scope, &all[..i], known.get(&digest).copied()) {
             continue;
         }
-        if let Some(race) = race_in(alloc, scope)? {
+        if let Some(race) = asked_race(alloc, scope)? {
             return Ok(Some(race));
         }
         known.insert(digest, i)?;
@@ -115,5 +122,6 @@ pub fn scope_accepted(alloc: Global, bound: &Bound, path: &Path) -> Result<Optio
     let Some(scope) = scope_with(all.as_slice(), path.steps.as_slice()) else {
         return Ok(None);
     };
-    Ok(Some(race_in(alloc, scope)?.is_none()))
+    let race = race_in(alloc, scope)?;
+    Ok(Some(race.is_none()))
 }

@@ -11,4 +11,4 @@ returns c =
     (λ i. scope_with (sym c.as_slice-2.ensures i) (sym (c.as_slice.ensures.value ∙ c.in_ok-all.ensures) i))
     ∙ sym c.scope_with.ensures
     ∙ ap (λ found. option_map (λ scope. scope.now) found) c.in-Some.is in
-    subst (IsVerdict (Some c.is_none.result)) (sym found) (scope_verdict c.in-Some.scope.now c.in_ok-race_in.field-0 c.is_none.result c.is_none.ensures c.in_ok-race_in.ensures)
+    subst (IsVerdict (Some c.is_none.result)) (sym found) (scope_verdict c.in-Some.scope.now _ c.is_none.result c.is_none.ensures c.in_ok-race.ensures)
