@@ -117,6 +117,7 @@ fn push_inside<'a>(
             params,
             private,
             body,
+            ..
         } => {
             let scopes = place.scopes.in_map(alloc, params, private)?;
             push_items(alloc, all, place, &scopes, body)
