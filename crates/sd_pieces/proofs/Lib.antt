@@ -1,0 +1,4 @@
+pub mod course_lemmas
+pub mod cut_lemmas
+pub mod history_lemmas
+pub mod examples

@@ -1,0 +1,6 @@
+pub mod Courses
+pub mod ExactTurns
+pub mod MoreAllowed
+pub mod MoreTurns
+pub mod Readings
+pub mod Touched

@@ -1,0 +1,111 @@
+-- Work on a cut of a memory, merged into another one, is the work from that one.
+use Rattle.std.proofs.Common.{◌≡◌, ℕ, ℤ, List, [], ◌∷◌, ◌++◌, Option, Some, None, refl, sym, ◌∙◌, ap, subst}
+use Rattle.sd_num.specs.Resolution.{resolved}
+use Rattle.sd_num.proofs.ResolutionLemmas.{resolved-identity, FitsSigned-identity}
+use Rattle.sd_work.specs.Memory.{Memories}
+use Rattle.sd_work.specs.Change.{Change}
+use Rattle.sd_work.specs.Residual.{Term}
+use Rattle.sd_work.specs.Step.{Outcome, Done, Faulted, Spent}
+use Rattle.sd_work.specs.BigStep.{Coming, reached, big_step}
+use Rattle.sd_work.specs.Touch.{Touch, takes, Touches}
+use Rattle.sd_pieces.specs.course.Reading.{Reading, reads_element, reads_stream, container_at, element_at, stream_at, AgreeOn, apply_all}
+use Rattle.sd_pieces.specs.course.Course.{Course, course, told_end, told}
+use Rattle.sd_pieces.specs.course.Touched.{AreChangesBy, AreReadingsBy, IsCourseBy}
+use Rattle.sd_pieces.proofs.course_lemmas.Readings.{if_found, unchanged}
+use Rattle.sd_pieces.proofs.course_lemmas.Courses.{told-course, course-depends}
+use Rattle.sd_pieces.proofs.course_lemmas.Touched.{course-by}
+use Rattle.sd_pieces.specs.cut.Naming.{Naming, IsOneToOne, term_named, IsTouchNamed, AreMemoriesNamed, ComesToNamed}
+use Rattle.sd_pieces.specs.cut.Merged.{kept, Marking, outermost, IsMarked, IsPrepared, IsMerged, MergesTo}
+use Rattle.sd_pieces.proofs.cut_lemmas.NamedMemories.{element-named, stream-named}
+use Rattle.sd_pieces.proofs.cut_lemmas.NamedWork.{term-goes}
+use Rattle.sd_pieces.proofs.cut_lemmas.Merging.{effects_on, stream_effects, element-after, stream-after, untouched-after, unnumbered-after, gathered-after, unused-after, appended-after}
+
+-- ---- agreement on what is read
+
+element-agrees : (marking : Marking) (s t : Memories) → IsPrepared marking s t → (l c e : ℕ) → (l ≡ 0) × (marking.element c e ≡ kept) →
+    element_at (record { level = l; container = c; element = e }) s ≡ element_at (record { level = l; container = c; element = e }) t
+element-agrees marking s t p l c e h =
+    subst (λ l. element_at (record { level = l; container = c; element = e }) s ≡ element_at (record { level = l; container = c; element = e }) t) (sym h.0) (p.kept_so c e h.1)
+
+stream-agrees : (marking : Marking) (s t : Memories) → IsPrepared marking s t → (l c : ℕ) → IsMarked marking (takes l c) → stream_at l c s ≡ stream_at l c t
+stream-agrees marking s t p l c h = subst (λ l. stream_at l c s ≡ stream_at l c t) (sym h.0) (p.drained_so c h.1)
+
+readings-agree : (marking : Marking) (s t : Memories) → IsPrepared marking s t → (rs : List Reading) → AreReadingsBy (IsMarked marking) rs → AgreeOn rs s t
+readings-agree marking s t p [] h = tt
+readings-agree marking s t p (reads_element r ∷ rs) h = (element-agrees marking s t p r.level r.container r.element h.0, readings-agree marking s t p rs h.1)
+readings-agree marking s t p (reads_stream l c ∷ rs) h = (stream-agrees marking s t p l c h.0, readings-agree marking s t p rs h.1)
+
+-- ---- the merged memory
+
+abbrev value_or : {A : Type 0} → A → Option A → A
+value_or d None = d
+value_or d (Some x) = x
+
+append-nothing : (xs : List ℤ) → xs ++ [] ≡ xs
+append-nothing [] = refl
+append-nothing (x ∷ xs) = ap (λ l. x ∷ l) (append-nothing xs)
+
+merged : (naming : Naming) (marking : Marking) (s t others : Memories) (changes : List Change) → IsPrepared marking s t → AreChangesBy (IsMarked marking) changes → AreChangesBy (IsTouchNamed naming 0) changes →
+    AreMemoriesNamed naming 0 (apply_all changes s) others → IsMerged naming marking others t (apply_all changes t)
+merged naming marking s t others changes p h o n = record {
+  untouched_so = λ c e m. element-after 0 c e changes t ∙ sym (unchanged (effects_on 0 c e changes) (untouched-after marking c e changes h m) (element_at (outermost c e) t));
+  unused_so = λ c m. stream-after 0 c changes t ∙ sym (unchanged (stream_effects 0 c changes) (unused-after marking c changes h m) (stream_at 0 c t));
+  unnumbered_so = λ c e m. element-after 0 c e changes t ∙ sym (unchanged (effects_on 0 c e changes) (unnumbered-after naming c e changes o m) (element_at (outermost c e) t));
+  kept_so = λ c e k m q.
+      element-after 0 c e changes t ∙ ap (if_found (effects_on 0 c e changes)) (sym (p.kept_so c e m)) ∙ sym (element-after 0 c e changes s)
+      ∙ element-named (naming c) e k q (container_at 0 c (apply_all changes s)) (container_at 0 c others) (n 0 c);
+  drained_so = λ c m.
+      stream-after 0 c changes t ∙ ap (if_found (stream_effects 0 c changes)) (sym (p.drained_so c m)) ∙ sym (stream-after 0 c changes s)
+      ∙ stream-named (naming c) (container_at 0 c (apply_all changes s)) (container_at 0 c others) (n 0 c);
+  gathered_so = λ c e k r old value m q fits before left.
+      let i = p.gathered_so c e r m in
+      let fit = FitsSigned-identity r i.0 i.1 in
+      let is_value : effects_on 0 c e changes i.0 ≡ value =
+      ap (value_or i.0) (sym (element-after 0 c e changes s ∙ ap (if_found (effects_on 0 c e changes)) i.2) ∙ element-named (naming c) e k q (container_at 0 c (apply_all changes s)) (container_at 0 c others) (n 0 c) ∙ left) in
+      element-after 0 c e changes t ∙ ap (if_found (effects_on 0 c e changes)) before
+      ∙ ap Some (
+      ap (effects_on 0 c e changes) (sym (resolved-identity r i.0 old i.1 fits))
+      ∙ gathered-after marking c e r changes h m old i.0 fits fit
+      ∙ ap (resolved r old) is_value
+      );
+  appended_so = λ c values os m before left.
+      let is_others : stream_effects 0 c changes [] ≡ os =
+      ap (value_or []) (sym (stream-after 0 c changes s ∙ ap (if_found (stream_effects 0 c changes)) (p.appended_so c m)) ∙ stream-named (naming c) (container_at 0 c (apply_all changes s)) (container_at 0 c others) (n 0 c) ∙ left) in
+      stream-after 0 c changes t ∙ ap (if_found (stream_effects 0 c changes)) before
+      ∙ ap Some (
+      ap (stream_effects 0 c changes) (sym (append-nothing values))
+      ∙ appended-after marking c changes h m values []
+      ∙ ap (λ l. values ++ l) is_others
+      );
+}
+
+-- ---- work
+
+pub on-cut : {P : Type 0} (naming : Naming) (marking : Marking) (term : Term P) (most : ℕ) (s cut t : Memories) (n : ℕ) → IsOneToOne naming →
+    ((touch : Touch) → Touches term touch → IsTouchNamed naming 0 touch) → ((touch : Touch) → Touches term touch → IsMarked marking touch) →
+    IsPrepared marking s t → AreMemoriesNamed naming 0 s cut →
+    MergesTo naming marking t (big_step (term_named naming 0 term) most cut n) (big_step term most t n)
+on-cut {P} naming marking term most s cut t n one named marked p r =
+    subst (λ x. MergesTo naming marking t (big_step (term_named naming 0 term) most cut n) x) (sym from_t)
+    (by_end c.end (subst (λ x. ComesToNamed naming 0 x (big_step (term_named naming 0 term) most cut n)) (told-course term most s n) (term-goes naming one 0 term named most s cut n r)))
+  where
+    c : Course P
+    c = course term most s n
+
+    by : IsCourseBy (IsMarked marking) c
+    by = course-by (IsMarked marking) term marked most s n
+
+    numbered : IsCourseBy (IsTouchNamed naming 0) c
+    numbered = course-by (IsTouchNamed naming 0) term named most s n
+
+    from_t : big_step term most t n ≡ told c t
+    from_t = told-course term most t n ∙ ap (λ (c : Course P). told c t) (course-depends term most s t n (readings-agree marking s t p c.readings by.0))
+
+    by_end : (end : Option (Outcome P ℕ)) → ComesToNamed naming 0 (told_end end (apply_all c.changes s)) (big_step (term_named naming 0 term) most cut n) →
+        MergesTo naming marking t (big_step (term_named naming 0 term) most cut n) (told_end end (apply_all c.changes t))
+    by_end (Some (Done m)) k =
+        subst (λ x. MergesTo naming marking t x (reached (apply_all c.changes t) m)) (sym k.1)
+        (apply_all c.changes t, refl, merged naming marking s t k.0 c.changes p by.1 numbered.1 k.2)
+    by_end (Some (Faulted fault)) k = subst (λ x. MergesTo naming marking t x (Some (Faulted fault))) (sym k) refl
+    by_end (Some Spent) k = subst (λ (x : Coming P). MergesTo naming marking t x (Some Spent)) (sym k) refl
+    by_end None k = subst (λ (x : Coming P). MergesTo naming marking t x None) (sym k) refl

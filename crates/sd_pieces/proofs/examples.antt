@@ -1,0 +1,3 @@
+pub mod CourseExamples
+pub mod CutExamples
+pub mod HistoryExamples

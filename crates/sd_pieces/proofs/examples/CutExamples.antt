@@ -1,0 +1,128 @@
+-- Work on two elements of an array of four: one is read, and added to the other.
+use Rattle.std.proofs.Common.{◌≡◌, ◌⊎◌, ℕ, zero, suc, ◌+◌, ℤ, pos, [], ◌∷◌, Some, None, slice_get, refl, sym, ◌∙◌, subst, inl, inr, arith}
+use Rattle.std.specs.Int.{int_wrap}
+use Rattle.sd_num.specs.declared.resolution.Resolution.{Resolution}
+use Rattle.sd_num.specs.declared.resolution.Resolution.TheVariants.{Sum}
+use Rattle.sd_num.specs.declared.width.Width.TheVariants.{W64}
+use Rattle.sd_num.specs.Resolution.{identity_of}
+use Rattle.sd_work.specs.Memory.{Memories, array}
+use Rattle.sd_work.specs.Leaf.{write_value}
+use Rattle.sd_work.specs.Residual.{Term}
+use Rattle.sd_work.specs.BigStep.{reached, big_step}
+use Rattle.sd_work.specs.Touch.{Touch, reads, writes, Touches}
+use Rattle.sd_work.proofs.examples.ExampleParts.{cell, value_of, task}
+use Rattle.sd_confluence.proofs.examples.TouchExamples.{at, task_does}
+use Rattle.sd_pieces.specs.course.Reading.{element_at}
+use Rattle.sd_pieces.specs.cut.Naming.{Naming, IsOneToOne, term_named, IsTouchNamed, AreMemoriesNamed}
+use Rattle.sd_pieces.specs.cut.Merged.{Mark, untouched, kept, gathered, unused, Marking, outermost, IsMarked, IsPrepared, MergesTo}
+use Rattle.sd_pieces.proofs.cut_lemmas.OnCut.{on-cut}
+
+-- element 3 is added to element 2
+abbrev adds_on : Term ℕ
+adds_on = task 1 (cell 0 0 3 ∷ []) (λ values. write_value (value_of values 0) (cell 0 0 2) (Some Sum) ∷ [])
+
+-- the cut has these two, by the numbers 0 and 1
+abbrev numbers : Naming
+numbers zero zero = None
+numbers zero (suc zero) = None
+numbers zero (suc (suc zero)) = Some 0
+numbers zero (suc (suc (suc zero))) = Some 1
+numbers zero (suc (suc (suc (suc element)))) = None
+numbers (suc container) element = None
+
+-- values are added to the one, the other is read
+abbrev marks : (container element : ℕ) → Mark
+marks zero zero = untouched
+marks zero (suc zero) = untouched
+marks zero (suc (suc zero)) = gathered Sum
+marks zero (suc (suc (suc zero))) = kept
+marks zero (suc (suc (suc (suc element)))) = untouched
+marks (suc container) element = untouched
+
+abbrev marking : Marking
+marking = record { element = marks; stream = λ container. unused }
+
+abbrev opening : Memories
+opening = (array (pos 1 ∷ pos 1 ∷ pos 10 ∷ pos 4 ∷ []) ∷ []) ∷ []
+
+-- the same, with the element that is added to at the identity
+abbrev prepared : Memories
+prepared = (array (pos 1 ∷ pos 1 ∷ pos 0 ∷ pos 4 ∷ []) ∷ []) ∷ []
+
+abbrev cut : Memories
+cut = (array (pos 0 ∷ pos 4 ∷ []) ∷ []) ∷ []
+
+on_the_cut_it_adds_to_the_identity : big_step (term_named numbers 0 adds_on) 1 cut 1 ≡ reached ((array (pos 4 ∷ pos 4 ∷ []) ∷ []) ∷ []) 0
+unfolding int_wrap
+on_the_cut_it_adds_to_the_identity = refl
+
+what_is_left_is_merged : big_step adds_on 1 opening 1 ≡ reached ((array (pos 1 ∷ pos 1 ∷ pos 14 ∷ pos 4 ∷ []) ∷ []) ∷ []) 0
+unfolding int_wrap
+what_is_left_is_merged = refl
+
+-- ---- all that the law asks for
+
+number_is : (container element number : ℕ) → numbers container element ≡ Some number → element ≡ number + 2
+number_is zero zero number e = cc
+number_is zero (suc zero) number e = cc
+number_is zero (suc (suc zero)) number e = let is : 0 ≡ number = cc in omega arith
+number_is zero (suc (suc (suc zero))) number e = let is : 1 ≡ number = cc in omega arith
+number_is zero (suc (suc (suc (suc element)))) number e = cc
+number_is (suc container) element number e = cc
+
+numbers_are_one_to_one : IsOneToOne numbers
+numbers_are_one_to_one container element other number e f = number_is container element number e ∙ sym (number_is container other number f)
+
+touches : (touch : Touch) → Touches adds_on touch → (touch ≡ reads (at 3)) ⊎ (touch ≡ writes (at 2) (Some Sum))
+touches touch h =
+    elim (task_does 1 (cell 0 0 3 ∷ []) (λ values. write_value (value_of values 0) (cell 0 0 2) (Some Sum) ∷ []) touch h)
+    [ inl x ↦ elim x [ inl e ↦ inl e | inr y ↦ elim y [ ] ] | inr x ↦ elim x.1 [ inl e ↦ inr e | inr y ↦ elim y [ ] ] ]
+
+touches_have_numbers : (touch : Touch) → Touches adds_on touch → IsTouchNamed numbers 0 touch
+touches_have_numbers touch h = on (touches touch h)
+  where
+    on : (touch ≡ reads (at 3)) ⊎ (touch ≡ writes (at 2) (Some Sum)) → IsTouchNamed numbers 0 touch
+    on (inl e) = subst (IsTouchNamed numbers 0) (sym e) (1, refl)
+    on (inr e) = subst (IsTouchNamed numbers 0) (sym e) (0, refl)
+
+touches_are_marked : (touch : Touch) → Touches adds_on touch → IsMarked marking touch
+touches_are_marked touch h = on (touches touch h)
+  where
+    on : (touch ≡ reads (at 3)) ⊎ (touch ≡ writes (at 2) (Some Sum)) → IsMarked marking touch
+    on (inl e) = subst (IsMarked marking) (sym e) (refl, refl)
+    on (inr e) = subst (IsMarked marking) (sym e) (refl, inr (Sum, refl, refl))
+
+it_is_prepared : IsPrepared marking prepared opening
+it_is_prepared = record { kept_so = kept_ones; drained_so = λ container e. cc; gathered_so = gathered_ones; appended_so = λ container e. cc }
+  where
+    kept_ones : (container element : ℕ) → marks container element ≡ kept → element_at (outermost container element) prepared ≡ element_at (outermost container element) opening
+    kept_ones zero zero e = refl
+    kept_ones zero (suc zero) e = refl
+    kept_ones zero (suc (suc zero)) e = cc
+    kept_ones zero (suc (suc (suc zero))) e = refl
+    kept_ones zero (suc (suc (suc (suc element)))) e = refl
+    kept_ones (suc container) element e = refl
+
+    gathered_ones : (container element : ℕ) (by : Resolution) → marks container element ≡ gathered by →
+        (identity : ℤ) × (identity_of by W64 ≡ Some identity) × (element_at (outermost container element) prepared ≡ Some identity)
+    gathered_ones zero zero by e = cc
+    gathered_ones zero (suc zero) by e = cc
+    gathered_ones zero (suc (suc zero)) by e = let same : Sum ≡ by = cc in (pos 0, subst (λ r. identity_of r W64 ≡ Some (pos 0)) same refl, refl)
+    gathered_ones zero (suc (suc (suc zero))) by e = cc
+    gathered_ones zero (suc (suc (suc (suc element)))) by e = cc
+    gathered_ones (suc container) element by e = cc
+
+the_cut_has_them : AreMemoriesNamed numbers 0 prepared cut
+the_cut_has_them zero zero = elements
+  where
+    elements : (element number : ℕ) → numbers zero element ≡ Some number → slice_get (pos 1 ∷ pos 1 ∷ pos 0 ∷ pos 4 ∷ []) element ≡ slice_get (pos 0 ∷ pos 4 ∷ []) number
+    elements zero number e = cc
+    elements (suc zero) number e = cc
+    elements (suc (suc zero)) number e = let is : 0 ≡ number = cc in subst (λ n. Some (pos 0) ≡ slice_get (pos 0 ∷ pos 4 ∷ []) n) is refl
+    elements (suc (suc (suc zero))) number e = let is : 1 ≡ number = cc in subst (λ n. Some (pos 4) ≡ slice_get (pos 0 ∷ pos 4 ∷ []) n) is refl
+    elements (suc (suc (suc (suc element)))) number e = cc
+the_cut_has_them zero (suc container) = tt
+the_cut_has_them (suc level) container = tt
+
+it_merges : MergesTo numbers marking opening (big_step (term_named numbers 0 adds_on) 1 cut 1) (big_step adds_on 1 opening 1)
+it_merges = on-cut numbers marking adds_on 1 prepared cut opening 1 numbers_are_one_to_one touches_have_numbers touches_are_marked it_is_prepared the_cut_has_them

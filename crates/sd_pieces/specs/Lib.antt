@@ -1,0 +1,3 @@
+pub mod course
+pub mod cut
+pub mod history

@@ -1,0 +1,69 @@
+-- What work on a cut of a memory comes to, merged into another memory.
+use Rattle.std.specs.Prelude.{◌≡◌, ◌⊎◌, ℕ, ℤ, List, [], ◌++◌, Some, None, FitsSigned}
+use Rattle.std.specs.Int.{w64}
+use Rattle.sd_num.specs.Resolution.{resolved, identity_of}
+use Rattle.sd_num.specs.declared.width.Width.TheVariants.{W64}
+use Rattle.sd_num.specs.declared.resolution.Resolution.{Resolution}
+use Rattle.sd_work.specs.Memory.{Memories, Reference}
+use Rattle.sd_work.specs.Step.{Done, Faulted, Spent}
+use Rattle.sd_work.specs.BigStep.{Coming, reached}
+use Rattle.sd_work.specs.Touch.{Touch, reads, writes, pushes, takes}
+use Rattle.sd_pieces.specs.course.Reading.{element_at, stream_at}
+use Rattle.sd_pieces.specs.cut.Naming.{Naming}
+
+-- an element of the outermost memory: nothing touches it; it is read or replaced, so it has to be as it was; or values are resolved with it by one resolution
+pub data Mark : Type 0 where
+  untouched : Mark
+  kept : Mark
+  gathered : (by : Resolution) → Mark
+
+-- a stream of it: nothing touches it; it is taken from, so it has to be as it was; or values are appended to it
+pub data StreamMark : Type 0 where
+  unused : StreamMark
+  drained : StreamMark
+  appended : StreamMark
+
+pub record Marking : Type 0 where
+  pub element : (container element : ℕ) → Mark
+  pub stream : (container : ℕ) → StreamMark
+
+-- an element of the outermost memory
+abbrev pub outermost : (container element : ℕ) → Reference
+outermost container element = record { level = 0; container = container; element = element }
+
+-- what is touched is so marked
+abbrev pub IsMarked : Marking → Touch → Type 0
+IsMarked marking (reads from) = (from.level ≡ 0) × (marking.element from.container from.element ≡ kept)
+IsMarked marking (writes to by) =
+    (to.level ≡ 0) × ((marking.element to.container to.element ≡ kept) ⊎ ((resolution : Resolution) × (by ≡ Some resolution) × (marking.element to.container to.element ≡ gathered resolution)))
+IsMarked marking (pushes level container) = (level ≡ 0) × ((marking.stream container ≡ drained) ⊎ (marking.stream container ≡ appended))
+IsMarked marking (takes level container) = (level ≡ 0) × (marking.stream container ≡ drained)
+
+-- a memory in which gathered elements begin at the identity of their resolution, and streams that are appended to are empty; by these the others are as in another memory
+pub record IsPrepared (marking : Marking) (memories others : Memories) : Type 0 where
+  pub kept_so : (container element : ℕ) → marking.element container element ≡ kept → element_at (outermost container element) memories ≡ element_at (outermost container element) others
+  pub drained_so : (container : ℕ) → marking.stream container ≡ drained → stream_at 0 container memories ≡ stream_at 0 container others
+  pub gathered_so : (container element : ℕ) (by : Resolution) → marking.element container element ≡ gathered by
+      → (identity : ℤ) × (identity_of by W64 ≡ Some identity) × (element_at (outermost container element) memories ≡ Some identity)
+  pub appended_so : (container : ℕ) → marking.stream container ≡ appended → stream_at 0 container memories ≡ Some []
+
+-- what was there, with what the work on the cut left there
+pub record IsMerged (naming : Naming) (marking : Marking) (left before after : Memories) : Type 0 where
+  pub untouched_so : (container element : ℕ) → marking.element container element ≡ untouched → element_at (outermost container element) after ≡ element_at (outermost container element) before
+  pub unused_so : (container : ℕ) → marking.stream container ≡ unused → stream_at 0 container after ≡ stream_at 0 container before
+  pub unnumbered_so : (container element : ℕ) → naming container element ≡ None → element_at (outermost container element) after ≡ element_at (outermost container element) before
+  pub kept_so : (container element number : ℕ) → marking.element container element ≡ kept → naming container element ≡ Some number
+      → element_at (outermost container element) after ≡ element_at (outermost container number) left
+  pub drained_so : (container : ℕ) → marking.stream container ≡ drained → stream_at 0 container after ≡ stream_at 0 container left
+  pub gathered_so : (container element number : ℕ) (by : Resolution) (old value : ℤ) → marking.element container element ≡ gathered by → naming container element ≡ Some number
+      → FitsSigned w64 old → element_at (outermost container element) before ≡ Some old → element_at (outermost container number) left ≡ Some value
+      → element_at (outermost container element) after ≡ Some (resolved by old value)
+  pub appended_so : (container : ℕ) (values others : List ℤ) → marking.stream container ≡ appended
+      → stream_at 0 container before ≡ Some values → stream_at 0 container left ≡ Some others → stream_at 0 container after ≡ Some (values ++ others)
+
+-- how work ends from a memory, by how it ends on the cut: with the same turns and the merged memory, the same fault or want of turns
+abbrev pub MergesTo : {P : Type 0} → Naming → Marking → (before : Memories) → (on_cut : Coming P) → Coming P → Type 0
+MergesTo naming marking before (Some (Done left)) coming = (after : Memories) × (coming ≡ reached after left.turns) × IsMerged naming marking left.memories before after
+MergesTo naming marking before (Some (Faulted fault)) coming = coming ≡ Some (Faulted fault)
+MergesTo naming marking before (Some Spent) coming = coming ≡ Some Spent
+MergesTo naming marking before None coming = coming ≡ None
