@@ -8,7 +8,7 @@ mod graphs;
 mod places;
 
 pub use graphs::{
-    graph_text, names_stream, push_affine, push_container_name, push_end, push_path,
-    resolution_word,
+    StateText, head_text, names_stream, node_at, path_line, push_affine, push_container_name,
+    push_end, push_path, resolution_word, spans_of, state_text, with_step,
 };
 pub use places::{fault_text, place_text};

@@ -2,7 +2,6 @@ ghost use Rattle.std.specs.Prelude.{◌≡◌, ◌≤◌, IfOk, IfErr, IfSome, O
 ghost use Rattle.sd_io.specs.Count.{HasRisen};
 ghost use Rattle.sd_io.specs.Sink.{Appends, AppendsPrefix};
 ghost use Rattle.sd_graph.specs.TreeFold.{graph_tree};
-ghost use Rattle.sd_print.specs.graphs.GraphText as listing;
 ghost use Rattle.sd_race.specs.text.CheckText as checking;
 ghost use Rattle.sd_validity.specs.rules.Valid.{IsValid};
 ghost use Rattle.sd_words.specs.Command.{command_of};
@@ -17,9 +16,8 @@ use crate::ran::{Ran, run, run_by};
 use crate::workspace::{Workspace, accepted};
 use sd_graph::Bound;
 use sd_io::{Sink, SinkError};
-use sd_print::graph_text;
 use sd_race::check_text;
-use sd_report::{write_run, write_text};
+use sd_report::{write_graph, write_run, write_text};
 use sd_seq::RunEnd;
 use sd_words::Command;
 use std::alloc::Global;
@@ -33,19 +31,6 @@ pub(crate) enum Report {
     Graph(Bound),
     /// An accepted graph, of which the accesses of its scopes are wanted.
     Accepted(Bound),
-}
-
-/// Writes the text of a graph.
-fn write_graph<K: Sink>(alloc: Global, out: &mut K, bound: &Bound) -> Result<(), SinkError>
-    ensures ok { OnOk result (Appends (K.taken out.old) (K.taken out.new) (listing.graph_text (graph_tree bound.now.graph))) }
-    ensures err { OnErr result (AppendsPrefix (K.taken out.old) (K.taken out.new) (listing.graph_text (graph_tree bound.now.graph))) }
-    ensures failed { IsErrOf result SinkError.Failed → HasRisen (K.faults out.old) (K.faults out.new) }
-    ensures faults_never_fall { K.faults out.old ≤ K.faults out.new }
-{
-    match graph_text(alloc, bound) {
-        Ok(text) => write_text(out, text.as_bytes()),
-        Err(_) => Err(SinkError::Memory),
-    }
 }
 
 /// Writes what the race check tells of an accepted graph.

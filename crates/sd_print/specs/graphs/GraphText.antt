@@ -50,6 +50,10 @@ abbrev pub path_text : List ℕ → List ℕ
 path_text [] = []
 path_text (step ∷ steps) = decimal step ++ flat_map (λ other. codes "." ++ decimal other) steps
 
+-- the line before a nested graph
+abbrev pub path_line : List ℕ → List ℕ
+path_line path = codes "in " ++ (path_text path ++ codes "\n")
+
 abbrev pub is_nested : NodeKind → Bool
 is_nested (Access container) = false
 is_nested Tasklet = false
@@ -103,7 +107,7 @@ abbrev mutual
   kind_at (map_scope sequential params private body) nodes place path = nested_at body nodes place path
   kind_at (consume_scope stream element private body) nodes place path = nested_at body nodes place path
   kind_at (nested_graph inner links) nodes place path =
-      codes "in " ++ (path_text (path ++ slice_index_or nodes place 0 ∷ []) ++ (codes "\n" ++ graph_at inner (path ++ slice_index_or nodes place 0 ∷ [])))
+      path_line (path ++ slice_index_or nodes place 0 ∷ []) ++ graph_at inner (path ++ slice_index_or nodes place 0 ∷ [])
   kind_at (reduction resolution axis identity from to) nodes place path = []
   kind_at (copy from to) nodes place path = []
 

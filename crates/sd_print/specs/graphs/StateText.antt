@@ -6,6 +6,8 @@ use Rattle.sd_range.specs.declared.affine.Affine.{Affine}
 use Rattle.sd_graph.specs.PlainTree.{KindTree, task, map_scope, consume_scope, nested_graph, reduction, copy, ItemTrees, no_item, and_item, StateTrees, GuardTree, ExitTree}
 use Rattle.sd_graph.specs.ContainerParts.{Containers}
 use Rattle.sd_graph.specs.LoopScope.{loops_in_force}
+use Rattle.sd_wire.specs.declared.loops.span.LoopSpan.{LoopSpan}
+use Rattle.sd_wire.specs.loops.Spans.{variables_in}
 use Rattle.sd_wire.specs.wiring.Listing.{nodes_of, edges_of}
 use Rattle.sd_print.specs.graphs.AffineText.{variable_name, affine_text}
 use Rattle.sd_print.specs.graphs.LinkText.{edge_text}
@@ -28,6 +30,10 @@ abbrev mutual
 -- the variables of a state from the outermost: those of the loops in force, and then those of its scopes
 abbrev pub order_of : (states : StateTrees) → (variables : ℕ) → (number : ℕ) → ItemTrees → List ℕ
 order_of states variables number items = loops_in_force states variables number ++ item_params items
+
+-- the same, where the graph's loops have these spans
+abbrev pub order_in : List LoopSpan → (number : ℕ) → ItemTrees → List ℕ
+order_in spans number items = variables_in spans number ++ item_params items
 
 abbrev pub condition_text : Option GuardTree → List ℕ
 condition_text None = []

@@ -1,8 +1,7 @@
 //! The variables of a state from the outermost one.
-ghost use Rattle.std.specs.Prelude.{◌≡◌, ◌++◌, map, length, IfOk, OnOk};
+ghost use Rattle.std.specs.Prelude.{◌≡◌, ◌++◌, map, IfOk, OnOk};
 ghost use Rattle.sd_graph.specs.TreeFold.{item_trees, kind_tree};
 ghost use Rattle.sd_print.specs.graphs.StateText as definition;
-ghost use Rattle.sd_wire.specs.loops.Spans as spans_of;
 
 use sd_graph::{Item, ItemKind};
 use sd_list::NoMemory;
@@ -57,7 +56,7 @@ pub(crate) fn order_of(
     number: u32,
     items: &[Item],
 ) -> Result<Vec<u32>, NoMemory>
-    ensures { IfOk result (λ order. order.items ≡ spans_of.variables_in spans.now number ++ definition.item_params (item_trees items.now)) }
+    ensures { IfOk result (λ order. order.items ≡ definition.order_in spans.now number (item_trees items.now)) }
 {
     let mut found = variables_in(alloc, spans, number)?;
     push_item_params(items, &mut found)?;

@@ -20,10 +20,21 @@ pub fn push_path(text: &mut String, path: &[u32]) -> Result<(), NoMemory>
 }
 
 /// A path with one step more.
-pub(crate) fn with_step(alloc: Global, path: &[u32], step: u32) -> Result<Vec<u32>, NoMemory>
+pub fn with_step(alloc: Global, path: &[u32], step: u32) -> Result<Vec<u32>, NoMemory>
     ensures { IfOk result (λ longer. longer.items ≡ path.now ++ step ∷ []) }
 {
     let mut longer = path.to_vec(alloc)?;
     longer.push(step)?;
     Ok(longer)
+}
+
+/// The line before the graph at a path, with its newline.
+pub fn path_line(alloc: Global, path: &[u32]) -> Result<String, NoMemory>
+    ensures { IfOk result (λ line. string_bytes line ≡ definition.path_line path.now) }
+{
+    let mut line = String::new(alloc);
+    line.push_str("in ")?;
+    push_path(&mut line, path)?;
+    line.push_str("\n")?;
+    Ok(line)
 }
