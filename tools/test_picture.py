@@ -77,6 +77,12 @@ class TheTextOfAGraph(unittest.TestCase):
         self.assertEqual([it.scope for it in nodes], [None, None, 1, None, None])
         self.assertEqual([it.text for it in graph.states[1].edges], ["A", "A[i] _in0", "B[i] _out", "B"])
 
+    def test_widths_and_sequential_maps_are_read(self) -> None:
+        graph = read_graph("sdfg f\narray32 A[3]\nprivate stream32 S\ntransient T[2]\nstate 0\nnode 0 map i=0:3 sequential\nnode 1 exit 0\n")
+        self.assertEqual([(it.kind, it.bits) for it in graph.containers.values()], [("array", 32), ("private stream", 32), ("transient", 64)])
+        self.assertTrue(graph.containers["S"].is_stream() and not graph.containers["A"].is_stream())
+        self.assertEqual((graph.states[0].nodes[0].what, graph.states[0].nodes[0].rest), ("map", "i=0:3 sequential"))
+
     def test_a_text_that_is_no_graph_is_told_with_its_line(self) -> None:
         lines = INC.splitlines()
         for line, old, new in (

@@ -23,11 +23,12 @@ class NotAGraph(ValueError):
 
 @dataclass
 class Container:
-    """`kind` is `array`, `transient`, `private`, `stream` or `private stream`; a stream has no `extents`."""
+    """`kind` is `array`, `transient`, `private`, `stream` or `private stream`; a stream has no `extents`. `bits` is 64 or 32."""
 
     kind: str
     name: str
     extents: str = ""
+    bits: int = 64
 
     def is_stream(self) -> bool:
         return self.kind.endswith("stream")
@@ -106,8 +107,8 @@ class Graph:
         )
 
 
-CONTAINER = re.compile(r"(array|transient|private) ([\w$]+)(\[[\d,]+\])")
-STREAM = re.compile(r"((?:private )?stream) ([\w$]+)")
+CONTAINER = re.compile(r"(array|transient|private)(32)? ([\w$]+)(\[[\d,]+\])")
+STREAM = re.compile(r"((?:private )?stream)(32)? ([\w$]+)")
 NODE = re.compile(r"node (\d+)(?: in (\d+))? (access|tasklet|map|consume|exit|nested|reduce|copy)(?: (.+))?")
 EDGE = re.compile(r"edge (\d+) (\d+)(?: (.+))?")
 TRANSITION = re.compile(r"(next|back) (\d+)((?: if line \d+)?(?: set .+)?)")
@@ -162,10 +163,11 @@ class _Reader:
         found = CONTAINER.fullmatch(line) or _matched(STREAM, line, "no line of a graph has this form")
         if graph.states:
             raise ValueError("containers stand before states")
-        extents = found[3] if found.re is CONTAINER else ""
-        if found[2] in graph.containers:
+        kind, name = found[1], found[3]
+        extents = found[4] if found.re is CONTAINER else ""
+        if name in graph.containers:
             raise ValueError("two containers have one name")
-        graph.containers[found[2]] = Container(found[1], found[2], extents)
+        graph.containers[name] = Container(kind, name, extents, 32 if found[2] else 64)
 
     def _begin_state(self, line: str) -> None:
         number = int(_matched(re.compile(r"state (\d+)"), line, "a state has a number")[1])
