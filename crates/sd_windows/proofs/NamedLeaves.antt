@@ -1,6 +1,7 @@
 -- What a leaf has to do where containers are reached by other numbers.
 use Rattle.std.proofs.Common.{◌≡◌, ℕ, ◌-◌, nat_lt, ℤ, List, [], ◌∷◌, ◌++◌, map, length, Option, Some, None, option_map, Ok, Err, Bool, true, false, if◌then◌else◌, slice_get, flat_map, refl, sym, ◌∙◌, ap}
 use Rattle.std.specs.List.{zip}
+use Rattle.std.proofs.lemmas.List.{map-append}
 use Rattle.std.proofs.lemmas.List.Concat.{flat_map-cons}
 use Rattle.std.specs.Option.{option_and_then}
 use Rattle.sd_num.specs.declared.resolution.Resolution.{Resolution}
@@ -21,10 +22,6 @@ use Rattle.sd_windows.specs.NamedContext.{reach_named, context_named}
 map-map : {A B C : Type 0} (f : B → C) (g : A → B) (h : A → C) → ((x : A) → h x ≡ f (g x)) → (xs : List A) → map h xs ≡ map f (map g xs)
 map-map f g h e [] = refl
 map-map f g h e (x ∷ xs) = λ i. e x i ∷ map-map f g h e xs i
-
-map-append : {A B : Type 0} (f : A → B) (xs ys : List A) → map f (xs ++ ys) ≡ map f xs ++ map f ys
-map-append f [] ys = refl
-map-append f (x ∷ xs) ys = ap (λ l. f x ∷ l) (map-append f xs ys)
 
 flat-map : {A B : Type 0} (f : B → B) (g h : A → List B) → ((x : A) → h x ≡ map f (g x)) → (xs : List A) → flat_map h xs ≡ map f (flat_map g xs)
 flat-map f g h e [] = refl

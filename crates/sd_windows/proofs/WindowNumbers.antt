@@ -12,7 +12,7 @@ use Rattle.sd_windows.specs.Windows.{Window, moved, place_within, place_if, numb
 
 -- ---- indices
 
-inside-length : (extents : List ℕ) (index : List ℤ) → inside extents index ≡ true → length index ≡ length extents
+pub inside-length : (extents : List ℕ) (index : List ℤ) → inside extents index ≡ true → length index ≡ length extents
 inside-length [] [] h = refl
 inside-length [] (number ∷ index) h = cc
 inside-length (extent ∷ extents) [] h = cc
@@ -46,7 +46,7 @@ moved-one (s ∷ shift) (a ∷ i) (b ∷ j) p q e =
 
 -- ---- numbers
 
-abbrev or_zero : Option ℕ → ℕ
+abbrev pub or_zero : Option ℕ → ℕ
 or_zero None = 0
 or_zero (Some n) = n
 
@@ -54,15 +54,15 @@ same-number : (n : ℕ) → (n == n) ≡ true
 same-number n = search rules
 
 -- what a test that gave something was
-tested : (b : Bool) (o : Option ℕ) (k : ℕ) → (if b then o else None) ≡ Some k → (b ≡ true) × (o ≡ Some k)
+pub tested : (b : Bool) (o : Option ℕ) (k : ℕ) → (if b then o else None) ≡ Some k → (b ≡ true) × (o ≡ Some k)
 tested true o k e = (refl, e)
 tested false o k e = cc
 
-found_at : (o : Option (List ℤ)) (f : List ℤ → Option ℕ) (k : ℕ) → option_and_then f o ≡ Some k → (i : List ℤ) × (f i ≡ Some k)
+pub found_at : (o : Option (List ℤ)) (f : List ℤ → Option ℕ) (k : ℕ) → option_and_then f o ≡ Some k → (i : List ℤ) × (f i ≡ Some k)
 found_at None f k e = cc
 found_at (Some i) f k e = (i, e)
 
-equal : (a b : ℕ) → (a == b) ≡ true → a ≡ b
+pub equal : (a b : ℕ) → (a == b) ≡ true → a ≡ b
 equal a b e = search rules
 
 numbers-one : (extents : List ℕ) (w : Option Window) → HasDimensions extents w → (e f k : ℕ) → numbers_in extents w e ≡ Some k → numbers_in extents w f ≡ Some k → e ≡ f

@@ -1,0 +1,3 @@
+pub mod Windowed
+pub mod Cells
+pub mod Marked
