@@ -33,7 +33,7 @@ pub fn resolving_associates(resolution: Resolution, a: i64, b: i64, c: i64)
         ≡ resolved resolution a (resolved resolution b c) }
 {}
 
-/// An identity changes nothing.
+/// An identity of 64 bits changes nothing.
 pub fn an_identity_changes_nothing(resolution: Resolution, value: i64)
     ensures { IfSome (identity_of resolution Width.W64) (λ identity. resolved resolution identity value ≡ value) }
 {}
@@ -53,7 +53,7 @@ pub fn resolving_part_by_part(resolution: Resolution, old: i64)
         ≡ resolved_all resolution (resolved_all resolution old first) second }
 {}
 
-/// Partial results, which start at the identity, are resolved as all the values in them.
+/// Partial results, which start at the identity of 64 bits, are resolved as all the values in them.
 pub fn partial_results_merge(resolution: Resolution, old: i64)
     ensures one { (identity : ℤ) (values : List ℤ)
         → identity_of resolution Width.W64 ≡ Some identity → All (FitsSigned w64) values
