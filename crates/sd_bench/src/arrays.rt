@@ -1,5 +1,5 @@
 use indexmap::IndexMap;
-use sd_graph::{Bound, Container, ContainerKind, Sdfg};
+use sd_graph::{Bound, Container, ContainerKind, Sdfg, Width};
 use sd_json::{InputError, array_line, read_arrays};
 use sd_list::{NoMemory, Sequence};
 use sd_range::{Affine, Terms};
@@ -14,6 +14,7 @@ fn array_of(alloc: Global, count: u64) -> Result<Container, NoMemory> {
     Ok(Container {
         extents: Sequence::from(vec![in alloc; extent]?),
         kind: ContainerKind::Argument,
+        width: Width::W64,
     })
 }
 

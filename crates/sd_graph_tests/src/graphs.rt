@@ -1,7 +1,7 @@
 //! What adds to a graph, and copies of graphs.
 use crate::cases::EXAMPLE;
 use crate::written::read_graph;
-use sd_graph::{Container, ContainerKind, Sdfg, State};
+use sd_graph::{Container, ContainerKind, Sdfg, State, Width};
 use sd_list::{NoMemory, Sequence};
 use std::alloc::Global;
 use std::test::Fail;
@@ -14,9 +14,12 @@ fn push_stream(graph: &mut Sdfg, alloc: Global, name: &str) -> Result<Option<u32
     if graph.has_container(name) {
         return Ok(None);
     }
-    let extents = Sequence::new(alloc);
-    let kind = ContainerKind::Stream;
-    let number = graph.push_container(name.to_string(alloc)?, Container { extents, kind })?;
+    let stream = Container {
+        extents: Sequence::new(alloc),
+        kind: ContainerKind::Stream,
+        width: Width::W64,
+    };
+    let number = graph.push_container(name.to_string(alloc)?, stream)?;
     Ok(Some(number))
 }
 

@@ -15,7 +15,7 @@ mod links;
 use crate::written::items::{exit, leaf, scope};
 use crate::written::links::affines;
 use indexmap::IndexMap;
-use sd_graph::{Container, ContainerKind, Item, ItemKind, Sdfg, State};
+use sd_graph::{Container, ContainerKind, Item, ItemKind, Sdfg, State, Width};
 use std::alloc::Global;
 use std::test::Fail;
 
@@ -87,9 +87,13 @@ fn put_in_graph(alloc: Global, graph: &mut Sdfg, word: &str, rest: &str) -> Resu
     if kind == ContainerKind::Argument {
         graph.arguments = graph.arguments.saturating_add(1);
     }
-    let extents = affines(alloc, rest, ' ')?;
+    let container = Container {
+        extents: affines(alloc, rest, ' ')?,
+        kind,
+        width: Width::W64,
+    };
     let name = format!(in alloc; "{}", graph.containers.len())?;
-    graph.containers.insert(name, Container { extents, kind })?;
+    graph.containers.insert(name, container)?;
     Ok(())
 }
 

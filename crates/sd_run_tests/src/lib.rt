@@ -1,5 +1,5 @@
-//! Tests of what runs stand on, where no command shows it: the size of an instruction, flat code that reads an array, and the
-//! memories of a run. They are in a crate of their own so that the crates of runs are proved without them.
+//! Tests of what runs stand on, where no command shows it: the size of an instruction, flat code that reads an array, the
+//! memories of a run, and maps whose points are ordered. They are in a crate of their own so that the crates of runs are proved without them.
 #![tactic(auto)]
 
 #[cfg(test)]
@@ -8,5 +8,7 @@ mod flat_code;
 mod instructions;
 #[cfg(test)]
 mod machines;
+#[cfg(test)]
+mod neighbours;
 #[cfg(test)]
 mod sure;

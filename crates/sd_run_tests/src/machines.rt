@@ -1,7 +1,7 @@
 //! The memories of all that is running, and the turns that are left.
 use crate::sure::sure;
 use indexmap::IndexMap;
-use sd_graph::{Container, ContainerKind};
+use sd_graph::{Container, ContainerKind, Width};
 use sd_list::Sequence;
 use sd_mem::{Cell, Machine, Memory, Station};
 use sd_num::Resolution;
@@ -20,6 +20,7 @@ fn memory(rt: &impl Abort, alloc: Global, length: i128) -> Memory {
         let container = Container {
             extents: Sequence::from(extents),
             kind,
+            width: Width::W64,
         };
         let name = sure(rt, name.to_string(alloc));
         sure(rt, containers.insert(name, container));

@@ -57,6 +57,7 @@ pub(crate) fn scope(alloc: Global, word: &str, text: &str) -> Result<ItemKind, F
             params,
             private,
             body,
+            sequential: false,
         });
     }
     Ok(ItemKind::Consume {
