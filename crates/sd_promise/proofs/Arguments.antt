@@ -2,6 +2,7 @@
 use Rattle.std.proofs.Common.{◌≡◌, ◌∙◌, ℕ, zero, suc, ◌+◌, ℤ, List, [], ◌∷◌, ◌++◌, length, map, take, slice_index_or, false, refl, ap, sym, subst, arith, append_assoc, append-nil}
 use Rattle.std.specs.Prelude.{⊤}
 use Rattle.std.specs.List.{flat_map, range_with_len}
+use Rattle.sd_num.specs.declared.width.Width.TheVariants.{W64}
 use Rattle.sd_lex.specs.PlainTree.{argument_array, Block, no_statement, and_statement, FunctionTree}
 use Rattle.sd_work.specs.Memory.{Memory, elements_of, contents_of}
 use Rattle.sd_graph.specs.ContainerParts.{no_container, name_at, container_at, extents_of}
@@ -30,7 +31,7 @@ use Rattle.sd_promise.specs.Source.{argument_names, argument_lines}
 -- those that arguments make, where size symbols have these numbers
 abbrev pub made : Named ℕ → Block → Containers
 made known no_statement = []
-made known (and_statement (argument_array line name bits extents) rest) = (name, record { extents = affine.extents_of known extents; kind = Argument }) ∷ made known rest
+made known (and_statement (argument_array line name bits extents) rest) = (name, record { extents = affine.extents_of known extents; kind = Argument; width = W64 }) ∷ made known rest
 made known (and_statement statement rest) = made known rest
 
 pub made_names : (known : Named ℕ) (arguments : Block) → map (λ entry. entry.0) (made known arguments) ≡ argument_names arguments
@@ -48,7 +49,7 @@ made_first : (known : Named ℕ) (declared : List Name) (arguments : Block) (pla
     containers_with_all known declared arguments false before ≡ before ++ made known arguments
 made_first known declared no_statement place before around placed = sym (append-nil before)
 made_first known declared (and_statement (argument_array line name bits extents) rest) place before around placed =
-    let entry : Name × Container = (name, record { extents = affine.extents_of known extents; kind = Argument }) in
+    let entry : Name × Container = (name, record { extents = affine.extents_of known extents; kind = Argument; width = W64 }) in
     made_first known declared rest (past (argument_array line name bits extents) place) (before ++ entry ∷ []) around placed.1 ∙ append_assoc before (entry ∷ []) (made known rest)
 made_first known declared (and_statement statement rest) place before around placed =
     absurd (subst (λ kind. StandsIn kind statement) around (holds_here IsPlaced place statement placed.0))
@@ -103,7 +104,7 @@ module _ (named : Named ℤ) (all : Containers) (memory : Memory) where
   lines_tied no_statement number smooth stand = refl
   lines_tied (and_statement (argument_array line name bits extents) rest) number smooth stand =
       let elements : List ℤ = elements_of (contents_of 0 number (memory ∷ [])) in
-      let entry : Name × Container = (name, record { extents = affine.extents_of (numbered named) extents; kind = Argument }) in
+      let entry : Name × Container = (name, record { extents = affine.extents_of (numbered named) extents; kind = Argument; width = W64 }) in
       let found : slice_index_or sized number no_container ≡ bound_entry (values_of named) entry = at_sizes (values_of named) all number ∙ ap (bound_entry (values_of named)) stand.0 in
       let here = ap (λ (one : Name × Container). line_of one.0 (extents_of one.1) elements) found ∙ ap (λ extents. line_of name extents elements) (extents_said named extents smooth.0) in
       (λ i. here i ++ lines_tied rest (number + 1) smooth.1 stand.1 i)

@@ -1,6 +1,7 @@
 -- What the graph of a source looks for in an arrays file, begins with and prints is what the source does by itself.
 use Rattle.std.proofs.Common.{◌≡◌, ◌∙◌, ℕ, suc, ℤ, List, [], ◌∷◌, length, map, take, slice_index_or, refl, ap, sym, subst}
 use Rattle.std.specs.List.{flat_map, range_with_len}
+use Rattle.sd_num.specs.declared.width.Width.{Width}
 use Rattle.sd_lex.specs.PlainTree.{FunctionTree}
 use Rattle.sd_range.specs.declared.affine.Affine.{Affine}
 use Rattle.sd_graph.specs.PlainTree.{GraphTree}
@@ -56,19 +57,19 @@ names_latest symbols (function ∷ earlier) fine = names_tied symbols earlier (g
 
 -- ---- what it begins with
 
-held_same : (sizes : List ℤ) (extents : List Affine) (kind : ContainerKind) (given : List ℤ) →
-    opening_of (bound_container sizes (record { extents = extents; kind = kind })) given ≡ held_first (owner_of kind) (shape_of (bound_container sizes (record { extents = extents; kind = kind }))) given
-held_same sizes extents Argument given = refl
-held_same sizes extents Transient given = refl
-held_same sizes extents Private given = refl
-held_same sizes extents Stream given = refl
-held_same sizes extents PrivateStream given = refl
+held_same : (sizes : List ℤ) (extents : List Affine) (kind : ContainerKind) (width : Width) (given : List ℤ) →
+    opening_of (bound_container sizes (record { extents = extents; kind = kind; width = width })) given ≡ held_first (owner_of kind) (shape_of (bound_container sizes (record { extents = extents; kind = kind; width = width }))) given
+held_same sizes extents Argument width given = refl
+held_same sizes extents Transient width given = refl
+held_same sizes extents Private width given = refl
+held_same sizes extents Stream width given = refl
+held_same sizes extents PrivateStream width given = refl
 
 memory_same : (sizes : List ℤ) (given : List (List ℤ)) (number : ℕ) (containers : Containers) →
     opening_from given number (map (bound_entry sizes) containers) ≡ memory_from given number (map (declared_by sizes) containers)
 memory_same sizes given number [] = refl
 memory_same sizes given number (entry ∷ containers) =
-    (λ i. held_same sizes entry.1.extents entry.1.kind (slice_index_or given number []) i ∷ memory_same sizes given (suc number) containers i)
+    (λ i. held_same sizes entry.1.extents entry.1.kind entry.1.width (slice_index_or given number []) i ∷ memory_same sizes given (suc number) containers i)
 
 memory_tied : (named : Named ℤ) (earlier : List FunctionTree) (graphs : Name → GraphTree) (function : FunctionTree) → IsFitting earlier function → (given : List (List ℤ)) →
     opening_memory (bound_graph (values_of named) (function_graph (symbols_of named) graphs function)) given ≡ memory_from given 0 (declared_of named function)
