@@ -11,7 +11,7 @@ use Rattle.sd_work.specs.Residual.{Term, leaf, list, owning, nested, ended, pool
 use Rattle.sd_work.specs.Step.{Outcome, Done, Faulted, Spent, spend}
 use Rattle.sd_work.specs.BigStep.{Coming, reached, and_then, leaving, after_move, after_read, big_doing, big_evaluated, big_reading, big_leaf, after_exit, big_states, after_oldest, big_takes, big_step, big_parts, big_active}
 use Rattle.sd_pieces.specs.course.Reading.{Reading, reads_stream, AgreeOn, apply_all}
-use Rattle.sd_pieces.specs.course.Course.{Course, rests, fails_by, after, joined, and_on, paying, read_at, pending_reads, on_move, doing_course, evaluated_course, on_value, reading_course, leaf_course, outside, exits_read, on_exit, states_course, on_oldest, takes_course, course, parts_course, active_course, told_end, told}
+use Rattle.sd_pieces.specs.course.Course.{Course, rests, fails_by, after, and_rest, and_on, paying, read_at, pending_reads, on_move, doing_course, evaluated_course, on_value, reading_course, leaf_course, outside, exits_read, on_exit, states_course, on_oldest, takes_course, course, parts_course, active_course, told_end, told}
 use Rattle.sd_pieces.proofs.course_lemmas.Readings.{agree_on-apply, agree_on-apply_all, agree-first, agree-rest, apply_all-append, apply_all-outside, agree-inside, seen-agrees, waiting-agrees, exits-agree}
 
 -- ---- what work comes to
@@ -21,16 +21,16 @@ told-after : {P : Type 0} (rs : List Reading) (cs : List Change) (c : Course P) 
 told-after rs cs c s = ap (told_end c.end) (apply_all-append cs c.changes s)
 
 -- two courses, one after the other
-told-joined : {P : Type 0} (rs : List Reading) (cs : List Change) (end : Option (Outcome P ℕ)) (s : Memories) (g : Memories → ℕ → Course P) (G : Memories → ℕ → Coming P) →
-    ((s : Memories) (turns : ℕ) → G s turns ≡ told (g s turns) s) → and_then (told_end end (apply_all cs s)) G ≡ told (joined rs cs end (g (apply_all cs s))) s
-told-joined rs cs (Some (Done turns)) s g G h = h (apply_all cs s) turns ∙ sym (told-after rs cs (g (apply_all cs s) turns) s)
-told-joined rs cs (Some (Faulted fault)) s g G h = refl
-told-joined rs cs (Some Spent) s g G h = refl
-told-joined rs cs None s g G h = refl
+told-and_rest : {P : Type 0} (rs : List Reading) (cs : List Change) (end : Option (Outcome P ℕ)) (s : Memories) (g : Memories → ℕ → Course P) (G : Memories → ℕ → Coming P) →
+    ((s : Memories) (turns : ℕ) → G s turns ≡ told (g s turns) s) → and_then (told_end end (apply_all cs s)) G ≡ told (and_rest rs cs end (g (apply_all cs s))) s
+told-and_rest rs cs (Some (Done turns)) s g G h = h (apply_all cs s) turns ∙ sym (told-after rs cs (g (apply_all cs s) turns) s)
+told-and_rest rs cs (Some (Faulted fault)) s g G h = refl
+told-and_rest rs cs (Some Spent) s g G h = refl
+told-and_rest rs cs None s g G h = refl
 
 told-and_on : {P : Type 0} (F : Coming P) (c : Course P) (s : Memories) (g : Memories → ℕ → Course P) (G : Memories → ℕ → Coming P) → F ≡ told c s →
     ((s : Memories) (turns : ℕ) → G s turns ≡ told (g s turns) s) → and_then F G ≡ told (and_on c s g) s
-told-and_on F c s g G e h = ap (λ F. and_then F G) e ∙ told-joined c.readings c.changes c.end s g G h
+told-and_on F c s g G e h = ap (λ F. and_then F G) e ∙ told-and_rest c.readings c.changes c.end s g G h
 
 -- a turn spent before
 told-paying : {P : Type 0} (turn : Bool) (turns : ℕ) (s : Memories) (f : ℕ → Course P) (F : ℕ → Coming P) → ((turns : ℕ) → F turns ≡ told (f turns) s) →
@@ -140,25 +140,25 @@ mutual
 abbrev Depends : {P : Type 0} → (Memories → ℕ → Course P) → Type 0
 Depends f = (s s' : Memories) (turns : ℕ) → AgreeOn (f s turns).readings s s' → f s' turns ≡ f s turns
 
-joined-readings : {P : Type 0} (rs : List Reading) (cs : List Change) (end : Option (Outcome P ℕ)) (k : ℕ → Course P) (s s' : Memories) → AgreeOn (joined rs cs end k).readings s s' → AgreeOn rs s s'
-joined-readings rs cs (Some (Done turns)) k s s' h = agree-first rs _ s s' h
-joined-readings rs cs (Some (Faulted fault)) k s s' h = h
-joined-readings rs cs (Some Spent) k s s' h = h
-joined-readings rs cs None k s s' h = h
+and_rest-readings : {P : Type 0} (rs : List Reading) (cs : List Change) (end : Option (Outcome P ℕ)) (k : ℕ → Course P) (s s' : Memories) → AgreeOn (and_rest rs cs end k).readings s s' → AgreeOn rs s s'
+and_rest-readings rs cs (Some (Done turns)) k s s' h = agree-first rs _ s s' h
+and_rest-readings rs cs (Some (Faulted fault)) k s s' h = h
+and_rest-readings rs cs (Some Spent) k s s' h = h
+and_rest-readings rs cs None k s s' h = h
 
-joined-depends : {P : Type 0} (rs : List Reading) (cs : List Change) (end : Option (Outcome P ℕ)) (g : Memories → ℕ → Course P) → Depends g → (s s' : Memories) →
-    AgreeOn (joined rs cs end (g (apply_all cs s))).readings s s' → joined rs cs end (g (apply_all cs s')) ≡ joined rs cs end (g (apply_all cs s))
-joined-depends rs cs (Some (Done turns)) g d s s' h =
+and_rest-depends : {P : Type 0} (rs : List Reading) (cs : List Change) (end : Option (Outcome P ℕ)) (g : Memories → ℕ → Course P) → Depends g → (s s' : Memories) →
+    AgreeOn (and_rest rs cs end (g (apply_all cs s))).readings s s' → and_rest rs cs end (g (apply_all cs s')) ≡ and_rest rs cs end (g (apply_all cs s))
+and_rest-depends rs cs (Some (Done turns)) g d s s' h =
     ap (after rs cs) (d (apply_all cs s) (apply_all cs s') turns (agree_on-apply_all _ cs s s' (agree-rest rs _ s s' h)))
-joined-depends rs cs (Some (Faulted fault)) g d s s' h = refl
-joined-depends rs cs (Some Spent) g d s s' h = refl
-joined-depends rs cs None g d s s' h = refl
+and_rest-depends rs cs (Some (Faulted fault)) g d s s' h = refl
+and_rest-depends rs cs (Some Spent) g d s s' h = refl
+and_rest-depends rs cs None g d s s' h = refl
 
 and_on-depends : {P : Type 0} (f g : Memories → ℕ → Course P) → Depends f → Depends g → Depends (λ s turns. and_on (f s turns) s g)
 and_on-depends {P} f g d e s s' turns h =
     let c : Course P = f s turns in
-    ap (λ (c : Course P). and_on c s' g) (d s s' turns (joined-readings c.readings c.changes c.end _ s s' h))
-    ∙ joined-depends c.readings c.changes c.end g e s s' h
+    ap (λ (c : Course P). and_on c s' g) (d s s' turns (and_rest-readings c.readings c.changes c.end _ s s' h))
+    ∙ and_rest-depends c.readings c.changes c.end g e s s' h
 
 -- a turn spent before; what follows may see the memories
 paying-depends : {P : Type 0} (turn : Bool) (f : Memories → ℕ → Course P) → Depends f → Depends (λ s turns. paying turn turns (f s))

@@ -11,7 +11,7 @@ use Rattle.sd_work.specs.Exit.{Values, Exit, first_exit}
 use Rattle.sd_work.specs.Residual.{Term, leaf, list, owning, nested, ended, pool, Terms, none, also, Actives, idle, busy}
 use Rattle.sd_work.specs.Step.{Outcome, Done, Faulted, Spent}
 use Rattle.sd_pieces.specs.course.Reading.{Reading, reads_stream, apply_all}
-use Rattle.sd_pieces.specs.course.Course.{Course, comes_to, rests, fails_by, after, joined, and_on, paying, read_at, pending_reads, on_move, doing_course, evaluated_course, on_value, reading_course, leaf_course, outside, exits_read, on_exit, states_course, on_oldest, takes_course, course, parts_course, active_course, with_left}
+use Rattle.sd_pieces.specs.course.Course.{Course, comes_to, rests, fails_by, after, and_rest, and_on, paying, read_at, pending_reads, on_move, doing_course, evaluated_course, on_value, reading_course, leaf_course, outside, exits_read, on_exit, states_course, on_oldest, takes_course, course, parts_course, active_course, with_left}
 
 -- with so many turns left there is a number of turns that is wanted, whatever is left
 abbrev Exact : {P : Type 0} → (ℕ → Course P) → Type 0
@@ -57,7 +57,7 @@ and_on-exact {P} s f g d e n m h = on (f n).end refl h
     c : Course P
     c = f n
 
-    on : (end : Option (Outcome P ℕ)) → c.end ≡ end → (joined c.readings c.changes end (g (apply_all c.changes s))).end ≡ Some (Done m) →
+    on : (end : Option (Outcome P ℕ)) → c.end ≡ end → (and_rest c.readings c.changes end (g (apply_all c.changes s))).end ≡ Some (Done m) →
         (k : ℕ) × (n ≡ k + m) × ((j : ℕ) → and_on (f (k + j)) s g ≡ with_left (and_on c s g) j)
     on None q h = not_left _ h (λ x. x)
     on (Some (Faulted fault)) q h = not_left _ h (λ x. x)
@@ -71,7 +71,7 @@ and_on-exact {P} s f g d e n m h = on (f n).end refl h
               (let same : (r.0 + t.0) + j ≡ r.0 + (t.0 + j) = omega arith in ap (λ k. and_on (f k) s g) same)
               ∙ ap (λ (c : Course P). and_on c s g) (r.2 (t.0 + j))
               ∙ ap (after c.readings c.changes) (t.2 j)
-              ∙ sym (ap (λ end. with_left (joined c.readings c.changes end (g (apply_all c.changes s))) j) q),
+              ∙ sym (ap (λ end. with_left (and_rest c.readings c.changes end (g (apply_all c.changes s))) j) q),
         )
 
 outside-exact : {P : Type 0} (f : ℕ → Course P) → Exact f → Exact (λ n. outside (f n))

@@ -10,7 +10,7 @@ use Rattle.sd_work.specs.Exit.{Values, Exit, first_exit}
 use Rattle.sd_work.specs.Residual.{Term, leaf, list, owning, nested, ended, pool, Terms, none, also, Actives, idle, busy}
 use Rattle.sd_work.specs.Step.{Outcome, Done, Faulted, Spent}
 use Rattle.sd_pieces.specs.course.Reading.{Reading, reads_stream, apply_all}
-use Rattle.sd_pieces.specs.course.Course.{Course, rests, fails_by, after, joined, and_on, paying, read_at, pending_reads, on_move, doing_course, evaluated_course, on_value, reading_course, leaf_course, outside, exits_read, on_exit, states_course, on_oldest, takes_course, course, parts_course, active_course, with_more, spare, HasTurns}
+use Rattle.sd_pieces.specs.course.Course.{Course, rests, fails_by, after, and_rest, and_on, paying, read_at, pending_reads, on_move, doing_course, evaluated_course, on_value, reading_course, leaf_course, outside, exits_read, on_exit, states_course, on_oldest, takes_course, course, parts_course, active_course, with_more, spare, HasTurns}
 
 -- with more turns there is more left, where the turns were enough
 abbrev More : {P : Type 0} → (ℕ → Course P) → Type 0
@@ -30,24 +30,24 @@ paying-more true f d zero k h = elim h [ ]
 paying-more true f d (suc n) k h = let e : suc n + k ≡ suc (n + k) = omega arith in ap (λ m. paying true m f) e ∙ d n k h
 paying-more false f d n k h = d n k h
 
-joined-turns : {P : Type 0} (rs : List Reading) (cs : List Change) (end : Option (Outcome P ℕ)) (g : ℕ → Course P) → HasTurns (joined rs cs end g).end → HasTurns end
-joined-turns rs cs (Some (Done n)) g h = tt
-joined-turns rs cs (Some (Faulted fault)) g h = tt
-joined-turns rs cs (Some Spent) g h = h
-joined-turns rs cs None g h = tt
+and_rest-turns : {P : Type 0} (rs : List Reading) (cs : List Change) (end : Option (Outcome P ℕ)) (g : ℕ → Course P) → HasTurns (and_rest rs cs end g).end → HasTurns end
+and_rest-turns rs cs (Some (Done n)) g h = tt
+and_rest-turns rs cs (Some (Faulted fault)) g h = tt
+and_rest-turns rs cs (Some Spent) g h = h
+and_rest-turns rs cs None g h = tt
 
-joined-more : {P : Type 0} (rs : List Reading) (cs : List Change) (end : Option (Outcome P ℕ)) (g : ℕ → Course P) → More g → (k : ℕ) → HasTurns (joined rs cs end g).end →
-    joined rs cs (with_more k end) g ≡ spare k (joined rs cs end g)
-joined-more rs cs (Some (Done n)) g d k h = ap (after rs cs) (d n k h)
-joined-more rs cs (Some (Faulted fault)) g d k h = refl
-joined-more rs cs (Some Spent) g d k h = elim h [ ]
-joined-more rs cs None g d k h = refl
+and_rest-more : {P : Type 0} (rs : List Reading) (cs : List Change) (end : Option (Outcome P ℕ)) (g : ℕ → Course P) → More g → (k : ℕ) → HasTurns (and_rest rs cs end g).end →
+    and_rest rs cs (with_more k end) g ≡ spare k (and_rest rs cs end g)
+and_rest-more rs cs (Some (Done n)) g d k h = ap (after rs cs) (d n k h)
+and_rest-more rs cs (Some (Faulted fault)) g d k h = refl
+and_rest-more rs cs (Some Spent) g d k h = elim h [ ]
+and_rest-more rs cs None g d k h = refl
 
 and_on-more : {P : Type 0} (s : Memories) (f : ℕ → Course P) (g : Memories → ℕ → Course P) → More f → ((s : Memories) → More (g s)) → More (λ n. and_on (f n) s g)
 and_on-more {P} s f g d e n k h =
     let c : Course P = f n in
-    ap (λ (c : Course P). and_on c s g) (d n k (joined-turns c.readings c.changes c.end (g (apply_all c.changes s)) h))
-    ∙ joined-more c.readings c.changes c.end (g (apply_all c.changes s)) (e (apply_all c.changes s)) k h
+    ap (λ (c : Course P). and_on c s g) (d n k (and_rest-turns c.readings c.changes c.end (g (apply_all c.changes s)) h))
+    ∙ and_rest-more c.readings c.changes c.end (g (apply_all c.changes s)) (e (apply_all c.changes s)) k h
 
 outside-more : {P : Type 0} (f : ℕ → Course P) → More f → More (λ n. outside (f n))
 outside-more f d n k h = ap outside (d n k h)

@@ -6,7 +6,7 @@ use Rattle.sd_work.specs.Change.{Change, nothing, write, push, take, written, ch
 use Rattle.sd_num.specs.Wrapped.{wrapped}
 use Rattle.sd_work.specs.Move.{Fault}
 use Rattle.sd_work.specs.Exit.{Guard, Exit, with_value, all_seen, decided, passed, or_later, first_exit}
-use Rattle.sd_pieces.specs.course.Reading.{Reading, reads_element, reads_stream, container_at, values_if, element_at, stream_at, AgreeAt, AgreeOn, apply_all, outer_element, outer_stream, outer_readings}
+use Rattle.sd_pieces.specs.course.Reading.{Reading, reads_element, reads_stream, contents_found, values_if, element_found, stream_found, AgreeAt, AgreeOn, apply_all, outer_element, outer_stream, outer_readings}
 use Rattle.sd_pieces.specs.course.Course.{read_at, reads_up_to, guard_reads, unless_passed, exits_read}
 use Rattle.sd_work.proofs.Changes.{apply-own}
 
@@ -52,7 +52,7 @@ where-if_found f q g h None = refl
 where-if_found f q g h (Some x) = h x
 
 -- what a container holds after another one, or it, was changed
-pub container-changed : (l c m d : ℕ) (f : Contents → Contents) (s : Memories) → container_at l c (with_contents m d f s) ≡ if_found (at m l (at d c f)) (container_at l c s)
+pub container-changed : (l c m d : ℕ) (f : Contents → Contents) (s : Memories) → contents_found l c (with_contents m d f s) ≡ if_found (at m l (at d c f)) (contents_found l c s)
 container-changed l c m d f s =
     ap (λ o. option_and_then (λ memory. slice_get memory c) o) (found-changed_at m l (changed_at d f) s)
     ∙ where-if_found (at m l (changed_at d f)) (λ memory. slice_get memory c) (at m l (at d c f))
@@ -60,10 +60,10 @@ container-changed l c m d f s =
 
 -- what is found in a container after a change
 pub look_changed : {B : Type 0} (l c m d : ℕ) (f : Contents → Contents) (q : Contents → Option B) (g : B → B) → ((k : Contents) → q (f k) ≡ if_found g (q k)) → (s : Memories) →
-    option_and_then q (container_at l c (with_contents m d f s)) ≡ if_found (at m l (at d c g)) (option_and_then q (container_at l c s))
+    option_and_then q (contents_found l c (with_contents m d f s)) ≡ if_found (at m l (at d c g)) (option_and_then q (contents_found l c s))
 look_changed l c m d f q g h s =
     ap (λ o. option_and_then q o) (container-changed l c m d f s)
-    ∙ where-if_found (at m l (at d c f)) q (at m l (at d c g)) (where-at m l (at d c f) q (at d c g) (where-at d c f q g h)) (container_at l c s)
+    ∙ where-if_found (at m l (at d c f)) q (at m l (at d c g)) (where-at m l (at d c f) q (at d c g) (where-at d c f q g h)) (contents_found l c s)
 
 -- ---- agreement is kept
 
@@ -90,27 +90,27 @@ both_ways x x' y y' g a b e = a ∙ ap (if_found g) e ∙ sym b
 pub agree-apply : (r : Reading) (c : Change) (s s' : Memories) → AgreeAt r s s' → AgreeAt r (apply c s) (apply c s')
 agree-apply r nothing s s' h = h
 agree-apply (reads_element r) (write to by v) s s' h =
-    let step : (t : Memories) → element_at r (apply (write to by v) t) ≡ if_found (at to.level r.level (at to.container r.container (at to.element r.element (written by v)))) (element_at r t) =
+    let step : (t : Memories) → element_found r (apply (write to by v) t) ≡ if_found (at to.level r.level (at to.container r.container (at to.element r.element (written by v)))) (element_found r t) =
     look_changed r.level r.container to.level to.container _ (λ k. slice_get (elements_of k) r.element) (at to.element r.element (written by v)) (found_in r.element to.element (written by v)) in
     both_ways _ _ _ _ _ (step s) (step s') h
 agree-apply (reads_element r) (push m d v) s s' h =
-    let step : (t : Memories) → element_at r (apply (push m d v) t) ≡ if_found (at m r.level (at d r.container (λ x. x))) (element_at r t) =
+    let step : (t : Memories) → element_found r (apply (push m d v) t) ≡ if_found (at m r.level (at d r.container (λ x. x))) (element_found r t) =
     look_changed r.level r.container m d _ (λ k. slice_get (elements_of k) r.element) (λ x. x) (elements_same r.element _) in
     both_ways _ _ _ _ _ (step s) (step s') h
 agree-apply (reads_element r) (take m d p) s s' h =
-    let step : (t : Memories) → element_at r (apply (take m d p) t) ≡ if_found (at m r.level (at d r.container (λ x. x))) (element_at r t) =
+    let step : (t : Memories) → element_found r (apply (take m d p) t) ≡ if_found (at m r.level (at d r.container (λ x. x))) (element_found r t) =
     look_changed r.level r.container m d _ (λ k. slice_get (elements_of k) r.element) (λ x. x) (elements_same r.element _) in
     both_ways _ _ _ _ _ (step s) (step s') h
 agree-apply (reads_stream l c) (write to by v) s s' h =
-    let step : (t : Memories) → stream_at l c (apply (write to by v) t) ≡ if_found (at to.level l (at to.container c (λ x. x))) (stream_at l c t) =
+    let step : (t : Memories) → stream_found l c (apply (write to by v) t) ≡ if_found (at to.level l (at to.container c (λ x. x))) (stream_found l c t) =
     look_changed l c to.level to.container _ values_if (λ x. x) (values_same _) in
     both_ways _ _ _ _ _ (step s) (step s') h
 agree-apply (reads_stream l c) (push m d v) s s' h =
-    let step : (t : Memories) → stream_at l c (apply (push m d v) t) ≡ if_found (at m l (at d c (λ values. values ++ wrapped v ∷ []))) (stream_at l c t) =
+    let step : (t : Memories) → stream_found l c (apply (push m d v) t) ≡ if_found (at m l (at d c (λ values. values ++ wrapped v ∷ []))) (stream_found l c t) =
     look_changed l c m d _ values_if _ (values_changed _) in
     both_ways _ _ _ _ _ (step s) (step s') h
 agree-apply (reads_stream l c) (take m d p) s s' h =
-    let step : (t : Memories) → stream_at l c (apply (take m d p) t) ≡ if_found (at m l (at d c (without p))) (stream_at l c t) =
+    let step : (t : Memories) → stream_found l c (apply (take m d p) t) ≡ if_found (at m l (at d c (without p))) (stream_found l c t) =
     look_changed l c m d _ values_if _ (values_changed _) in
     both_ways _ _ _ _ _ (step s) (step s') h
 
@@ -172,11 +172,11 @@ index-found (x ∷ xs) zero d = refl
 index-found (x ∷ xs) (suc i) d = index-found xs i d
 
 -- the value of an element is what is found, or 0
-pub look-found : (r : Reference) (s : Memories) → look r s ≡ or_default (pos 0) (element_at r s)
+pub look-found : (r : Reference) (s : Memories) → look r s ≡ or_default (pos 0) (element_found r s)
 look-found r s =
     ap (λ memory. slice_index_or (elements_of (slice_index_or memory r.container (stream []))) r.element (pos 0)) (index-found s r.level [])
     ∙ ap (λ k. slice_index_or (elements_of k) r.element (pos 0)) (in_found (slice_get s r.level))
-    ∙ in_contents (container_at r.level r.container s)
+    ∙ in_contents (contents_found r.level r.container s)
   where
     in_contents : (o : Option Contents) → slice_index_or (elements_of (or_default (stream []) o)) r.element (pos 0) ≡ or_default (pos 0) (option_and_then (λ k. slice_get (elements_of k) r.element) o)
     in_contents None = refl
@@ -186,11 +186,11 @@ look-found r s =
     in_found None = refl
     in_found (Some memory) = index-found memory r.container (stream [])
 
-pub waiting-found : (l c : ℕ) (s : Memories) → waiting l c s ≡ or_default [] (stream_at l c s)
+pub waiting-found : (l c : ℕ) (s : Memories) → waiting l c s ≡ or_default [] (stream_found l c s)
 waiting-found l c s =
     ap (λ memory. values_of (slice_index_or memory c (stream []))) (index-found s l [])
     ∙ ap values_of (in_found (slice_get s l))
-    ∙ in_contents (container_at l c s)
+    ∙ in_contents (contents_found l c s)
   where
     in_contents : (o : Option Contents) → values_of (or_default (stream []) o) ≡ or_default [] (option_and_then values_if o)
     in_contents None = refl

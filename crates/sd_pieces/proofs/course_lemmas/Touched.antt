@@ -14,7 +14,7 @@ use Rattle.sd_work.specs.Residual.{Term, leaf, list, owning, nested, ended, pool
 use Rattle.sd_work.specs.Step.{Outcome, Done, Faulted, Spent}
 use Rattle.sd_work.specs.Touch.{Touch, reads, writes, pushes, takes, IsRead, IsWrite, SomeRead, SomePendingTouches, GuardTouches, inner, LeafTouches, SomeExitTouches, Touches, SomePartTouches, SomeActiveTouches}
 use Rattle.sd_pieces.specs.course.Reading.{Reading, reads_element, reads_stream, apply_all, outer_element, outer_readings}
-use Rattle.sd_pieces.specs.course.Course.{Course, fails_by, after, joined, and_on, paying, read_at, on_move, doing_course, evaluated_course, on_value, reading_course, leaf_course, outside, reads_up_to, guard_reads, unless_passed, exits_read, on_exit, states_course, on_oldest, takes_course, course, parts_course, active_course}
+use Rattle.sd_pieces.specs.course.Course.{Course, fails_by, after, and_rest, and_on, paying, read_at, on_move, doing_course, evaluated_course, on_value, reading_course, leaf_course, outside, reads_up_to, guard_reads, unless_passed, exits_read, on_exit, states_course, on_oldest, takes_course, course, parts_course, active_course}
 use Rattle.sd_pieces.specs.course.Touched.{IsChangeBy, AreChangesBy, AreReadingsBy, IsCourseBy}
 
 -- ---- lists of both
@@ -28,15 +28,15 @@ all-append P (x ∷ xs) ys h k = (h.0, all-append P xs ys h.1 k)
 after-by : {P : Type 0} (By : Touch → Type 0) (rs : List Reading) (cs : List Change) (c : Course P) → AreReadingsBy By rs → AreChangesBy By cs → IsCourseBy By c → IsCourseBy By (after rs cs c)
 after-by By rs cs c h k e = (all-append _ rs c.readings h e.0, all-append _ cs c.changes k e.1)
 
-joined-by : {P : Type 0} (By : Touch → Type 0) (rs : List Reading) (cs : List Change) (end : Option (Outcome P ℕ)) (k : ℕ → Course P) →
-    AreReadingsBy By rs → AreChangesBy By cs → ((n : ℕ) → IsCourseBy By (k n)) → IsCourseBy By (joined rs cs end k)
-joined-by By rs cs (Some (Done n)) k h j e = after-by By rs cs (k n) h j (e n)
-joined-by By rs cs (Some (Faulted fault)) k h j e = (h, j)
-joined-by By rs cs (Some Spent) k h j e = (h, j)
-joined-by By rs cs None k h j e = (h, j)
+and_rest-by : {P : Type 0} (By : Touch → Type 0) (rs : List Reading) (cs : List Change) (end : Option (Outcome P ℕ)) (k : ℕ → Course P) →
+    AreReadingsBy By rs → AreChangesBy By cs → ((n : ℕ) → IsCourseBy By (k n)) → IsCourseBy By (and_rest rs cs end k)
+and_rest-by By rs cs (Some (Done n)) k h j e = after-by By rs cs (k n) h j (e n)
+and_rest-by By rs cs (Some (Faulted fault)) k h j e = (h, j)
+and_rest-by By rs cs (Some Spent) k h j e = (h, j)
+and_rest-by By rs cs None k h j e = (h, j)
 
 and_on-by : {P : Type 0} (By : Touch → Type 0) (c : Course P) (s : Memories) (g : Memories → ℕ → Course P) → IsCourseBy By c → ((s : Memories) (n : ℕ) → IsCourseBy By (g s n)) → IsCourseBy By (and_on c s g)
-and_on-by By c s g h k = joined-by By c.readings c.changes c.end (g (apply_all c.changes s)) h.0 h.1 (k (apply_all c.changes s))
+and_on-by By c s g h k = and_rest-by By c.readings c.changes c.end (g (apply_all c.changes s)) h.0 h.1 (k (apply_all c.changes s))
 
 paying-by : {P : Type 0} (By : Touch → Type 0) (turn : Bool) (n : ℕ) (f : ℕ → Course P) → ((n : ℕ) → IsCourseBy By (f n)) → IsCourseBy By (paying turn n f)
 paying-by By true zero f h = (tt, tt)

@@ -9,7 +9,7 @@ use Rattle.std.proofs.lemmas.Int.{SFits-int_wrap, int_wrap_fits}
 use Rattle.sd_work.proofs.Changes.{FitsSigned-written}
 use Rattle.sd_work.specs.Memory.{Memories, Reference, elements_of}
 use Rattle.sd_work.specs.Change.{Change, nothing, write, push, take, written, without, apply}
-use Rattle.sd_pieces.specs.course.Reading.{values_if, element_at, stream_at, apply_all}
+use Rattle.sd_pieces.specs.course.Reading.{values_if, element_found, stream_found, apply_all}
 use Rattle.sd_pieces.specs.course.Touched.{IsChangeBy, AreChangesBy}
 use Rattle.sd_pieces.proofs.course_lemmas.Readings.{at, if_found, unchanged, look_changed, found_in, elements_same, values_same, values_changed}
 use Rattle.sd_work.specs.Touch.{Touch, writes}
@@ -31,7 +31,7 @@ effects_on l c e [] x = x
 effects_on l c e (change ∷ changes) x = effects_on l c e changes (effect_on l c e change x)
 
 element-changed : (l c e : ℕ) (change : Change) (s : Memories) →
-    element_at (record { level = l; container = c; element = e }) (apply change s) ≡ if_found (effect_on l c e change) (element_at (record { level = l; container = c; element = e }) s)
+    element_found (record { level = l; container = c; element = e }) (apply change s) ≡ if_found (effect_on l c e change) (element_found (record { level = l; container = c; element = e }) s)
 element-changed l c e nothing s = unchanged (λ x. x) (λ x. refl) _
 element-changed l c e (write to by v) s = look_changed l c to.level to.container _ (λ k. slice_get (elements_of k) e) (at to.element e (written by v)) (found_in e to.element (written by v)) s
 element-changed l c e (push m d v) s = look_changed l c m d _ (λ k. slice_get (elements_of k) e) (λ x. x) (elements_same e _) s
@@ -42,7 +42,7 @@ twice f g None = refl
 twice f g (Some x) = refl
 
 pub element-after : (l c e : ℕ) (changes : List Change) (s : Memories) →
-    element_at (record { level = l; container = c; element = e }) (apply_all changes s) ≡ if_found (effects_on l c e changes) (element_at (record { level = l; container = c; element = e }) s)
+    element_found (record { level = l; container = c; element = e }) (apply_all changes s) ≡ if_found (effects_on l c e changes) (element_found (record { level = l; container = c; element = e }) s)
 element-after l c e [] s = unchanged (λ x. x) (λ x. refl) _
 element-after l c e (change ∷ changes) s =
     element-after l c e changes (apply change s) ∙ ap (if_found (effects_on l c e changes)) (element-changed l c e change s) ∙ twice (effects_on l c e changes) (effect_on l c e change) _
@@ -201,16 +201,16 @@ abbrev pub stream_effects : (l c : ℕ) → List Change → List ℤ → List �
 stream_effects l c [] xs = xs
 stream_effects l c (change ∷ changes) xs = stream_effects l c changes (stream_effect l c change xs)
 
-stream-changed : (l c : ℕ) (change : Change) (s : Memories) → stream_at l c (apply change s) ≡ if_found (stream_effect l c change) (stream_at l c s)
-stream-changed l c nothing s = unchanged (λ x. x) (λ x. refl) (stream_at l c s)
+stream-changed : (l c : ℕ) (change : Change) (s : Memories) → stream_found l c (apply change s) ≡ if_found (stream_effect l c change) (stream_found l c s)
+stream-changed l c nothing s = unchanged (λ x. x) (λ x. refl) (stream_found l c s)
 stream-changed l c (write to by v) s = look_changed l c to.level to.container _ values_if (λ x. x) (values_same _) s
 stream-changed l c (push m d v) s = look_changed l c m d _ values_if _ (values_changed _) s
 stream-changed l c (take m d p) s = look_changed l c m d _ values_if _ (values_changed _) s
 
-pub stream-after : (l c : ℕ) (changes : List Change) (s : Memories) → stream_at l c (apply_all changes s) ≡ if_found (stream_effects l c changes) (stream_at l c s)
-stream-after l c [] s = unchanged (λ x. x) (λ x. refl) (stream_at l c s)
+pub stream-after : (l c : ℕ) (changes : List Change) (s : Memories) → stream_found l c (apply_all changes s) ≡ if_found (stream_effects l c changes) (stream_found l c s)
+stream-after l c [] s = unchanged (λ x. x) (λ x. refl) (stream_found l c s)
 stream-after l c (change ∷ changes) s =
-    stream-after l c changes (apply change s) ∙ ap (if_found (stream_effects l c changes)) (stream-changed l c change s) ∙ twice (stream_effects l c changes) (stream_effect l c change) (stream_at l c s)
+    stream-after l c changes (apply change s) ∙ ap (if_found (stream_effects l c changes)) (stream-changed l c change s) ∙ twice (stream_effects l c changes) (stream_effect l c change) (stream_found l c s)
 
 abbrev IsStreamMark : StreamMark → StreamMark → Type 0
 IsStreamMark unused unused = ⊤

@@ -6,7 +6,7 @@ use Rattle.sd_num.specs.Wrapped.{wrapped}
 use Rattle.sd_num.specs.declared.resolution.Resolution.{Resolution}
 use Rattle.sd_work.specs.Memory.{Contents, array, stream, Memory, Memories, elements_of, look, waiting}
 use Rattle.sd_work.specs.Change.{write, push, take, written, changed_at, without, with_elements, with_values, with_contents, apply}
-use Rattle.sd_pieces.specs.course.Reading.{container_at, values_if}
+use Rattle.sd_pieces.specs.course.Reading.{contents_found, values_if}
 use Rattle.sd_pieces.proofs.course_lemmas.Readings.{at, if_found, or_default, found-changed_at, container-changed, look-found, waiting-found}
 use Rattle.sd_pieces.specs.cut.Naming.{Naming, IsOneToOne, names_at, AreContentsNamed, AreFoundNamed, AreMemoriesNamed}
 
@@ -74,13 +74,13 @@ found-both names f g h (Some a) (Some b) r = h a b r
 contents-named : (naming : Naming) (d m k : ℕ) (f g : Contents → Contents) → ((a b : Contents) → AreContentsNamed (names_at naming d m k) a b → AreContentsNamed (names_at naming d m k) (f a) (g b)) →
     (s t : Memories) → AreMemoriesNamed naming d s t → AreMemoriesNamed naming d (with_contents m k f s) (with_contents m k g t)
 contents-named naming d m k f g h s t r l c =
-    subst (λ o. AreFoundNamed (names_at naming d l c) o (container_at l c (with_contents m k g t))) (sym (container-changed l c m k f s))
-    (subst (λ p. AreFoundNamed (names_at naming d l c) (if_found (at m l (at k c f)) (container_at l c s)) p) (sym (container-changed l c m k g t))
+    subst (λ o. AreFoundNamed (names_at naming d l c) o (contents_found l c (with_contents m k g t))) (sym (container-changed l c m k f s))
+    (subst (λ p. AreFoundNamed (names_at naming d l c) (if_found (at m l (at k c f)) (contents_found l c s)) p) (sym (container-changed l c m k g t))
     (found-both (names_at naming d l c) (at m l (at k c f)) (at m l (at k c g))
     (at-both m l (at k c f) (at k c g) (AreContentsNamed (names_at naming d l c)) (λ e. at-both k c f g (AreContentsNamed (names_at naming d l c)) (λ q.
     subst (λ c. (a b : Contents) → AreContentsNamed (names_at naming d l c) a b → AreContentsNamed (names_at naming d l c) (f a) (g b)) q
     (subst (λ l. (a b : Contents) → AreContentsNamed (names_at naming d l k) a b → AreContentsNamed (names_at naming d l k) (f a) (g b)) e h))))
-    (container_at l c s) (container_at l c t) (r l c)))
+    (contents_found l c s) (contents_found l c t) (r l c)))
 
 -- an element changed in both
 elements-named : (names : ℕ → Option ℕ) → ((e f k : ℕ) → names e ≡ Some k → names f ≡ Some k → e ≡ f) → (e k : ℕ) → names e ≡ Some k → (change : ℤ → ℤ) →
@@ -147,12 +147,12 @@ pub look-named : (naming : Naming) (d l c e k : ℕ) (s t : Memories) → names_
     look (record { level = l; container = c; element = e }) s ≡ look (record { level = l; container = c; element = k }) t
 look-named naming d l c e k s t p r =
     look-found (record { level = l; container = c; element = e }) s
-    ∙ ap (or_default (pos 0)) (element-named (names_at naming d l c) e k p (container_at l c s) (container_at l c t) (r l c))
+    ∙ ap (or_default (pos 0)) (element-named (names_at naming d l c) e k p (contents_found l c s) (contents_found l c t) (r l c))
     ∙ sym (look-found (record { level = l; container = c; element = k }) t)
 
 pub waiting-named : (naming : Naming) (d l c : ℕ) (s t : Memories) → AreMemoriesNamed naming d s t → waiting l c s ≡ waiting l c t
 waiting-named naming d l c s t r =
-    waiting-found l c s ∙ ap (or_default []) (stream-named (names_at naming d l c) (container_at l c s) (container_at l c t) (r l c)) ∙ sym (waiting-found l c t)
+    waiting-found l c s ∙ ap (or_default []) (stream-named (names_at naming d l c) (contents_found l c s) (contents_found l c t) (r l c)) ∙ sym (waiting-found l c t)
 
 -- ---- owners
 
@@ -165,11 +165,11 @@ pub inside-named : (naming : Naming) (d : ℕ) (own : Memory) (s t : Memories) �
 inside-named naming d own s t r zero c = itself-named (slice_get own c)
 inside-named naming d own s t r (suc l) c = r l c
 
-dropped : (l c : ℕ) (s : Memories) → container_at l c (drop 1 s) ≡ container_at (suc l) c s
+dropped : (l c : ℕ) (s : Memories) → contents_found l c (drop 1 s) ≡ contents_found (suc l) c s
 dropped l c [] = refl
 dropped l c (own ∷ s) = refl
 
 pub outside-named : (naming : Naming) (d : ℕ) (s t : Memories) → AreMemoriesNamed naming (suc d) s t → AreMemoriesNamed naming d (drop 1 s) (drop 1 t)
 outside-named naming d s t r l c =
-    subst (λ o. AreFoundNamed (names_at naming d l c) o (container_at l c (drop 1 t))) (sym (dropped l c s))
-    (subst (λ p. AreFoundNamed (names_at naming d l c) (container_at (suc l) c s) p) (sym (dropped l c t)) (r (suc l) c))
+    subst (λ o. AreFoundNamed (names_at naming d l c) o (contents_found l c (drop 1 t))) (sym (dropped l c s))
+    (subst (λ p. AreFoundNamed (names_at naming d l c) (contents_found (suc l) c s) p) (sym (dropped l c t)) (r (suc l) c))

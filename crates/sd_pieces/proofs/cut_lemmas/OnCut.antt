@@ -8,7 +8,7 @@ use Rattle.sd_work.specs.Residual.{Term}
 use Rattle.sd_work.specs.Step.{Outcome, Done, Faulted, Spent}
 use Rattle.sd_work.specs.BigStep.{Coming, reached, big_step}
 use Rattle.sd_work.specs.Touch.{Touch, takes, Touches}
-use Rattle.sd_pieces.specs.course.Reading.{Reading, reads_element, reads_stream, container_at, element_at, stream_at, AgreeOn, apply_all}
+use Rattle.sd_pieces.specs.course.Reading.{Reading, reads_element, reads_stream, contents_found, element_found, stream_found, AgreeOn, apply_all}
 use Rattle.sd_pieces.specs.course.Course.{Course, course, told_end, told}
 use Rattle.sd_pieces.specs.course.Touched.{AreChangesBy, AreReadingsBy, IsCourseBy}
 use Rattle.sd_pieces.proofs.course_lemmas.Readings.{if_found, unchanged}
@@ -23,12 +23,12 @@ use Rattle.sd_pieces.proofs.cut_lemmas.Merging.{effects_on, stream_effects, elem
 -- ---- agreement on what is read
 
 element-agrees : (marking : Marking) (s t : Memories) → IsPrepared marking s t → (l c e : ℕ) → (l ≡ 0) × (marking.element c e ≡ kept) →
-    element_at (record { level = l; container = c; element = e }) s ≡ element_at (record { level = l; container = c; element = e }) t
+    element_found (record { level = l; container = c; element = e }) s ≡ element_found (record { level = l; container = c; element = e }) t
 element-agrees marking s t p l c e h =
-    subst (λ l. element_at (record { level = l; container = c; element = e }) s ≡ element_at (record { level = l; container = c; element = e }) t) (sym h.0) (p.kept_so c e h.1)
+    subst (λ l. element_found (record { level = l; container = c; element = e }) s ≡ element_found (record { level = l; container = c; element = e }) t) (sym h.0) (p.kept_so c e h.1)
 
-stream-agrees : (marking : Marking) (s t : Memories) → IsPrepared marking s t → (l c : ℕ) → IsMarked marking (takes l c) → stream_at l c s ≡ stream_at l c t
-stream-agrees marking s t p l c h = subst (λ l. stream_at l c s ≡ stream_at l c t) (sym h.0) (p.drained_so c h.1)
+stream-agrees : (marking : Marking) (s t : Memories) → IsPrepared marking s t → (l c : ℕ) → IsMarked marking (takes l c) → stream_found l c s ≡ stream_found l c t
+stream-agrees marking s t p l c h = subst (λ l. stream_found l c s ≡ stream_found l c t) (sym h.0) (p.drained_so c h.1)
 
 readings-agree : (marking : Marking) (s t : Memories) → IsPrepared marking s t → (rs : List Reading) → AreReadingsBy (IsMarked marking) rs → AgreeOn rs s t
 readings-agree marking s t p [] h = tt
@@ -48,20 +48,20 @@ append-nothing (x ∷ xs) = ap (λ l. x ∷ l) (append-nothing xs)
 merged : (naming : Naming) (marking : Marking) (s t others : Memories) (changes : List Change) → IsPrepared marking s t → AreChangesBy (IsMarked marking) changes → AreChangesBy (IsTouchNamed naming 0) changes →
     AreMemoriesNamed naming 0 (apply_all changes s) others → IsMerged naming marking others t (apply_all changes t)
 merged naming marking s t others changes p h o n = record {
-  untouched_so = λ c e m. element-after 0 c e changes t ∙ sym (unchanged (effects_on 0 c e changes) (untouched-after marking c e changes h m) (element_at (outermost c e) t));
-  unused_so = λ c m. stream-after 0 c changes t ∙ sym (unchanged (stream_effects 0 c changes) (unused-after marking c changes h m) (stream_at 0 c t));
-  unnumbered_so = λ c e m. element-after 0 c e changes t ∙ sym (unchanged (effects_on 0 c e changes) (unnumbered-after naming c e changes o m) (element_at (outermost c e) t));
+  untouched_so = λ c e m. element-after 0 c e changes t ∙ sym (unchanged (effects_on 0 c e changes) (untouched-after marking c e changes h m) (element_found (outermost c e) t));
+  unused_so = λ c m. stream-after 0 c changes t ∙ sym (unchanged (stream_effects 0 c changes) (unused-after marking c changes h m) (stream_found 0 c t));
+  unnumbered_so = λ c e m. element-after 0 c e changes t ∙ sym (unchanged (effects_on 0 c e changes) (unnumbered-after naming c e changes o m) (element_found (outermost c e) t));
   kept_so = λ c e k m q.
       element-after 0 c e changes t ∙ ap (if_found (effects_on 0 c e changes)) (sym (p.kept_so c e m)) ∙ sym (element-after 0 c e changes s)
-      ∙ element-named (naming c) e k q (container_at 0 c (apply_all changes s)) (container_at 0 c others) (n 0 c);
+      ∙ element-named (naming c) e k q (contents_found 0 c (apply_all changes s)) (contents_found 0 c others) (n 0 c);
   drained_so = λ c m.
       stream-after 0 c changes t ∙ ap (if_found (stream_effects 0 c changes)) (sym (p.drained_so c m)) ∙ sym (stream-after 0 c changes s)
-      ∙ stream-named (naming c) (container_at 0 c (apply_all changes s)) (container_at 0 c others) (n 0 c);
+      ∙ stream-named (naming c) (contents_found 0 c (apply_all changes s)) (contents_found 0 c others) (n 0 c);
   gathered_so = λ c e k r old value m q fits before left.
       let i = p.gathered_so c e r m in
       let fit = FitsSigned-identity r i.0 i.1 in
       let is_value : effects_on 0 c e changes i.0 ≡ value =
-      ap (value_or i.0) (sym (element-after 0 c e changes s ∙ ap (if_found (effects_on 0 c e changes)) i.2) ∙ element-named (naming c) e k q (container_at 0 c (apply_all changes s)) (container_at 0 c others) (n 0 c) ∙ left) in
+      ap (value_or i.0) (sym (element-after 0 c e changes s ∙ ap (if_found (effects_on 0 c e changes)) i.2) ∙ element-named (naming c) e k q (contents_found 0 c (apply_all changes s)) (contents_found 0 c others) (n 0 c) ∙ left) in
       element-after 0 c e changes t ∙ ap (if_found (effects_on 0 c e changes)) before
       ∙ ap Some (
       ap (effects_on 0 c e changes) (sym (resolved-identity r i.0 old i.1 fits))
@@ -70,7 +70,7 @@ merged naming marking s t others changes p h o n = record {
       );
   appended_so = λ c values os m before left.
       let is_others : stream_effects 0 c changes [] ≡ os =
-      ap (value_or []) (sym (stream-after 0 c changes s ∙ ap (if_found (stream_effects 0 c changes)) (p.appended_so c m)) ∙ stream-named (naming c) (container_at 0 c (apply_all changes s)) (container_at 0 c others) (n 0 c) ∙ left) in
+      ap (value_or []) (sym (stream-after 0 c changes s ∙ ap (if_found (stream_effects 0 c changes)) (p.appended_so c m)) ∙ stream-named (naming c) (contents_found 0 c (apply_all changes s)) (contents_found 0 c others) (n 0 c) ∙ left) in
       stream-after 0 c changes t ∙ ap (if_found (stream_effects 0 c changes)) before
       ∙ ap Some (
       ap (stream_effects 0 c changes) (sym (append-nothing values))

@@ -12,7 +12,7 @@ use Rattle.sd_work.specs.BigStep.{reached, big_step}
 use Rattle.sd_work.specs.Touch.{Touch, reads, writes, Touches}
 use Rattle.sd_work.proofs.examples.ExampleParts.{cell, value_of, task}
 use Rattle.sd_confluence.proofs.examples.TouchExamples.{at, task_does}
-use Rattle.sd_pieces.specs.course.Reading.{element_at}
+use Rattle.sd_pieces.specs.course.Reading.{element_found}
 use Rattle.sd_pieces.specs.cut.Naming.{Naming, IsOneToOne, term_named, IsTouchNamed, AreMemoriesNamed}
 use Rattle.sd_pieces.specs.cut.Merged.{Mark, untouched, kept, gathered, unused, Marking, outermost, IsMarked, IsPrepared, MergesTo}
 use Rattle.sd_pieces.proofs.cut_lemmas.OnCut.{on-cut}
@@ -95,7 +95,7 @@ touches_are_marked touch h = on (touches touch h)
 it_is_prepared : IsPrepared marking prepared opening
 it_is_prepared = record { kept_so = kept_ones; drained_so = λ container e. cc; gathered_so = gathered_ones; appended_so = λ container e. cc }
   where
-    kept_ones : (container element : ℕ) → marks container element ≡ kept → element_at (outermost container element) prepared ≡ element_at (outermost container element) opening
+    kept_ones : (container element : ℕ) → marks container element ≡ kept → element_found (outermost container element) prepared ≡ element_found (outermost container element) opening
     kept_ones zero zero e = refl
     kept_ones zero (suc zero) e = refl
     kept_ones zero (suc (suc zero)) e = cc
@@ -104,7 +104,7 @@ it_is_prepared = record { kept_so = kept_ones; drained_so = λ container e. cc; 
     kept_ones (suc container) element e = refl
 
     gathered_ones : (container element : ℕ) (by : Resolution) → marks container element ≡ gathered by →
-        (identity : ℤ) × (identity_of by W64 ≡ Some identity) × (element_at (outermost container element) prepared ≡ Some identity)
+        (identity : ℤ) × (identity_of by W64 ≡ Some identity) × (element_found (outermost container element) prepared ≡ Some identity)
     gathered_ones zero zero by e = cc
     gathered_ones zero (suc zero) by e = cc
     gathered_ones zero (suc (suc zero)) by e = let same : Sum ≡ by = cc in (pos 0, subst (λ r. identity_of r W64 ≡ Some (pos 0)) same refl, refl)

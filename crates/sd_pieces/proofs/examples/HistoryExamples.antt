@@ -13,7 +13,7 @@ use Rattle.sd_confluence.specs.Safe.{TouchCompatibly, TakesNothingOutside, ArePa
 use Rattle.sd_confluence.specs.Alike.{AreAlike}
 use Rattle.sd_confluence.proofs.examples.TouchExamples.{at, replaces, replacements_of_two_elements_do_not_conflict}
 use Rattle.sd_pieces.specs.history.Pieces.{Piece, Work, IsCut, no_items, as_it_is, in_pieces, graph_of_items}
-use Rattle.sd_pieces.specs.history.History.{stands_in, MayFollow, History, nothing_done, and_piece, HasAll}
+use Rattle.sd_pieces.specs.history.History.{is_in_history, MayFollow, History, nothing_done, and_piece, HasAll}
 use Rattle.sd_pieces.proofs.history_lemmas.Cutting.{history-sequential}
 
 abbrev first_point : Term ℕ
@@ -71,7 +71,7 @@ first_may_follow = record { is_piece = refl; is_new = refl; is_ready = λ other 
 behind_may_follow : MayFollow work (1 ∷ 0 ∷ []) 2 (record { item = 1; term = behind })
 behind_may_follow = record { is_piece = refl; is_new = refl; is_ready = ready }
   where
-    ready : (other : ℕ) (earlier : Piece ℕ) → slice_get work.pieces other ≡ Some earlier → in_turn earlier.item 1 ≡ true → stands_in other (1 ∷ 0 ∷ []) ≡ true
+    ready : (other : ℕ) (earlier : Piece ℕ) → slice_get work.pieces other ≡ Some earlier → in_turn earlier.item 1 ≡ true → is_in_history other (1 ∷ 0 ∷ []) ≡ true
     ready zero earlier found e = refl
     ready (suc zero) earlier found e = refl
     ready (suc (suc zero)) earlier found e = let same : 1 ≡ earlier.item = cc in absurd (grind (arith, e, same))

@@ -22,7 +22,7 @@ use Rattle.sd_confluence.proofs.runs.Nearer.{sound-of, settled-sound, sound-sett
 use Rattle.sd_confluence.proofs.runs.Reaching.{left_of, reaches-run}
 use Rattle.sd_pieces.proofs.history_lemmas.AnyPicks.{ends-by-any-picks}
 use Rattle.sd_pieces.specs.history.Pieces.{Piece, Work, terms_of, before_if, piece_before, graph_of_pieces}
-use Rattle.sd_pieces.specs.history.History.{stands_in, MayFollow, History, nothing_done, and_piece, HasAll}
+use Rattle.sd_pieces.specs.history.History.{is_in_history, MayFollow, History, nothing_done, and_piece, HasAll}
 use Rattle.sd_pieces.proofs.history_lemmas.Ways.{Goes, stays, moves, goes-then, plus, count_works, MayGo, group-goes, IsOwner, owner-goes}
 use Rattle.sd_pieces.proofs.history_lemmas.Doing.{term-goes}
 use Rattle.sd_pieces.proofs.history_lemmas.Follows.{big-more}
@@ -103,8 +103,8 @@ all_by (and_work t ws) h = both_true (is_over t) _ (h 0) (all_by ws (λ j. h (su
 
 -- pieces in the history are over, the others as they were
 record After {P : Type 0} (work : Work P) (history : List ℕ) (ws : Works P) : Type 0 where
-  pub finished : (k : ℕ) (p : Piece P) → slice_get work.pieces k ≡ Some p → stands_in k history ≡ true → OverIf (nth ws k)
-  pub others : (k : ℕ) (p : Piece P) → slice_get work.pieces k ≡ Some p → stands_in k history ≡ false → nth ws k ≡ Some (work_of p.term)
+  pub finished : (k : ℕ) (p : Piece P) → slice_get work.pieces k ≡ Some p → is_in_history k history ≡ true → OverIf (nth ws k)
+  pub others : (k : ℕ) (p : Piece P) → slice_get work.pieces k ≡ Some p → is_in_history k history ≡ false → nth ws k ≡ Some (work_of p.term)
   pub no_more : (k : ℕ) → slice_get work.pieces k ≡ None → nth ws k ≡ None
 
 at_first : {P : Type 0} (ps : List (Piece P)) (k : ℕ) (p : Piece P) → slice_get ps k ≡ Some p → nth (works_of (terms_of ps)) k ≡ Some (work_of p.term)
@@ -122,13 +122,13 @@ flat_at [] k p f e = none_some e
 flat_at {P} (q ∷ ps) zero p f e = subst (λ (o : Option (Piece P)). IsOrdered (from_some q o).term) e f.0
 flat_at (q ∷ ps) (suc k) p f e = flat_at ps k p f.1 e
 
-stands-append : (j k : ℕ) (h : List ℕ) → stands_in j (h ++ k ∷ []) ≡ (stands_in j h || (k == j))
+stands-append : (j k : ℕ) (h : List ℕ) → is_in_history j (h ++ k ∷ []) ≡ (is_in_history j h || (k == j))
 stands-append j k [] = or_false (k == j)
   where
     or_false : (b : Bool) → (b || false) ≡ b
     or_false true = refl
     or_false false = refl
-stands-append j k (x ∷ h) = ap (λ b. (x == j) || b) (stands-append j k h) ∙ assoc (x == j) (stands_in j h) (k == j)
+stands-append j k (x ∷ h) = ap (λ b. (x == j) || b) (stands-append j k h) ∙ assoc (x == j) (is_in_history j h) (k == j)
   where
     assoc : (a b c : Bool) → (a || (b || c)) ≡ ((a || b) || c)
     assoc true b c = refl
@@ -164,18 +164,18 @@ after-piece work h k pre post t x a c o = record {
     other : (j : ℕ) → (k ≡ j → ⊥) → nth (plus pre (and_work x post)) j ≡ nth (plus pre (and_work t post)) j
     other j f = nth_other pre post t x j (λ e. f (sym c ∙ e))
 
-    on_finished : (j : ℕ) (p : Piece _) → slice_get work.pieces j ≡ Some p → stands_in j (h ++ k ∷ []) ≡ true → ((k ≡ j) × ((k == j) ≡ true)) ⊎ ((k ≡ j → ⊥) × ((k == j) ≡ false)) → OverIf (nth (plus pre (and_work x post)) j)
+    on_finished : (j : ℕ) (p : Piece _) → slice_get work.pieces j ≡ Some p → is_in_history j (h ++ k ∷ []) ≡ true → ((k ≡ j) × ((k == j) ≡ true)) ⊎ ((k ≡ j → ⊥) × ((k == j) ≡ false)) → OverIf (nth (plus pre (and_work x post)) j)
     on_finished j p at st (inl e) = subst (λ n. OverIf (nth (plus pre (and_work x post)) n)) (c ∙ e.0) (subst OverIf (sym (nth_here pre post x)) o)
     on_finished j p at st (inr e) =
-        subst OverIf (sym (other j e.0)) (a.finished j p at (sym (not_this (stands_in j h) (k == j) e.1) ∙ sym (stands-append j k h) ∙ st))
+        subst OverIf (sym (other j e.0)) (a.finished j p at (sym (not_this (is_in_history j h) (k == j) e.1) ∙ sym (stands-append j k h) ∙ st))
 
-    on_other : (j : ℕ) (p : Piece _) → slice_get work.pieces j ≡ Some p → stands_in j (h ++ k ∷ []) ≡ false → ((k ≡ j) × ((k == j) ≡ true)) ⊎ ((k ≡ j → ⊥) × ((k == j) ≡ false)) → nth (plus pre (and_work x post)) j ≡ Some (work_of p.term)
-    on_other j p at st (inl e) = no (sym st ∙ stands-append j k h ∙ or_right (stands_in j h) (k == j) e.1)
+    on_other : (j : ℕ) (p : Piece _) → slice_get work.pieces j ≡ Some p → is_in_history j (h ++ k ∷ []) ≡ false → ((k ≡ j) × ((k == j) ≡ true)) ⊎ ((k ≡ j → ⊥) × ((k == j) ≡ false)) → nth (plus pre (and_work x post)) j ≡ Some (work_of p.term)
+    on_other j p at st (inl e) = no (sym st ∙ stands-append j k h ∙ or_right (is_in_history j h) (k == j) e.1)
       where
         or_right : (a b : Bool) → b ≡ true → (a || b) ≡ true
         or_right true b e = refl
         or_right false b e = e
-    on_other j p at st (inr e) = other j e.0 ∙ a.others j p at (sym (not_this (stands_in j h) (k == j) e.1) ∙ sym (stands-append j k h) ∙ st)
+    on_other j p at st (inr e) = other j e.0 ∙ a.others j p at (sym (not_this (is_in_history j h) (k == j) e.1) ∙ sym (stands-append j k h) ∙ st)
 
     on_none : (j : ℕ) → slice_get work.pieces j ≡ None → ((k ≡ j) × ((k == j) ≡ true)) ⊎ ((k ≡ j → ⊥) × ((k == j) ≡ false)) → nth (plus pre (and_work x post)) j ≡ None
     on_none j e (inl f) = none_some (sym (a.no_more j e) ∙ subst (λ n. nth (plus pre (and_work t post)) n ≡ Some t) (c ∙ f.0) (nth_here pre post t))

@@ -34,15 +34,15 @@ abbrev pub after : {P : Type 0} → List Reading → List Change → Course P �
 after readings changes course = record { readings = readings ++ course.readings; changes = changes ++ course.changes; end = course.end }
 
 -- what was read and changed, and then the rest where the end lets it go on
-abbrev pub joined : {P : Type 0} → List Reading → List Change → Option (Outcome P ℕ) → (ℕ → Course P) → Course P
-joined readings changes (Some (Done turns)) rest = after readings changes (rest turns)
-joined readings changes (Some (Faulted fault)) rest = record { readings = readings; changes = changes; end = Some (Faulted fault) }
-joined readings changes (Some Spent) rest = record { readings = readings; changes = changes; end = Some Spent }
-joined readings changes None rest = record { readings = readings; changes = changes; end = None }
+abbrev pub and_rest : {P : Type 0} → List Reading → List Change → Option (Outcome P ℕ) → (ℕ → Course P) → Course P
+and_rest readings changes (Some (Done turns)) rest = after readings changes (rest turns)
+and_rest readings changes (Some (Faulted fault)) rest = record { readings = readings; changes = changes; end = Some (Faulted fault) }
+and_rest readings changes (Some Spent) rest = record { readings = readings; changes = changes; end = Some Spent }
+and_rest readings changes None rest = record { readings = readings; changes = changes; end = None }
 
 -- work that begins at these memories, and then the rest
 abbrev pub and_on : {P : Type 0} → Course P → Memories → (Memories → ℕ → Course P) → Course P
-and_on course memories rest = joined course.readings course.changes course.end (rest (apply_all course.changes memories))
+and_on course memories rest = and_rest course.readings course.changes course.end (rest (apply_all course.changes memories))
 
 -- a turn spent, where one is wanted and left, and then the rest
 abbrev pub paying : {P : Type 0} → (turn : Bool) → (turns : ℕ) → (ℕ → Course P) → Course P

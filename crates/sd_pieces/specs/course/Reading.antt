@@ -9,8 +9,8 @@ pub data Reading : Type 0 where
   reads_stream : (level container : ℕ) → Reading
 
 -- what a container holds, where there is one
-abbrev pub container_at : (level container : ℕ) → Memories → Option Contents
-container_at level container memories = option_and_then (λ memory. slice_get memory container) (slice_get memories level)
+abbrev pub contents_found : (level container : ℕ) → Memories → Option Contents
+contents_found level container memories = option_and_then (λ memory. slice_get memory container) (slice_get memories level)
 
 -- the values of a stream; an array is none
 abbrev pub values_if : Contents → Option (List ℤ)
@@ -18,17 +18,17 @@ values_if (array elements) = None
 values_if (stream values) = Some values
 
 -- the value of an element, where there is one
-abbrev pub element_at : Reference → Memories → Option ℤ
-element_at from memories = option_and_then (λ contents. slice_get (elements_of contents) from.element) (container_at from.level from.container memories)
+abbrev pub element_found : Reference → Memories → Option ℤ
+element_found from memories = option_and_then (λ contents. slice_get (elements_of contents) from.element) (contents_found from.level from.container memories)
 
 -- the values that wait in a stream, where there is one
-abbrev pub stream_at : (level container : ℕ) → Memories → Option (List ℤ)
-stream_at level container memories = option_and_then values_if (container_at level container memories)
+abbrev pub stream_found : (level container : ℕ) → Memories → Option (List ℤ)
+stream_found level container memories = option_and_then values_if (contents_found level container memories)
 
 -- two stacks of memories have the same there
 abbrev pub AgreeAt : Reading → (memories others : Memories) → Type 0
-AgreeAt (reads_element from) memories others = element_at from memories ≡ element_at from others
-AgreeAt (reads_stream level container) memories others = stream_at level container memories ≡ stream_at level container others
+AgreeAt (reads_element from) memories others = element_found from memories ≡ element_found from others
+AgreeAt (reads_stream level container) memories others = stream_found level container memories ≡ stream_found level container others
 
 -- and at all of these
 abbrev pub AgreeOn : List Reading → (memories others : Memories) → Type 0

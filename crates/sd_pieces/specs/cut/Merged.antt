@@ -8,7 +8,7 @@ use Rattle.sd_work.specs.Memory.{Memories, Reference}
 use Rattle.sd_work.specs.Step.{Done, Faulted, Spent}
 use Rattle.sd_work.specs.BigStep.{Coming, reached}
 use Rattle.sd_work.specs.Touch.{Touch, reads, writes, pushes, takes}
-use Rattle.sd_pieces.specs.course.Reading.{element_at, stream_at}
+use Rattle.sd_pieces.specs.course.Reading.{element_found, stream_found}
 use Rattle.sd_pieces.specs.cut.Naming.{Naming}
 
 -- an element of the outermost memory: nothing touches it; it is read or replaced, so it has to be as it was; or values are resolved with it by one resolution
@@ -41,25 +41,25 @@ IsMarked marking (takes level container) = (level ≡ 0) × (marking.stream cont
 
 -- a memory in which gathered elements begin at the identity of their resolution, and streams that are appended to are empty; by these the others are as in another memory
 pub record IsPrepared (marking : Marking) (memories others : Memories) : Type 0 where
-  pub kept_so : (container element : ℕ) → marking.element container element ≡ kept → element_at (outermost container element) memories ≡ element_at (outermost container element) others
-  pub drained_so : (container : ℕ) → marking.stream container ≡ drained → stream_at 0 container memories ≡ stream_at 0 container others
+  pub kept_so : (container element : ℕ) → marking.element container element ≡ kept → element_found (outermost container element) memories ≡ element_found (outermost container element) others
+  pub drained_so : (container : ℕ) → marking.stream container ≡ drained → stream_found 0 container memories ≡ stream_found 0 container others
   pub gathered_so : (container element : ℕ) (by : Resolution) → marking.element container element ≡ gathered by
-      → (identity : ℤ) × (identity_of by W64 ≡ Some identity) × (element_at (outermost container element) memories ≡ Some identity)
-  pub appended_so : (container : ℕ) → marking.stream container ≡ appended → stream_at 0 container memories ≡ Some []
+      → (identity : ℤ) × (identity_of by W64 ≡ Some identity) × (element_found (outermost container element) memories ≡ Some identity)
+  pub appended_so : (container : ℕ) → marking.stream container ≡ appended → stream_found 0 container memories ≡ Some []
 
 -- what was there, with what the work on the cut left there
 pub record IsMerged (naming : Naming) (marking : Marking) (left before after : Memories) : Type 0 where
-  pub untouched_so : (container element : ℕ) → marking.element container element ≡ untouched → element_at (outermost container element) after ≡ element_at (outermost container element) before
-  pub unused_so : (container : ℕ) → marking.stream container ≡ unused → stream_at 0 container after ≡ stream_at 0 container before
-  pub unnumbered_so : (container element : ℕ) → naming container element ≡ None → element_at (outermost container element) after ≡ element_at (outermost container element) before
+  pub untouched_so : (container element : ℕ) → marking.element container element ≡ untouched → element_found (outermost container element) after ≡ element_found (outermost container element) before
+  pub unused_so : (container : ℕ) → marking.stream container ≡ unused → stream_found 0 container after ≡ stream_found 0 container before
+  pub unnumbered_so : (container element : ℕ) → naming container element ≡ None → element_found (outermost container element) after ≡ element_found (outermost container element) before
   pub kept_so : (container element number : ℕ) → marking.element container element ≡ kept → naming container element ≡ Some number
-      → element_at (outermost container element) after ≡ element_at (outermost container number) left
-  pub drained_so : (container : ℕ) → marking.stream container ≡ drained → stream_at 0 container after ≡ stream_at 0 container left
+      → element_found (outermost container element) after ≡ element_found (outermost container number) left
+  pub drained_so : (container : ℕ) → marking.stream container ≡ drained → stream_found 0 container after ≡ stream_found 0 container left
   pub gathered_so : (container element number : ℕ) (by : Resolution) (old value : ℤ) → marking.element container element ≡ gathered by → naming container element ≡ Some number
-      → FitsSigned w64 old → element_at (outermost container element) before ≡ Some old → element_at (outermost container number) left ≡ Some value
-      → element_at (outermost container element) after ≡ Some (resolved by old value)
+      → FitsSigned w64 old → element_found (outermost container element) before ≡ Some old → element_found (outermost container number) left ≡ Some value
+      → element_found (outermost container element) after ≡ Some (resolved by old value)
   pub appended_so : (container : ℕ) (values others : List ℤ) → marking.stream container ≡ appended
-      → stream_at 0 container before ≡ Some values → stream_at 0 container left ≡ Some others → stream_at 0 container after ≡ Some (values ++ others)
+      → stream_found 0 container before ≡ Some values → stream_found 0 container left ≡ Some others → stream_found 0 container after ≡ Some (values ++ others)
 
 -- how work ends from a memory, by how it ends on the cut: with the same turns and the merged memory, the same fault or want of turns
 abbrev pub MergesTo : {P : Type 0} → Naming → Marking → (before : Memories) → (on_cut : Coming P) → Coming P → Type 0

@@ -8,7 +8,7 @@ use Rattle.sd_work.specs.Residual.{Term, leaf, list, owning, nested, ended, pool
 use Rattle.sd_work.specs.Step.{Done, Faulted, Spent}
 use Rattle.sd_work.specs.BigStep.{Coming, reached}
 use Rattle.sd_work.specs.Touch.{Touch, reads, writes, pushes, takes}
-use Rattle.sd_pieces.specs.course.Reading.{container_at}
+use Rattle.sd_pieces.specs.course.Reading.{contents_found}
 
 -- the other number of an element of a container, where it has one
 abbrev pub Naming : Type 0
@@ -101,7 +101,7 @@ AreFoundNamed names (Some contents) (Some other) = AreContentsNamed names conten
 -- two stacks of memories, the second one by the other numbers
 abbrev pub AreMemoriesNamed : Naming → (depth : ℕ) → (memories others : Memories) → Type 0
 AreMemoriesNamed naming depth memories others =
-    (level container : ℕ) → AreFoundNamed (names_at naming depth level container) (container_at level container memories) (container_at level container others)
+    (level container : ℕ) → AreFoundNamed (names_at naming depth level container) (contents_found level container memories) (contents_found level container others)
 
 -- work comes to the same by the other numbers: the same fault or want of turns; or it is done with the same turns and such memories
 abbrev pub ComesToNamed : {P : Type 0} → Naming → (depth : ℕ) → Coming P → Coming P → Type 0
