@@ -2,6 +2,7 @@ pub mod AnyPicks
 pub mod Ways
 pub mod Doing
 pub mod Follows
+pub mod Kept
 pub mod OneEnd
 pub mod Whole
 pub mod CutSafe

@@ -4,6 +4,6 @@
 mod laws;
 
 pub use laws::{
-    a_course_is_of_what_its_work_touches, work_that_is_allowed_more_is_the_same,
-    work_that_reads_the_same_is_the_same,
+    a_course_is_of_what_its_work_touches, work_keeps_the_shape_of_its_memories,
+    work_that_is_allowed_more_is_the_same, work_that_reads_the_same_is_the_same,
 };

@@ -3,4 +3,6 @@
 //! (`specs/cut/Merged.antt`), is what the work comes to from that memory.
 mod laws;
 
-pub use laws::{work_by_other_numbers_comes_to_the_same, work_on_a_cut_is_the_work};
+pub use laws::{
+    what_is_merged_is_one_stack, work_by_other_numbers_comes_to_the_same, work_on_a_cut_is_the_work,
+};

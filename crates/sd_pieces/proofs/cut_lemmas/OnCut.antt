@@ -1,19 +1,21 @@
 -- Work on a cut of a memory, merged into another one, is the work from that one.
-use Rattle.std.proofs.Common.{◌≡◌, ℕ, ℤ, List, [], ◌∷◌, ◌++◌, Option, Some, None, refl, sym, ◌∙◌, ap, subst}
+use Rattle.std.proofs.Common.{◌≡◌, ℕ, zero, suc, ℤ, List, [], ◌∷◌, ◌++◌, drop, Option, Some, None, refl, sym, ◌∙◌, ap, subst, arith}
+use Rattle.std.specs.Prelude.{option_map}
 use Rattle.sd_num.specs.Resolution.{resolved}
 use Rattle.sd_num.proofs.ResolutionLemmas.{resolved-identity, FitsSigned-identity}
-use Rattle.sd_work.specs.Memory.{Memories}
-use Rattle.sd_work.specs.Change.{Change}
+use Rattle.sd_work.specs.Memory.{Contents, Memories}
+use Rattle.sd_work.specs.Change.{Change, nothing, write, push, take, with_contents, apply}
 use Rattle.sd_work.specs.Residual.{Term}
 use Rattle.sd_work.specs.Step.{Outcome, Done, Faulted, Spent}
 use Rattle.sd_work.specs.BigStep.{Coming, reached, big_step}
 use Rattle.sd_work.specs.Touch.{Touch, takes, Touches}
 use Rattle.sd_pieces.specs.course.Reading.{Reading, reads_element, reads_stream, contents_found, element_found, stream_found, AgreeOn, apply_all}
 use Rattle.sd_pieces.specs.course.Course.{Course, course, told_end, told}
-use Rattle.sd_pieces.specs.course.Touched.{AreChangesBy, AreReadingsBy, IsCourseBy}
+use Rattle.sd_pieces.specs.course.Touched.{IsChangeBy, AreChangesBy, AreReadingsBy, IsCourseBy}
 use Rattle.sd_pieces.proofs.course_lemmas.Readings.{if_found, unchanged}
 use Rattle.sd_pieces.proofs.course_lemmas.Courses.{told-course, course-depends}
 use Rattle.sd_pieces.proofs.course_lemmas.Touched.{course-by}
+use Rattle.sd_pieces.proofs.course_lemmas.Shapes.{shape-after}
 use Rattle.sd_pieces.specs.cut.Naming.{Naming, IsOneToOne, term_named, IsTouchNamed, AreMemoriesNamed, ComesToNamed}
 use Rattle.sd_pieces.specs.cut.Merged.{kept, Marking, outermost, IsMarked, IsPrepared, IsMerged, MergesTo}
 use Rattle.sd_pieces.proofs.cut_lemmas.NamedMemories.{element-named, stream-named}
@@ -37,9 +39,21 @@ readings-agree marking s t p (reads_stream l c ∷ rs) h = (stream-agrees markin
 
 -- ---- the merged memory
 
-abbrev value_or : {A : Type 0} → A → Option A → A
-value_or d None = d
-value_or d (Some x) = x
+-- work that touches the outermost memory alone leaves those deeper in the stack
+deeper-contents : (l c : ℕ) (f : Contents → Contents) → l ≡ 0 → (s : Memories) → drop 1 (with_contents l c f s) ≡ drop 1 s
+deeper-contents zero c f e [] = refl
+deeper-contents zero c f e (own ∷ s) = refl
+deeper-contents (suc l) c f e s = absurd (omega arith)
+
+deeper-change : (marking : Marking) (change : Change) → IsChangeBy (IsMarked marking) change → (s : Memories) → drop 1 (apply change s) ≡ drop 1 s
+deeper-change marking nothing h s = refl
+deeper-change marking (write to by v) h s = deeper-contents to.level to.container _ h.0 s
+deeper-change marking (push l c v) h s = deeper-contents l c _ h.0 s
+deeper-change marking (take l c p) h s = deeper-contents l c _ h.0 s
+
+deeper-after : (marking : Marking) (changes : List Change) → AreChangesBy (IsMarked marking) changes → (s : Memories) → drop 1 (apply_all changes s) ≡ drop 1 s
+deeper-after marking [] h s = refl
+deeper-after marking (change ∷ changes) h s = deeper-after marking changes h.1 (apply change s) ∙ deeper-change marking change h.0 s
 
 append-nothing : (xs : List ℤ) → xs ++ [] ≡ xs
 append-nothing [] = refl
@@ -48,6 +62,8 @@ append-nothing (x ∷ xs) = ap (λ l. x ∷ l) (append-nothing xs)
 merged : (naming : Naming) (marking : Marking) (s t others : Memories) (changes : List Change) → IsPrepared marking s t → AreChangesBy (IsMarked marking) changes → AreChangesBy (IsTouchNamed naming 0) changes →
     AreMemoriesNamed naming 0 (apply_all changes s) others → IsMerged naming marking others t (apply_all changes t)
 merged naming marking s t others changes p h o n = record {
+  shape_so = shape-after changes t;
+  deeper_so = deeper-after marking changes h t;
   untouched_so = λ c e m. element-after 0 c e changes t ∙ sym (unchanged (effects_on 0 c e changes) (untouched-after marking c e changes h m) (element_found (outermost c e) t));
   unused_so = λ c m. stream-after 0 c changes t ∙ sym (unchanged (stream_effects 0 c changes) (unused-after marking c changes h m) (stream_found 0 c t));
   unnumbered_so = λ c e m. element-after 0 c e changes t ∙ sym (unchanged (effects_on 0 c e changes) (unnumbered-after naming c e changes o m) (element_found (outermost c e) t));
@@ -57,26 +73,26 @@ merged naming marking s t others changes p h o n = record {
   drained_so = λ c m.
       stream-after 0 c changes t ∙ ap (if_found (stream_effects 0 c changes)) (sym (p.drained_so c m)) ∙ sym (stream-after 0 c changes s)
       ∙ stream-named (naming c) (contents_found 0 c (apply_all changes s)) (contents_found 0 c others) (n 0 c);
-  gathered_so = λ c e k r old value m q fits before left.
+  gathered_so = λ c e k r old m q fits before.
       let i = p.gathered_so c e r m in
       let fit = FitsSigned-identity r i.0 i.1 in
-      let is_value : effects_on 0 c e changes i.0 ≡ value =
-      ap (value_or i.0) (sym (element-after 0 c e changes s ∙ ap (if_found (effects_on 0 c e changes)) i.2) ∙ element-named (naming c) e k q (contents_found 0 c (apply_all changes s)) (contents_found 0 c others) (n 0 c) ∙ left) in
+      let is_left : Some (effects_on 0 c e changes i.0) ≡ element_found (outermost c k) others =
+      sym (element-after 0 c e changes s ∙ ap (if_found (effects_on 0 c e changes)) i.2) ∙ element-named (naming c) e k q (contents_found 0 c (apply_all changes s)) (contents_found 0 c others) (n 0 c) in
       element-after 0 c e changes t ∙ ap (if_found (effects_on 0 c e changes)) before
       ∙ ap Some (
       ap (effects_on 0 c e changes) (sym (resolved-identity r i.0 old i.1 fits))
       ∙ gathered-after marking c e r changes h m old i.0 fits fit
-      ∙ ap (resolved r old) is_value
-      );
-  appended_so = λ c values os m before left.
-      let is_others : stream_effects 0 c changes [] ≡ os =
-      ap (value_or []) (sym (stream-after 0 c changes s ∙ ap (if_found (stream_effects 0 c changes)) (p.appended_so c m)) ∙ stream-named (naming c) (contents_found 0 c (apply_all changes s)) (contents_found 0 c others) (n 0 c) ∙ left) in
+      )
+      ∙ ap (option_map (resolved r old)) is_left;
+  appended_so = λ c values m before.
+      let is_left : Some (stream_effects 0 c changes []) ≡ stream_found 0 c others =
+      sym (stream-after 0 c changes s ∙ ap (if_found (stream_effects 0 c changes)) (p.appended_so c m)) ∙ stream-named (naming c) (contents_found 0 c (apply_all changes s)) (contents_found 0 c others) (n 0 c) in
       stream-after 0 c changes t ∙ ap (if_found (stream_effects 0 c changes)) before
       ∙ ap Some (
       ap (stream_effects 0 c changes) (sym (append-nothing values))
       ∙ appended-after marking c changes h m values []
-      ∙ ap (λ l. values ++ l) is_others
-      );
+      )
+      ∙ ap (option_map (λ os. values ++ os)) is_left;
 }
 
 -- ---- work

@@ -1,6 +1,6 @@
 -- Work on two elements of an array of four: one is read, and added to the other.
-use Rattle.std.proofs.Common.{◌≡◌, ◌⊎◌, ℕ, zero, suc, ◌+◌, ℤ, pos, [], ◌∷◌, Some, None, slice_get, refl, sym, ◌∙◌, subst, inl, inr, arith}
-use Rattle.std.specs.Int.{int_wrap}
+use Rattle.std.proofs.Common.{◌≡◌, ◌⊎◌, ℕ, zero, suc, ◌+◌, ℤ, pos, [], ◌∷◌, Some, None, FitsSigned, slice_get, refl, sym, ◌∙◌, ap, subst, inl, inr, arith, rules}
+use Rattle.std.specs.Int.{int_wrap, w64}
 use Rattle.sd_num.specs.declared.resolution.Resolution.{Resolution}
 use Rattle.sd_num.specs.declared.resolution.Resolution.TheVariants.{Sum}
 use Rattle.sd_num.specs.declared.width.Width.TheVariants.{W64}
@@ -14,8 +14,10 @@ use Rattle.sd_work.proofs.examples.ExampleParts.{cell, value_of, task}
 use Rattle.sd_confluence.proofs.examples.TouchExamples.{at, task_does}
 use Rattle.sd_pieces.specs.course.Reading.{element_found}
 use Rattle.sd_pieces.specs.cut.Naming.{Naming, IsOneToOne, term_named, IsTouchNamed, AreMemoriesNamed}
-use Rattle.sd_pieces.specs.cut.Merged.{Mark, untouched, kept, gathered, unused, Marking, outermost, IsMarked, IsPrepared, MergesTo}
+use Rattle.sd_pieces.specs.cut.Merged.{Mark, untouched, kept, gathered, unused, Marking, outermost, IsMarked, IsPrepared, IsMerged, AreElementsWide, MergesTo}
 use Rattle.sd_pieces.proofs.cut_lemmas.OnCut.{on-cut}
+use Rattle.sd_pieces.proofs.cut_lemmas.OneMerged.{one-merged}
+use Rattle.sd_pieces.proofs.history_lemmas.Doing.{memories_in}
 
 -- element 3 is added to element 2
 abbrev adds_on : Term ℕ
@@ -52,11 +54,18 @@ prepared = (array (pos 1 ∷ pos 1 ∷ pos 0 ∷ pos 4 ∷ []) ∷ []) ∷ []
 abbrev cut : Memories
 cut = (array (pos 0 ∷ pos 4 ∷ []) ∷ []) ∷ []
 
-on_the_cut_it_adds_to_the_identity : big_step (term_named numbers 0 adds_on) 1 cut 1 ≡ reached ((array (pos 4 ∷ pos 4 ∷ []) ∷ []) ∷ []) 0
+-- what it leaves on the cut, and what that comes to in the array of four
+abbrev left_there : Memories
+left_there = (array (pos 4 ∷ pos 4 ∷ []) ∷ []) ∷ []
+
+abbrev merged_there : Memories
+merged_there = (array (pos 1 ∷ pos 1 ∷ pos 14 ∷ pos 4 ∷ []) ∷ []) ∷ []
+
+on_the_cut_it_adds_to_the_identity : big_step (term_named numbers 0 adds_on) 1 cut 1 ≡ reached left_there 0
 unfolding int_wrap
 on_the_cut_it_adds_to_the_identity = refl
 
-what_is_left_is_merged : big_step adds_on 1 opening 1 ≡ reached ((array (pos 1 ∷ pos 1 ∷ pos 14 ∷ pos 4 ∷ []) ∷ []) ∷ []) 0
+what_is_left_is_merged : big_step adds_on 1 opening 1 ≡ reached merged_there 0
 unfolding int_wrap
 what_is_left_is_merged = refl
 
@@ -126,3 +135,20 @@ the_cut_has_them (suc level) container = tt
 
 it_merges : MergesTo numbers marking opening (big_step (term_named numbers 0 adds_on) 1 cut 1) (big_step adds_on 1 opening 1)
 it_merges = on-cut numbers marking adds_on 1 prepared cut opening 1 numbers_are_one_to_one touches_have_numbers touches_are_marked it_is_prepared the_cut_has_them
+
+-- and nothing else is what is merged there
+
+elements_are_wide : AreElementsWide opening
+elements_are_wide zero zero value e = let is : pos 1 ≡ value = cc in subst (FitsSigned w64) is search rules
+elements_are_wide zero (suc zero) value e = let is : pos 1 ≡ value = cc in subst (FitsSigned w64) is search rules
+elements_are_wide zero (suc (suc zero)) value e = let is : pos 10 ≡ value = cc in subst (FitsSigned w64) is search rules
+elements_are_wide zero (suc (suc (suc zero))) value e = let is : pos 4 ≡ value = cc in subst (FitsSigned w64) is search rules
+elements_are_wide zero (suc (suc (suc (suc element)))) value e = cc
+elements_are_wide (suc container) element value e = cc
+
+it_merges_to_one_stack : (after : Memories) → IsMerged numbers marking left_there opening after → after ≡ merged_there
+unfolding int_wrap
+it_merges_to_one_stack after merged =
+    let coming = it_merges in
+    let is_merged = subst (IsMerged numbers marking left_there opening) (ap (memories_in opening) (sym coming.1 ∙ what_is_left_is_merged)) coming.2 in
+    one-merged numbers marking left_there opening after merged_there elements_are_wide merged is_merged

@@ -1,5 +1,5 @@
 -- What work on a cut of a memory comes to, merged into another memory.
-use Rattle.std.specs.Prelude.{◌≡◌, ◌⊎◌, ℕ, ℤ, List, [], ◌++◌, Some, None, FitsSigned}
+use Rattle.std.specs.Prelude.{◌≡◌, ◌⊎◌, ℕ, ℤ, List, [], ◌++◌, drop, Some, None, option_map, FitsSigned}
 use Rattle.std.specs.Int.{w64}
 use Rattle.sd_num.specs.Resolution.{resolved, identity_of}
 use Rattle.sd_num.specs.declared.width.Width.TheVariants.{W64}
@@ -9,6 +9,7 @@ use Rattle.sd_work.specs.Step.{Done, Faulted, Spent}
 use Rattle.sd_work.specs.BigStep.{Coming, reached}
 use Rattle.sd_work.specs.Touch.{Touch, reads, writes, pushes, takes}
 use Rattle.sd_pieces.specs.course.Reading.{element_found, stream_found}
+use Rattle.sd_pieces.specs.course.Shape.{stack_shape}
 use Rattle.sd_pieces.specs.cut.Naming.{Naming}
 
 -- an element of the outermost memory: nothing touches it; it is read or replaced, so it has to be as it was; or values are resolved with it by one resolution
@@ -47,19 +48,26 @@ pub record IsPrepared (marking : Marking) (memories others : Memories) : Type 0 
       → (identity : ℤ) × (identity_of by W64 ≡ Some identity) × (element_found (outermost container element) memories ≡ Some identity)
   pub appended_so : (container : ℕ) → marking.stream container ≡ appended → stream_found 0 container memories ≡ Some []
 
--- what was there, with what the work on the cut left there
+-- what was there, with what the work on the cut left there. The stack keeps its shape, and each memory deeper in it stays. In the outermost memory all that is untouched, unused or without a number stays.
+-- What is kept or drained is as it was left. What was left is resolved with what is gathered, and follows on what is appended
 pub record IsMerged (naming : Naming) (marking : Marking) (left before after : Memories) : Type 0 where
+  pub shape_so : stack_shape after ≡ stack_shape before
+  pub deeper_so : drop 1 after ≡ drop 1 before
   pub untouched_so : (container element : ℕ) → marking.element container element ≡ untouched → element_found (outermost container element) after ≡ element_found (outermost container element) before
   pub unused_so : (container : ℕ) → marking.stream container ≡ unused → stream_found 0 container after ≡ stream_found 0 container before
   pub unnumbered_so : (container element : ℕ) → naming container element ≡ None → element_found (outermost container element) after ≡ element_found (outermost container element) before
   pub kept_so : (container element number : ℕ) → marking.element container element ≡ kept → naming container element ≡ Some number
       → element_found (outermost container element) after ≡ element_found (outermost container number) left
   pub drained_so : (container : ℕ) → marking.stream container ≡ drained → stream_found 0 container after ≡ stream_found 0 container left
-  pub gathered_so : (container element number : ℕ) (by : Resolution) (old value : ℤ) → marking.element container element ≡ gathered by → naming container element ≡ Some number
-      → FitsSigned w64 old → element_found (outermost container element) before ≡ Some old → element_found (outermost container number) left ≡ Some value
-      → element_found (outermost container element) after ≡ Some (resolved by old value)
-  pub appended_so : (container : ℕ) (values others : List ℤ) → marking.stream container ≡ appended
-      → stream_found 0 container before ≡ Some values → stream_found 0 container left ≡ Some others → stream_found 0 container after ≡ Some (values ++ others)
+  pub gathered_so : (container element number : ℕ) (by : Resolution) (old : ℤ) → marking.element container element ≡ gathered by → naming container element ≡ Some number
+      → FitsSigned w64 old → element_found (outermost container element) before ≡ Some old
+      → element_found (outermost container element) after ≡ option_map (resolved by old) (element_found (outermost container number) left)
+  pub appended_so : (container : ℕ) (values : List ℤ) → marking.stream container ≡ appended → stream_found 0 container before ≡ Some values
+      → stream_found 0 container after ≡ option_map (λ others. values ++ others) (stream_found 0 container left)
+
+-- each element of the outermost memory is one of 64 bits
+abbrev pub AreElementsWide : Memories → Type 0
+AreElementsWide memories = (container element : ℕ) (value : ℤ) → element_found (outermost container element) memories ≡ Some value → FitsSigned w64 value
 
 -- how work ends from a memory, by how it ends on the cut: with the same turns and the merged memory, the same fault or want of turns
 abbrev pub MergesTo : {P : Type 0} → Naming → Marking → (before : Memories) → (on_cut : Coming P) → Coming P → Type 0

@@ -2,10 +2,11 @@ ghost use Rattle.std.specs.Prelude.{◌≡◌, ◌+◌, ◌≤◌, ℕ, Some};
 ghost use Rattle.sd_work.specs.Memory.{Memories};
 ghost use Rattle.sd_work.specs.Residual.{Term};
 ghost use Rattle.sd_work.specs.Step.{Outcome, Done};
-ghost use Rattle.sd_work.specs.BigStep.{Reached, big_step};
+ghost use Rattle.sd_work.specs.BigStep.{Reached, reached, big_step};
 ghost use Rattle.sd_work.specs.Touch.{Touches};
 ghost use Rattle.sd_pieces.specs.course.Touched.{IsCourseBy};
 ghost use Rattle.sd_pieces.specs.course.Reading.{AgreeOn};
+ghost use Rattle.sd_pieces.specs.course.Shape.{stack_shape};
 ghost use Rattle.sd_pieces.specs.course.Course.{course, told, spare, with_left, HasTurns};
 
 /// What work comes to from left to right is told by its course: the memories after its changes, made in order, and
@@ -35,4 +36,11 @@ pub fn work_that_is_allowed_more_is_the_same<P>()
 pub fn a_course_is_of_what_its_work_touches<P>()
     ensures { (term : Term P) (most : ℕ) (memories : Memories) (turns : ℕ)
         → IsCourseBy (Touches term) (course term most memories turns) }
+{}
+
+/// Work keeps the shape of its stack of memories: there are as many, each with as many containers, of which the same ones are streams,
+/// and the others are arrays with as many elements.
+pub fn work_keeps_the_shape_of_its_memories<P>()
+    ensures { (term : Term P) (most : ℕ) (memories : Memories) (turns : ℕ) (after : Memories) (left : ℕ)
+        → big_step term most memories turns ≡ reached after left → stack_shape after ≡ stack_shape memories }
 {}

@@ -1,4 +1,4 @@
-ghost use Rattle.std.specs.Prelude.{◌≡◌, ◌+◌, ◌≤◌, ℕ, Bool, List, [], ◌∷◌, ◌++◌, Some};
+ghost use Rattle.std.specs.Prelude.{◌≡◌, ◌+◌, ◌≤◌, ℕ, Bool, List, [], ◌∷◌, ◌++◌, length, Some};
 ghost use Rattle.sd_work.specs.Memory.{Memory, Memories};
 ghost use Rattle.sd_work.specs.Move.{Fault};
 ghost use Rattle.sd_work.specs.Residual.{Term, Terms};
@@ -11,6 +11,7 @@ ghost use Rattle.sd_work.specs.OrderedPools.{HasOrderedPools};
 ghost use Rattle.sd_confluence.specs.Safe.{IsSafe, MayInterleave};
 ghost use Rattle.sd_confluence.specs.Alike.{AreAlike};
 ghost use Rattle.sd_pieces.specs.course.Reading.{AgreeOn, apply_all};
+ghost use Rattle.sd_pieces.specs.course.Shape.{stack_shape};
 ghost use Rattle.sd_pieces.specs.course.Course.{course};
 ghost use Rattle.sd_pieces.specs.cut.Merged.{Marking, IsMarked, IsPrepared, IsMerged};
 ghost use Rattle.sd_pieces.specs.cut.Naming.{Naming, IsOneToOne, term_named, IsTouchNamed, AreMemoriesNamed};
@@ -24,6 +25,14 @@ pub fn a_history_has_one_end<P>()
         → (memories ≡ others) × (turns ≡ number) }
     ensures allowed { (work : Work P) (most more : ℕ) (opening : Memories) (history : List ℕ) (memories : Memories) (turns : ℕ) → most ≤ more
         → History work most opening history memories turns → History work more opening history memories turns }
+{}
+
+/// A history keeps the shape of the stack of memories that it opens with, and so has as many memories.
+pub fn a_history_keeps_its_memories<P>()
+    ensures shape { (work : Work P) (most : ℕ) (opening : Memories) (history : List ℕ) (memories : Memories) (turns : ℕ)
+        → History work most opening history memories turns → stack_shape memories ≡ stack_shape opening }
+    ensures count { (work : Work P) (most : ℕ) (opening : Memories) (history : List ℕ) (memories : Memories) (turns : ℕ)
+        → History work most opening history memories turns → length memories ≡ length opening }
 {}
 
 /// A piece that was done from an earlier memory, and that may follow on a history, makes it longer where the memory of
