@@ -23,9 +23,11 @@ pub record Course (P : Type 0) : Type 0 where
 abbrev pub comes_to : {P : Type 0} → Option (Outcome P ℕ) → Course P
 comes_to end = record { readings = []; changes = []; end = end }
 
+-- nothing is read or changed, and so many turns are left
 abbrev pub rests : {P : Type 0} → (turns : ℕ) → Course P
 rests turns = comes_to (Some (Done turns))
 
+-- nothing is read or changed, and this fault is the end
 abbrev pub fails_by : {P : Type 0} → Fault P → Course P
 fails_by fault = comes_to (Some (Faulted fault))
 
@@ -87,6 +89,7 @@ reading_course place turn [] values evaluation memories turns = evaluated_course
 reading_course place turn (next ∷ left) values evaluation memories turns = paying turn turns (λ turns.
     after (read_at next) [] (on_value place (seen next memories) (λ value. reading_course place false left (values ++ value ∷ []) evaluation memories turns)))
 
+-- what a leaf has left to do: reads and an evaluation, or its effects
 abbrev pub leaf_course : {P : Type 0} → P → Leaf → Memories → (turns : ℕ) → Course P
 leaf_course place (reading begun left values evaluation) memories turns = reading_course place (not begun) left values evaluation memories turns
 leaf_course place (doing left) memories turns = doing_course place left memories turns
@@ -101,6 +104,7 @@ reads_up_to [] = []
 reads_up_to (None ∷ reads) = []
 reads_up_to (Some from ∷ reads) = reads_element from ∷ reads_up_to reads
 
+-- what the condition of an exit reads, if it has one
 abbrev pub guard_reads : {P : Type 0} → Option (Guard P) → List Reading
 guard_reads None = []
 guard_reads (Some guard) = reads_up_to guard.reads
@@ -154,21 +158,24 @@ abbrev mutual
   course (pool level container body active false) most memories turns =
       and_on (active_course active most memories turns) memories (takes_course most level container (λ value. course (body value) most))
 
+  -- parts, one after another
   pub parts_course : {P : Type 0} → Terms P → (most : ℕ) → Memories → (turns : ℕ) → Course P
   parts_course none most memories turns = rests turns
   parts_course (also part parts) most memories turns = and_on (course part most memories turns) memories (parts_course parts most)
 
+  -- the active terms of a pool, one after another
   pub active_course : {P : Type 0} → Actives P → (most : ℕ) → Memories → (turns : ℕ) → Course P
   active_course idle most memories turns = rests turns
   active_course (busy value part active) most memories turns = and_on (course part most memories turns) memories (active_course active most)
 
--- what the work comes to, told of its course alone
+-- what work comes to that ends so, with these memories behind it
 abbrev pub told_end : {P : Type 0} → Option (Outcome P ℕ) → Memories → Coming P
 told_end (Some (Done turns)) memories = reached memories turns
 told_end (Some (Faulted fault)) memories = Some (Faulted fault)
 told_end (Some Spent) memories = Some Spent
 told_end None memories = None
 
+-- what work of this course comes to from these memories
 abbrev pub told : {P : Type 0} → Course P → Memories → Coming P
 told course memories = told_end course.end (apply_all course.changes memories)
 

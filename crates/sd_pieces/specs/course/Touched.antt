@@ -18,9 +18,11 @@ IsChangeBy By (write to by value) = By (writes to by)
 IsChangeBy By (push level container value) = By (pushes level container)
 IsChangeBy By (take level container position) = By (takes level container)
 
+-- each change is one of these touches
 abbrev pub AreChangesBy : (Touch → Type 0) → List Change → Type 0
 AreChangesBy By changes = AllByRecursion (IsChangeBy By) changes
 
+-- each reading is one of these touches
 abbrev pub AreReadingsBy : (Touch → Type 0) → List Reading → Type 0
 AreReadingsBy By readings = AllByRecursion (λ reading. By (touch_of reading)) readings
 

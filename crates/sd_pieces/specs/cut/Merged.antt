@@ -24,6 +24,7 @@ pub data StreamMark : Type 0 where
   drained : StreamMark
   appended : StreamMark
 
+-- the mark of each element and of each stream of the outermost memory
 pub record Marking : Type 0 where
   pub element : (container element : ℕ) → Mark
   pub stream : (container : ℕ) → StreamMark

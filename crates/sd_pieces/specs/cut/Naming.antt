@@ -27,6 +27,7 @@ names_at naming (suc depth) (suc level) container = names_at naming depth level 
 
 -- ---- work
 
+-- an element by its other number; none where it has no other number
 abbrev pub reference_named : Naming → (depth : ℕ) → Reference → Option Reference
 reference_named naming depth reference =
     option_map (λ element. record { level = reference.level; container = reference.container; element = element }) (names_at naming depth reference.level reference.container reference.element)
@@ -36,27 +37,33 @@ abbrev pub access_named : Naming → (depth : ℕ) → Option Reference → Opti
 access_named naming depth None = None
 access_named naming depth (Some reference) = reference_named naming depth reference
 
+-- an effect of a leaf; a stream keeps its number
 abbrev pub pending_named : Naming → (depth : ℕ) → Pending → Pending
 pending_named naming depth (write_value value to by) = write_value value (access_named naming depth to) by
 pending_named naming depth (transfer from to by) = transfer (access_named naming depth from) (access_named naming depth to) by
 pending_named naming depth (push_to level container value) = push_to level container value
 
+-- the effects that an evaluation gives, or its fault
 abbrev pub evaluated_named : Naming → (depth : ℕ) → Result (List Pending) FaultKind → Result (List Pending) FaultKind
 evaluated_named naming depth (Ok effects) = Ok (map (pending_named naming depth) effects)
 evaluated_named naming depth (Err kind) = Err kind
 
+-- a leaf: the reads that are left and the effects of its evaluation, or the effects that are left
 abbrev pub leaf_named : Naming → (depth : ℕ) → Leaf → Leaf
 leaf_named naming depth (reading begun left values evaluation) =
     reading begun (map (access_named naming depth) left) values (λ read. evaluated_named naming depth (evaluation read))
 leaf_named naming depth (doing left) = doing (map (pending_named naming depth) left)
 
+-- the condition of an exit: the elements that it reads
 abbrev pub guard_named : {P : Type 0} → Naming → (depth : ℕ) → Guard P → Guard P
 guard_named naming depth guard = record guard { reads = map (access_named naming depth) guard.reads }
 
+-- an exit: its condition, if it has one
 abbrev pub exit_named : {P : Type 0} → Naming → (depth : ℕ) → Exit P → Exit P
 exit_named naming depth exit = record exit { when = option_map (guard_named naming depth) exit.when }
 
 abbrev mutual
+  -- a term; inside an owner there is one memory more
   pub term_named : {P : Type 0} → Naming → (depth : ℕ) → Term P → Term P
   term_named naming depth (leaf place work) = leaf place (leaf_named naming depth work)
   term_named naming depth (list kind before parts) = list kind before (parts_named naming depth parts)
@@ -67,10 +74,12 @@ abbrev mutual
   term_named naming depth (ended own) = ended own
   term_named naming depth (pool level container body active closed) = pool level container (λ value. term_named naming depth (body value)) (active_named naming depth active) closed
 
+  -- each part
   pub parts_named : {P : Type 0} → Naming → (depth : ℕ) → Terms P → Terms P
   parts_named naming depth none = none
   parts_named naming depth (also part parts) = also (term_named naming depth part) (parts_named naming depth parts)
 
+  -- each active term of a pool
   pub active_named : {P : Type 0} → Naming → (depth : ℕ) → Actives P → Actives P
   active_named naming depth idle = idle
   active_named naming depth (busy value part active) = busy value (term_named naming depth part) (active_named naming depth active)
