@@ -15,7 +15,7 @@ use Rattle.sd_graph.specs.RowOrder.{row_number}
 use Rattle.sd_graph.proofs.RowNumbers.{row_number_below, row_number_is_in_row_order}
 use Rattle.sd_mem.specs.mem.Shaped.{Shaped, shape_at, contents_at, IsHere, IsWhole, element, alone}
 use Rattle.sd_windows.specs.MapPieces.{number}
-use Rattle.sd_windows.specs.Windows.{moved, place_within, place_if, numbers_in}
+use Rattle.sd_windows.specs.Windows.{moved, place_within, place_if, numbers_in_window}
 use Rattle.sd_windows.proofs.WindowNumbers.{inside-length, or_zero, tested, found_at, equal}
 use Rattle.sd_cut.specs.Cells.{span_within, subset_within, value_or_zero, value_at}
 
@@ -104,10 +104,10 @@ value-is memory container index xs is h =
     ∙ ap (λ k. slice_index_or (elements_of k) (row_number (shape_at memory container) index) (pos 0)) is
 
 pub cut-has : (memory : Shaped) (container : ℕ) (shift : List ℤ) (extents : List ℕ) → length shift ≡ length extents → length extents ≡ length (shape_at memory container) → IsHere memory container →
-    AreContentsNamed (numbers_in (shape_at memory container) (Some (record { shift = shift; extents = extents }))) (contents_at memory container) (array (map (value_at memory container) (elements (subset_within shift extents) [])))
+    AreContentsNamed (numbers_in_window (shape_at memory container) (Some (record { shift = shift; extents = extents }))) (contents_at memory container) (array (map (value_at memory container) (elements (subset_within shift extents) [])))
 cut-has memory container shift extents p q here = on (contents_at memory container) refl here
   where
-    at : (xs : List ℤ) → contents_at memory container ≡ array xs → length xs ≡ product (shape_at memory container) → (e k : ℕ) → numbers_in (shape_at memory container) (Some (record { shift = shift; extents = extents })) e ≡ Some k →
+    at : (xs : List ℤ) → contents_at memory container ≡ array xs → length xs ≡ product (shape_at memory container) → (e k : ℕ) → numbers_in_window (shape_at memory container) (Some (record { shift = shift; extents = extents })) e ≡ Some k →
         slice_get xs e ≡ slice_get (map (value_at memory container) (elements (subset_within shift extents) [])) k
     at xs is count e k n =
         let a = found_at (slice_get (whole (shape_at memory container)) e) (place_if (shape_at memory container) (record { shift = shift; extents = extents }) e) k n in
@@ -125,6 +125,6 @@ cut-has memory container shift extents p q here = on (contents_at memory contain
         ∙ sym (slice_get-map (value_at memory container) (elements (subset_within shift extents) []) k ∙ ap (option_map (value_at memory container)) here)
 
     on : (contents : Contents) → contents_at memory container ≡ contents → IsWhole (shape_at memory container) contents →
-        AreContentsNamed (numbers_in (shape_at memory container) (Some (record { shift = shift; extents = extents }))) contents (array (map (value_at memory container) (elements (subset_within shift extents) [])))
+        AreContentsNamed (numbers_in_window (shape_at memory container) (Some (record { shift = shift; extents = extents }))) contents (array (map (value_at memory container) (elements (subset_within shift extents) [])))
     on (array xs) is whole_here = at xs is whole_here
     on (stream values) is whole_here = elim whole_here [ ]

@@ -23,7 +23,7 @@ ghost use Rattle.sd_cut.specs.Marked.{AreAccessesMarked};
 pub fn a_window_has_its_elements()
     ensures { (memory : Shaped) (container : ℕ) (shift : List ℤ) (extents : List ℕ)
         → length shift ≡ length extents → length extents ≡ length (shape_at memory container) → IsHere memory container
-        → AreContentsNamed (windows.numbers_in (shape_at memory container) (Some (record { shift = shift; extents = extents })))
+        → AreContentsNamed (windows.numbers_in_window (shape_at memory container) (Some (record { shift = shift; extents = extents })))
         (contents_at memory container) (array (map (value_at memory container) (elements (subset_within shift extents) []))) }
 {}
 

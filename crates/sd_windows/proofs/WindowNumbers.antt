@@ -8,7 +8,7 @@ use Rattle.sd_graph.specs.ContainerParts.{Containers, container_at, extents_of}
 use Rattle.sd_graph.specs.Context.{own_reach, found}
 use Rattle.sd_graph.proofs.RowNumbers.{row_number_is_one, row_number_is_in_row_order}
 use Rattle.sd_windows.specs.NamedContext.{reach_named}
-use Rattle.sd_windows.specs.Windows.{Window, moved, place_within, place_if, numbers_in, numbers_of, HasDimensions, reach_in_window}
+use Rattle.sd_windows.specs.Windows.{Window, moved, place_within, place_if, numbers_in_window, numbers_of, HasDimensions, reach_in_window}
 
 -- ---- indices
 
@@ -65,7 +65,7 @@ found_at (Some i) f k e = (i, e)
 pub equal : (a b : ℕ) → (a == b) ≡ true → a ≡ b
 equal a b e = search rules
 
-numbers-one : (extents : List ℕ) (w : Option Window) → HasDimensions extents w → (e f k : ℕ) → numbers_in extents w e ≡ Some k → numbers_in extents w f ≡ Some k → e ≡ f
+numbers-one : (extents : List ℕ) (w : Option Window) → HasDimensions extents w → (e f k : ℕ) → numbers_in_window extents w e ≡ Some k → numbers_in_window extents w f ≡ Some k → e ≡ f
 numbers-one extents None h e f k p q = cc
 numbers-one extents (Some w) h e f k p q =
     let a = found_at (slice_get (whole extents) e) (place_if extents w e) k p in
@@ -86,14 +86,14 @@ pub windows-are-one-to-one : (containers : Containers) (windows : ℕ → Option
 windows-are-one-to-one containers windows h = λ c e f k. numbers-one (extents_of (container_at containers c)) (windows c) (h c) e f k
 
 -- the number of the element at an index
-number-at : (extents : List ℕ) (w : Window) (index : List ℤ) → inside extents index ≡ true → numbers_in extents (Some w) (row_number extents index) ≡ place_within w index
+number-at : (extents : List ℕ) (w : Window) (index : List ℤ) → inside extents index ≡ true → numbers_in_window extents (Some w) (row_number extents index) ≡ place_within w index
 number-at extents w index h =
     ap (λ o. option_and_then (place_if extents w (row_number extents index)) o) (row_number_is_in_row_order extents index h)
     ∙ ap (λ b. if b then (if row_number extents index == row_number extents index then place_within w index else None) else None) h
     ∙ ap (λ b. if b then place_within w index else None) (same-number (row_number extents index))
 
 found-named : (extents : List ℕ) (w : Window) (index : List ℤ) (b : Bool) → inside extents index ≡ b →
-    (if b then place_within w index else None) ≡ option_and_then (numbers_in extents (Some w)) (if b then Some (row_number extents index) else None)
+    (if b then place_within w index else None) ≡ option_and_then (numbers_in_window extents (Some w)) (if b then Some (row_number extents index) else None)
 found-named extents w index true h = sym (number-at extents w index h)
 found-named extents w index false h = refl
 
@@ -107,7 +107,7 @@ window-reach containers windows container = on (windows container)
   where
     on : (w : Option Window) →
         reach_in_window containers container w
-        ≡ record (own_reach containers container) { find = λ index. option_and_then (numbers_in (extents_of (container_at containers container)) w) (found (container_at containers container) index) }
+        ≡ record (own_reach containers container) { find = λ index. option_and_then (numbers_in_window (extents_of (container_at containers container)) w) (found (container_at containers container) index) }
     on None = λ i. record { level = 0; container = container; find = λ index. found-own (found (container_at containers container) index) i }
     on (Some w) = λ i. record {
       level = 0;

@@ -27,13 +27,13 @@ place_if extents window element index =
     if inside extents index then (if row_number extents index == element then place_within window index else None) else None
 
 -- the numbers of a container's elements in its window; without a window they stay
-abbrev pub numbers_in : (extents : List ℕ) → Option Window → (element : ℕ) → Option ℕ
-numbers_in extents None element = Some element
-numbers_in extents (Some window) element = option_and_then (place_if extents window element) (slice_get (whole extents) element)
+abbrev pub numbers_in_window : (extents : List ℕ) → Option Window → (element : ℕ) → Option ℕ
+numbers_in_window extents None element = Some element
+numbers_in_window extents (Some window) element = option_and_then (place_if extents window element) (slice_get (whole extents) element)
 
 -- the numbers of the elements of a graph's containers in their windows
 abbrev pub numbers_of : Containers → (windows : ℕ → Option Window) → Naming
-numbers_of containers windows container = numbers_in (extents_of (container_at containers container)) (windows container)
+numbers_of containers windows container = numbers_in_window (extents_of (container_at containers container)) (windows container)
 
 -- a window has the dimensions of its container
 abbrev pub HasDimensions : (extents : List ℕ) → Option Window → Type 0
