@@ -11,6 +11,7 @@ use Rattle.sd_windows.specs.MapPieces.{number}
 abbrev pub span_within : (shift : ℤ) → (extent : ℕ) → Dim
 span_within shift extent = Span (record { begin = number (neg_ℤ shift); ends = number ((pos extent -ℤ pos 1) -ℤ shift) ∷ []; step = pos 1 })
 
+-- and those of each dimension
 abbrev pub spans_within : (shift : List ℤ) → (extents : List ℕ) → List Dim
 spans_within [] extents = []
 spans_within (first ∷ shift) [] = []
@@ -20,6 +21,7 @@ spans_within (first ∷ shift) (extent ∷ extents) = span_within first extent �
 abbrev pub subset_within : (shift : List ℤ) → (extents : List ℕ) → Subset
 subset_within shift extents = record { dims = spans_within shift extents }
 
+-- a value, or 0 where there is none
 abbrev pub value_or_zero : Option ℤ → ℤ
 value_or_zero None = pos 0
 value_or_zero (Some value) = value

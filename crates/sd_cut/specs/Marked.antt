@@ -17,6 +17,7 @@ MarksElement (Resolve by) mark = (mark ≡ kept) ⊎ (mark ≡ gathered by)
 MarksElement Push mark = ⊤
 MarksElement Take mark = ⊤
 
+-- a stream that may be touched in a mode is marked so
 abbrev pub MarksStream : Mode → StreamMark → Type 0
 MarksStream Read mark = ⊤
 MarksStream Write mark = ⊤
@@ -32,5 +33,6 @@ pub record IsAccessMarked (containers : Containers) (values : List ℤ) (naming 
   pub number : (index : List ℤ) (element : ℕ) → IsInBox values access.box index → found (container_at containers access.container) index ≡ Some element
       → (number : ℕ) × (naming access.container element ≡ Some number)
 
+-- so it is for each access
 abbrev pub AreAccessesMarked : Containers → List ℤ → Naming → Marking → List Access → Type 0
 AreAccessesMarked containers values naming marking accesses = (access : Access) → Contains accesses access → IsAccessMarked containers values naming marking access

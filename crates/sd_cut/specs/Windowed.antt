@@ -23,10 +23,12 @@ way_through containers container window = record {
   extents = window.extents;
 }
 
+-- the way to a container through its window, if it has one
 abbrev pub way_at : Containers → (container : ℕ) → Option Window → Option Way
 way_at containers container None = None
 way_at containers container (Some window) = Some (way_through containers container window)
 
+-- the ways to the containers of a list of windows, which are numbered from this one on
 abbrev pub ways_from : Containers → (container : ℕ) → List (Option Window) → List (Option Way)
 ways_from containers container [] = []
 ways_from containers container (window ∷ others) = way_at containers container window ∷ ways_from containers (suc container) others
