@@ -63,7 +63,10 @@ end-told (Some (Faulted fault)) s after left h = cc
 end-told (Some Spent) s after left h = cc
 end-told None s after left h = cc
 
-pub work-shape : {P : Type 0} (term : Term P) (most : ℕ) (s : Memories) (turns : ℕ) (after : Memories) (left : ℕ) → big_step term most s turns ≡ reached after left → stack_shape after ≡ stack_shape s
-work-shape term most s turns after left h =
+pub work-changes : {P : Type 0} (term : Term P) (most : ℕ) (s : Memories) (turns : ℕ) (after : Memories) (left : ℕ) → big_step term most s turns ≡ reached after left → apply_all (course term most s turns).changes s ≡ after
+work-changes term most s turns after left h =
     let c = course term most s turns in
-    ap stack_shape (sym (end-told c.end (apply_all c.changes s) after left (sym (told-course term most s turns) ∙ h))) ∙ shape-after c.changes s
+    end-told c.end (apply_all c.changes s) after left (sym (told-course term most s turns) ∙ h)
+
+pub work-shape : {P : Type 0} (term : Term P) (most : ℕ) (s : Memories) (turns : ℕ) (after : Memories) (left : ℕ) → big_step term most s turns ≡ reached after left → stack_shape after ≡ stack_shape s
+work-shape term most s turns after left h = ap stack_shape (sym (work-changes term most s turns after left h)) ∙ shape-after (course term most s turns).changes s

@@ -47,28 +47,28 @@ element-after l c e [] s = unchanged (λ x. x) (λ x. refl) _
 element-after l c e (change ∷ changes) s =
     element-after l c e changes (apply change s) ∙ ap (if_found (effects_on l c e changes)) (element-changed l c e change s) ∙ twice (effects_on l c e changes) (effect_on l c e change) _
 
-at-nothing : {A : Type 0} (i j : ℕ) (x : A) → at i j (λ x. x) x ≡ x
+pub at-nothing : {A : Type 0} (i j : ℕ) (x : A) → at i j (λ x. x) x ≡ x
 at-nothing zero zero x = refl
 at-nothing zero (suc j) x = refl
 at-nothing (suc i) zero x = refl
 at-nothing (suc i) (suc j) x = at-nothing i j x
 
-at-within : {A : Type 0} (i j : ℕ) (f : A → A) → ((x : A) → f x ≡ x) → (x : A) → at i j f x ≡ x
+pub at-within : {A : Type 0} (i j : ℕ) (f : A → A) → ((x : A) → f x ≡ x) → (x : A) → at i j f x ≡ x
 at-within zero zero f h x = h x
 at-within zero (suc j) f h x = refl
 at-within (suc i) zero f h x = refl
 at-within (suc i) (suc j) f h x = at-within i j f h x
 
 -- a change that is no write there
-abbrev IsTo : (l c e : ℕ) → Reference → Type 0
+abbrev pub IsTo : (l c e : ℕ) → Reference → Type 0
 IsTo l c e to = (to.level ≡ l) × (to.container ≡ c) × (to.element ≡ e)
 
 -- what a write makes of an element: nothing, or it is to this element
-abbrev WritesSo : (l c e : ℕ) → Reference → (ℤ → ℤ) → Type 0
+abbrev pub WritesSo : (l c e : ℕ) → Reference → (ℤ → ℤ) → Type 0
 WritesSo l c e to f =
     ((x : ℤ) → at to.level l (at to.container c (at to.element e f)) x ≡ x) ⊎ (IsTo l c e to × ((x : ℤ) → at to.level l (at to.container c (at to.element e f)) x ≡ f x))
 
-write-effect : (l c e : ℕ) (to : Reference) (f : ℤ → ℤ) → WritesSo l c e to f
+pub write-effect : (l c e : ℕ) (to : Reference) (f : ℤ → ℤ) → WritesSo l c e to f
 write-effect l c e to f = by_level (same_or_two to.level l)
   where
     by_element : to.level ≡ l → to.container ≡ c → (to.element ≡ e) ⊎ (to.element ≡ e → ⊥) → WritesSo l c e to f
