@@ -4,5 +4,6 @@ pub mod StillSafe
 pub mod NextListed
 pub mod Sides
 pub mod MoveSettled
+pub mod AlikeMemories
 pub mod AlikeSettled
 pub mod Steps

@@ -16,6 +16,11 @@ ghost use Rattle.sd_confluence.specs.Sides.{AreOfTwoParts, AreTermsAlike};
 ghost use Rattle.sd_confluence.specs.Alike.{how_often, AreAlike, AreStacksAlike, LeaveAlike};
 ghost use Rattle.sd_confluence.specs.Event.{Event, values_pushed, values_taken, DoneWith, AreEventsAlike};
 
+/// Terms that are alike have memories that are alike.
+pub fn terms_that_are_alike_have_memories_alike<P>()
+    ensures { (term other : Term P) → AreTermsAlike term other → AreAlike (memory_of term) (memory_of other) }
+{}
+
 /// Of two runs of work that may interleave, by any picks, the one is done where the other is, and they leave
 /// memories alike and as many turns. Without picks a run is the sequential one.
 pub fn every_interleaving_ends_alike<P>()

@@ -13,6 +13,6 @@ mod laws;
 pub use laws::{
     each_value_is_taken_or_waits, every_interleaving_ends_alike,
     moves_of_parts_that_do_not_conflict_commute, steps_of_two_parts_commute,
-    the_order_of_taking_makes_no_difference, what_is_left_touches_no_more,
-    work_may_interleave_at_each_choice,
+    terms_that_are_alike_have_memories_alike, the_order_of_taking_makes_no_difference,
+    what_is_left_touches_no_more, work_may_interleave_at_each_choice,
 };

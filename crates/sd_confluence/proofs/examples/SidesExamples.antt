@@ -1,12 +1,13 @@
 -- Which paths are of two parts, which terms are alike, and what may be left of work.
 use Rattle.std.proofs.Common.{◌≡◌, ℕ, pos, suc, [], ◌∷◌, None, Bool, true, false, cond, int_eq, refl, sym, subst, inl, inr, ap, arith}
-use Rattle.sd_work.specs.Memory.{stream}
+use Rattle.sd_work.specs.Memory.{array, stream}
 use Rattle.sd_work.specs.Leaf.{Leaf, doing, write_value}
-use Rattle.sd_work.specs.Residual.{Term, leaf, owning, none, also}
+use Rattle.sd_work.specs.Residual.{Term, leaf, owning, ended, none, also}
 use Rattle.sd_work.specs.Touch.{Touch, writes, LeafTouches}
 use Rattle.sd_work.proofs.examples.ExampleParts.{cell, sets, two, points}
 use Rattle.sd_confluence.specs.Left.{IsLeftOf}
 use Rattle.sd_confluence.specs.Sides.{AreOfTwoParts, AreTermsAlike}
+use Rattle.sd_confluence.proofs.left.AlikeMemories.{memories-alike}
 
 abbrev pair : Term ℕ
 pair = points (two (sets 1 (cell 0 0 0) (pos 7)) (sets 2 (cell 0 0 1) (pos 8)))
@@ -35,6 +36,13 @@ streams_of_a_term_may_differ_in_their_order = (
   ((λ value. exchanged (int_eq (pos 7) value) (int_eq (pos 8) value) 0), tt),
   (two (sets 1 (cell 0 0 0) (pos 7)) (sets 2 (cell 0 0 1) (pos 8)), refl, (sets 1 (cell 0 0 0) (pos 7), also (sets 2 (cell 0 0 1) (pos 8)) none, refl, refl, (sets 2 (cell 0 0 1) (pos 8), none, refl, refl, refl))),
 )
+
+-- but not in the elements of an array
+terms_with_other_elements_are_not_alike : AreTermsAlike {P = ℕ} (ended (array (pos 7 ∷ []) ∷ [])) (ended (array (pos 8 ∷ []) ∷ [])) → ⊥
+terms_with_other_elements_are_not_alike alike = differ (memories-alike (ended (array (pos 7 ∷ []) ∷ [])) (ended (array (pos 8 ∷ []) ∷ [])) alike).0
+  where
+  differ : pos 7 ∷ [] ≡ pos 8 ∷ [] → ⊥
+  differ same = cc
 
 -- a write that is left, of two
 abbrev writing : Leaf
