@@ -67,8 +67,8 @@ fn with_params(mix: i128, params: &[(u32, Range)]) -> i128 {
 /// A number for a scope, wherever it stands.
 pub(crate) fn digest_of(scope: &Scope<'_>) -> i128 {
     let mut mix = with_params(0, scope.around());
-    if let Over::Points { params, .. } = scope.over() {
-        mix = with_params(mix, params.as_slice());
+    if let Over::Points { params, sequential } = scope.over() {
+        mix = with_params(mixed(mix, i128::from(*sequential)), params.as_slice());
     }
     for access in scope.accesses() {
         mix = with_access(mix, access);

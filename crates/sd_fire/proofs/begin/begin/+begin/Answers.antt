@@ -43,8 +43,8 @@ begin_item-returns-in-Task-clause-counted t c = IfOk-weaker c.begin_task.result 
 
 pub begin_item-returns-in-Map-clause-begun : goal.begin_item-returns-in-Map-clause-begun
 begin_item-returns-in-Map-clause-begun t c =
-    as-kind c.begin_map.result (kind_tree c.args.kind.now) (map_scope c.in-Map.sequential c.in-Map.params.items c.in-Map.private.items (item_trees c.in-Map.body.items)) c.args.line (context_of (graph_tree c.args.graph.now) c.args.base.now c.args.scope.now)
-    (ap kind_tree c.in-Map.is ∙ map_kind c.in-Map.params c.in-Map.private c.in-Map.body c.in-Map.sequential)
+    as-kind c.begin_map.result (kind_tree c.args.kind.now) (map_scope c.in-Map.marked c.in-Map.params.items c.in-Map.private.items (item_trees c.in-Map.body.items)) c.args.line (context_of (graph_tree c.args.graph.now) c.args.base.now c.args.scope.now)
+    (ap kind_tree c.in-Map.is ∙ map_kind c.in-Map.params c.in-Map.private c.in-Map.body c.in-Map.marked)
     (rw (sym c.deref-in-Map-2.ensures.value, sym c.deref-in-Map-3.ensures.value, sym c.deref-in-Map.ensures.value) (IfOk-weaker c.begin_map.result _ _ (λ left begun. begun c.args.line) c.begin_map.ensures.begun))
 
 pub begin_item-returns-in-Consume-clause-begun : goal.begin_item-returns-in-Consume-clause-begun
