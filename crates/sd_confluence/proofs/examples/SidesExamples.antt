@@ -41,8 +41,8 @@ streams_of_a_term_may_differ_in_their_order = (
 terms_with_other_elements_are_not_alike : AreTermsAlike {P = ℕ} (ended (array (pos 7 ∷ []) ∷ [])) (ended (array (pos 8 ∷ []) ∷ [])) → ⊥
 terms_with_other_elements_are_not_alike alike = differ (memories-alike (ended (array (pos 7 ∷ []) ∷ [])) (ended (array (pos 8 ∷ []) ∷ [])) alike).0
   where
-  differ : pos 7 ∷ [] ≡ pos 8 ∷ [] → ⊥
-  differ same = cc
+    differ : pos 7 ∷ [] ≡ pos 8 ∷ [] → ⊥
+    differ same = cc
 
 -- a write that is left, of two
 abbrev writing : Leaf
