@@ -13,12 +13,12 @@ how_often (first ∷ values) value = cond (int_eq first value) (suc (how_often v
 abbrev pub HoldAlike : List ℤ → List ℤ → Type 0
 HoldAlike values others = (value : ℤ) → how_often values value ≡ how_often others value
 
--- equal arrays, or streams that hold each value equally often
+-- of one width, and equal arrays, or streams that hold each value equally often
 abbrev pub AreContentsAlike : Contents → Contents → Type 0
-AreContentsAlike (array elements) (array others) = elements ≡ others
-AreContentsAlike (stream values) (stream others) = HoldAlike values others
-AreContentsAlike (array elements) (stream others) = ⊥
-AreContentsAlike (stream values) (array others) = ⊥
+AreContentsAlike (array width elements) (array other others) = (width ≡ other) × (elements ≡ others)
+AreContentsAlike (stream width values) (stream other others) = (width ≡ other) × HoldAlike values others
+AreContentsAlike (array width elements) (stream other others) = ⊥
+AreContentsAlike (stream width values) (array other others) = ⊥
 
 -- two memories with the same containers, each with contents alike
 abbrev pub AreAlike : Memory → Memory → Type 0

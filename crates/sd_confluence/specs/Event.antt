@@ -1,6 +1,6 @@
 -- What a run does to the streams of its memory.
 use Rattle.std.specs.Prelude.{◌≡◌, ℕ, zero, ℤ, List, [], ◌∷◌, flat_map, Option, Some, None, cond, eqb, slice_get}
-use Rattle.sd_num.specs.Wrapped.{wrapped}
+use Rattle.sd_num.specs.Width.{wrapped_to}
 use Rattle.sd_work.specs.Memory.{Contents, array, stream, Memory, waiting}
 use Rattle.sd_work.specs.Change.{Change, push, take}
 use Rattle.sd_work.specs.Move.{Move, fails, goes, no_move}
@@ -19,8 +19,8 @@ pub data Event : Type 0 where
 -- a push into what is no stream is none
 abbrev pub pushed_if : (container : ℕ) → (value : ℤ) → Option Contents → List Event
 pushed_if container value None = []
-pushed_if container value (Some (array elements)) = []
-pushed_if container value (Some (stream values)) = pushed container (wrapped value) ∷ []
+pushed_if container value (Some (array width elements)) = []
+pushed_if container value (Some (stream width values)) = pushed container (wrapped_to width value) ∷ []
 
 -- a take of a position where no value stands is none
 abbrev pub taken_if : (container : ℕ) → Option ℤ → List Event

@@ -4,4 +4,7 @@ pub mod Spans
 pub mod WindowOrder
 pub mod Marking
 pub mod OverWindows
+pub mod Numbering
+pub mod Performing
+pub mod Merging
 pub mod examples

@@ -9,11 +9,12 @@ use Rattle.sd_range.specs.Range.{stepped, counted_from, count_between, least_val
 use Rattle.sd_range.specs.Points.{product}
 use Rattle.sd_range.specs.Subset.{inside, whole, elements, dim_values}
 use Rattle.sd_range.proofs.Stepped.{count-filled, count-empty}
-use Rattle.sd_work.specs.Memory.{Contents, array, stream, elements_of, seen}
+use Rattle.sd_num.specs.declared.width.Width.{Width}
+use Rattle.sd_work.specs.Memory.{Contents, array, stream, width_of, elements_of, seen}
 use Rattle.sd_pieces.specs.cut.Naming.{AreContentsNamed}
 use Rattle.sd_graph.specs.RowOrder.{row_number}
 use Rattle.sd_graph.proofs.RowNumbers.{row_number_below, row_number_is_in_row_order}
-use Rattle.sd_mem.specs.mem.Shaped.{Shaped, shape_at, contents_at, IsHere, IsWhole, element, alone}
+use Rattle.sd_mem.specs.mem.Shaped.{Shaped, shape_at, contents_at, width_at, IsHere, IsWhole, element, alone}
 use Rattle.sd_windows.specs.MapPieces.{number}
 use Rattle.sd_windows.specs.Windows.{moved, place_within, place_if, numbers_in_window}
 use Rattle.sd_windows.proofs.WindowNumbers.{inside-length, or_zero, tested, found_at, equal}
@@ -60,7 +61,7 @@ rows-moved s shift (first ∷ firsts) rows =
     ∙ sym (map-append (moved (s ∷ shift)) (map (λ rest. first ∷ rest) rows) (flat_map (λ first. map (λ rest. first ∷ rest) rows) firsts))
     ∙ ap (map (moved (s ∷ shift))) (sym (flat_map-cons (λ first. map (λ rest. first ∷ rest) rows) first firsts))
 
-within-moved : (shift : List ℤ) (extents : List ℕ) → length shift ≡ length extents → elements (subset_within shift extents) [] ≡ map (moved (map neg_ℤ shift)) (whole extents)
+pub within-moved : (shift : List ℤ) (extents : List ℕ) → length shift ≡ length extents → elements (subset_within shift extents) [] ≡ map (moved (map neg_ℤ shift)) (whole extents)
 within-moved [] [] h = refl
 within-moved [] (extent ∷ extents) h = cc
 within-moved (s ∷ shift) [] h = cc
@@ -97,19 +98,19 @@ get-index (x ∷ xs) zero h = refl
 get-index (x ∷ xs) (suc e) h = get-index xs e (omega (arith, h))
 
 -- the value at an index that is inside
-value-is : (memory : Shaped) (container : ℕ) (index : List ℤ) (xs : List ℤ) → contents_at memory container ≡ array xs → inside (shape_at memory container) index ≡ true →
+value-is : (memory : Shaped) (container : ℕ) (index : List ℤ) (width : Width) (xs : List ℤ) → contents_at memory container ≡ array width xs → inside (shape_at memory container) index ≡ true →
     value_at memory container index ≡ slice_index_or xs (row_number (shape_at memory container) index) (pos 0)
-value-is memory container index xs is h =
+value-is memory container index width xs is h =
     ap (λ b. value_or_zero (seen (option_map (element container) (if b then Some (row_number (shape_at memory container) index) else None)) (alone memory))) h
     ∙ ap (λ k. slice_index_or (elements_of k) (row_number (shape_at memory container) index) (pos 0)) is
 
 pub cut-has : (memory : Shaped) (container : ℕ) (shift : List ℤ) (extents : List ℕ) → length shift ≡ length extents → length extents ≡ length (shape_at memory container) → IsHere memory container →
-    AreContentsNamed (numbers_in_window (shape_at memory container) (Some (record { shift = shift; extents = extents }))) (contents_at memory container) (array (map (value_at memory container) (elements (subset_within shift extents) [])))
+    AreContentsNamed (numbers_in_window (shape_at memory container) (Some (record { shift = shift; extents = extents }))) (contents_at memory container) (array (width_at memory container) (map (value_at memory container) (elements (subset_within shift extents) [])))
 cut-has memory container shift extents p q here = on (contents_at memory container) refl here
   where
-    at : (xs : List ℤ) → contents_at memory container ≡ array xs → length xs ≡ product (shape_at memory container) → (e k : ℕ) → numbers_in_window (shape_at memory container) (Some (record { shift = shift; extents = extents })) e ≡ Some k →
+    at : (width : Width) (xs : List ℤ) → contents_at memory container ≡ array width xs → length xs ≡ product (shape_at memory container) → (e k : ℕ) → numbers_in_window (shape_at memory container) (Some (record { shift = shift; extents = extents })) e ≡ Some k →
         slice_get xs e ≡ slice_get (map (value_at memory container) (elements (subset_within shift extents) [])) k
-    at xs is count e k n =
+    at width xs is count e k n =
         let a = found_at (slice_get (whole (shape_at memory container)) e) (place_if (shape_at memory container) (record { shift = shift; extents = extents }) e) k n in
         let b = tested (inside (shape_at memory container) a.0) (if row_number (shape_at memory container) a.0 == e then place_within (record { shift = shift; extents = extents }) a.0 else None) k a.1 in
         let c = tested (row_number (shape_at memory container) a.0 == e) (place_within (record { shift = shift; extents = extents }) a.0) k b.1 in
@@ -121,10 +122,10 @@ cut-has memory container shift extents p q here = on (contents_at memory contain
         ap (slice_get (elements (subset_within shift extents) [])) (ap or_zero (sym d.1)) ∙ within-order shift extents a.0 p long d.0 in
         ap (slice_get xs) (sym place)
         ∙ get-index xs (row_number (shape_at memory container) a.0) less
-        ∙ ap Some (sym (value-is memory container a.0 xs is b.0))
+        ∙ ap Some (sym (value-is memory container a.0 width xs is b.0))
         ∙ sym (slice_get-map (value_at memory container) (elements (subset_within shift extents) []) k ∙ ap (option_map (value_at memory container)) here)
 
     on : (contents : Contents) → contents_at memory container ≡ contents → IsWhole (shape_at memory container) contents →
-        AreContentsNamed (numbers_in_window (shape_at memory container) (Some (record { shift = shift; extents = extents }))) contents (array (map (value_at memory container) (elements (subset_within shift extents) [])))
-    on (array xs) is whole_here = at xs is whole_here
-    on (stream values) is whole_here = elim whole_here [ ]
+        AreContentsNamed (numbers_in_window (shape_at memory container) (Some (record { shift = shift; extents = extents }))) contents (array (width_at memory container) (map (value_at memory container) (elements (subset_within shift extents) [])))
+    on (array width xs) is whole_here = (sym (ap width_of is), at width xs is whole_here)
+    on (stream width values) is whole_here = elim whole_here [ ]

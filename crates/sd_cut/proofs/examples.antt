@@ -1,1 +1,2 @@
 pub mod CellExamples
+pub mod OverlayExamples

@@ -33,7 +33,7 @@ fn span_of(alloc: Global, shift: i128, extent: u64) -> Result<Dim, NoMemory>
 }
 
 /// The dimensions of a window.
-fn spans_of(alloc: Global, shift: &[i128], extents: &[u64]) -> Result<Vec<Dim>, NoMemory>
+pub(crate) fn spans_of(alloc: Global, shift: &[i128], extents: &[u64]) -> Result<Vec<Dim>, NoMemory>
     requires same { length shift.now ≡ length extents.now }
     ensures spans { IfOk result (λ dims. dims.items ≡ spans_within shift.now extents.now) }
     ensures are_dims { IfOk result (λ dims. All IsDim dims.items) }
@@ -73,7 +73,7 @@ pub fn cells_within(
 }
 
 /// The value of an element; 0 where the index is outside.
-fn value_of(memory: &Memory, container: u32, index: &[i128]) -> i64
+pub(crate) fn value_of(memory: &Memory, container: u32, index: &[i128]) -> i64
     ensures { result ≡ value_at memory.now container index.now }
 {
     match memory.read(container, index) {

@@ -1,30 +1,36 @@
-ghost use Rattle.std.specs.Prelude.{◌≡◌, ℕ, ℤ, List, [], map, length, Option, Some};
+ghost use Rattle.std.specs.Prelude.{◌≡◌, ◌≤◌, ℕ, ℤ, List, [], map, length, Option, Some, slice_index_or};
 ghost use Rattle.sd_range.specs.Subset.{elements};
-ghost use Rattle.sd_work.specs.Memory.{Memories, array};
+ghost use Rattle.sd_work.specs.Memory.{Memories, array, elements_of};
+ghost use Rattle.sd_work.specs.Change.{changed_at};
 ghost use Rattle.sd_work.specs.Exit.{Values};
 ghost use Rattle.sd_work.specs.BigStep.{big_step};
-ghost use Rattle.sd_pieces.specs.cut.Naming.{AreContentsNamed, AreMemoriesNamed};
-ghost use Rattle.sd_pieces.specs.cut.Merged.{Marking, IsPrepared, MergesTo};
+ghost use Rattle.sd_pieces.specs.course.Reading.{reads_element, AgreeAt};
+ghost use Rattle.sd_pieces.specs.cut.Naming.{Naming, IsOneToOne, AreContentsNamed, AreMemoriesNamed};
+ghost use Rattle.sd_pieces.specs.cut.Merged.{kept, Marking, outermost, IsPrepared, IsMerged, AreElementsOfWidth, MergesTo};
 ghost use Rattle.sd_graph.specs.PlainTree.{GraphTree, KindTree};
 ghost use Rattle.sd_graph.specs.TreeParts.{containers_of};
+ghost use Rattle.sd_graph.specs.ContainerParts.{Containers, container_at, extents_of};
 ghost use Rattle.sd_graph.specs.Context.{own_reach};
 ghost use Rattle.sd_graph.specs.Unfold.{unfold_kind};
 ghost use Rattle.sd_windows.specs.Windows as windows;
 ghost use Rattle.sd_prop.specs.propagation.Accesses.{kind_accesses};
 ghost use Rattle.sd_race.specs.cover.Fit.{IsFit};
-ghost use Rattle.sd_mem.specs.mem.Shaped.{Shaped, shape_at, contents_at, IsHere};
+ghost use Rattle.sd_mem.specs.mem.Shaped.{Shaped, alone, shape_at, contents_at, width_at, IsHere};
 ghost use Rattle.sd_mem.specs.machine.Coming.{state_context};
 ghost use Rattle.sd_cut.specs.declared.window.Window.{Window};
+ghost use Rattle.sd_cut.specs.declared.elements.CutElement.{CutElement};
+ghost use Rattle.sd_cut.specs.declared.elements.ElementMark.{ElementMark};
 ghost use Rattle.sd_cut.specs.Cells.{subset_within, value_at};
-ghost use Rattle.sd_cut.specs.Windowed.{reach_in, numbers_in, HaveDimensions};
+ghost use Rattle.sd_cut.specs.Elements.{IsEven, AreOfWindows, marked, AreAllAsCut, AreNumbered, AreFound, marking_of, all_effects, all_changed};
+ghost use Rattle.sd_cut.specs.Windowed.{window_at, reach_in, numbers_in, HaveDimensions};
 ghost use Rattle.sd_cut.specs.Marked.{AreAccessesMarked};
 
-/// The values of a window's elements, in row order, are the elements of the container by their numbers in the window.
+/// The values of a window's elements, in row order and at the container's width, are the elements of the container by their numbers in the window.
 pub fn a_window_has_its_elements()
     ensures { (memory : Shaped) (container : ℕ) (shift : List ℤ) (extents : List ℕ)
         → length shift ≡ length extents → length extents ≡ length (shape_at memory container) → IsHere memory container
         → AreContentsNamed (windows.numbers_in_window (shape_at memory container) (Some (record { shift = shift; extents = extents })))
-        (contents_at memory container) (array (map (value_at memory container) (elements (subset_within shift extents) []))) }
+        (contents_at memory container) (array (width_at memory container) (map (value_at memory container) (elements (subset_within shift extents) []))) }
 {}
 
 /// Over a cut, an item whose containers are reached through windows comes to what it comes to from another memory: where its accesses, in
@@ -38,4 +44,40 @@ pub fn an_item_over_windows_is_the_item()
         → MergesTo (numbers_in (containers_of tree) windows) marking others
         (big_step (unfold_kind kind line (state_context tree (reach_in (containers_of tree) windows) [] state values)) most cut turns)
         (big_step (unfold_kind kind line (state_context tree (own_reach (containers_of tree)) [] state values)) most others turns) }
+{}
+
+/// The elements of windows that were cut of a graph's memory have the windows' numbers; marks leave them these elements.
+pub fn windows_number_what_is_cut()
+    ensures numbers { (containers : Containers) (list : List (Option Window)) (memory : Shaped) (arrays : List (List CutElement))
+        → ((container : ℕ) → IsEven (window_at list container))
+        → ((container : ℕ) (window : windows.Window) → window_at list container ≡ Some window → shape_at memory container ≡ extents_of (container_at containers container))
+        → AreOfWindows memory (window_at list) arrays → AreNumbered (numbers_in containers list) arrays }
+    ensures marks { (memory : Shaped) (list : List (Option Window)) (arrays : List (List CutElement)) (container number : ℕ) (mark : ElementMark)
+        → AreOfWindows memory (window_at list) arrays → AreOfWindows memory (window_at list) (changed_at container (changed_at number (marked mark)) arrays) }
+{}
+
+/// The elements that were cut stand in each memory of these shapes whose arrays are here, and what is left of them stands where there are as many.
+pub fn what_is_cut_is_found()
+    ensures { (list : List (Option Window)) (memory later left : Shaped) (arrays : List (List CutElement))
+        → AreOfWindows memory (window_at list) arrays
+        → ((container : ℕ) (window : windows.Window) → window_at list container ≡ Some window
+        → (shape_at memory container ≡ shape_at later container) × IsHere later container × (width_at left container ≡ width_at later container))
+        → ((container : ℕ) → length (slice_index_or arrays container []) ≤ length (elements_of (contents_at left container)))
+        → AreFound arrays left later }
+{}
+
+/// Two memories in which the kept elements are as they were agree on each of these, where their containers have the same widths.
+pub fn kept_elements_are_as_they_were()
+    ensures { (naming : Naming) (arrays : List (List CutElement)) (memory other : Shaped)
+        → AreNumbered naming arrays → IsOneToOne naming → AreAllAsCut memory 0 arrays → AreAllAsCut other 0 arrays
+        → ((container : ℕ) → width_at memory container ≡ width_at other container)
+        → (container element : ℕ) → (marking_of naming arrays).element container element ≡ kept
+        → AgreeAt (reads_element (outermost container element)) (alone memory) (alone other) }
+{}
+
+/// What is left of the elements that were cut, when it is performed, is merged into the memory.
+pub fn what_is_left_is_merged()
+    ensures { (naming : Naming) (arrays : List (List CutElement)) (left memory : Shaped)
+        → AreNumbered naming arrays → IsOneToOne naming → AreFound arrays left memory → AreElementsOfWidth (alone left)
+        → IsMerged naming (marking_of naming arrays) (alone left) (alone memory) (alone (all_changed (all_effects 0 left arrays) memory)) }
 {}

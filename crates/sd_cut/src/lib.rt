@@ -1,14 +1,22 @@
-//! A cut of a memory, in code: windows of its containers, and the elements in a window.
+//! A cut of a memory, in code: windows of its containers, and what was cut of its arrays.
 //!
-//! `windowed_base` is a run of a graph whose containers are reached through windows, as a nested graph reaches its arguments
-//! through views; `cells_within` has the values of a window's elements. By the laws these are the container's elements by their numbers
-//! in the window, and an item over windows that have what its accesses may touch, is the item. Want of memory is the one refusal.
+//! `windowed_base` is a run of a graph whose containers are reached through windows, as a nested graph reaches its arguments through
+//! views. An `Overlay` has the elements in the windows, as they were, with marks of what has to be as it was and of what is stored. By the
+//! laws an item over windows that have what its accesses may touch is the item, and what an overlay commits is merged. Want of memory is the one refusal.
 #![tactic(auto)]
 
 mod cells;
+mod cutting;
+mod elements;
 mod laws;
+mod overlay;
 mod window;
 
 pub use cells::cells_within;
-pub use laws::{a_window_has_its_elements, an_item_over_windows_is_the_item};
+pub use elements::{CutElement, ElementMark};
+pub use laws::{
+    a_window_has_its_elements, an_item_over_windows_is_the_item, kept_elements_are_as_they_were,
+    what_is_cut_is_found, what_is_left_is_merged, windows_number_what_is_cut,
+};
+pub use overlay::Overlay;
 pub use window::{Window, windowed_base};

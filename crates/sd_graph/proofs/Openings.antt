@@ -1,7 +1,9 @@
 -- The memory that a run opens with is one of its graph.
-use Rattle.std.proofs.Common.{◌≡◌, ◌⊎◌, inl, inr, ℕ, suc, ◌+◌, ℤ, List, [], ◌∷◌, length, Bool, true, false, if◌then◌else◌, slice_index_or, refl, subst, arith}
+use Rattle.std.proofs.Common.{◌≡◌, ◌⊎◌, inl, inr, ℕ, suc, ◌+◌, ℤ, List, [], ◌∷◌, length, Bool, true, false, if◌then◌else◌, slice_index_or, refl, subst, arith, map, ◌∙◌}
+use Rattle.std.proofs.lemmas.List.{length-map}
 use Rattle.sd_range.specs.Points.{product}
-use Rattle.sd_work.specs.Memory.{array}
+use Rattle.sd_num.specs.Width.{wrapped_to}
+use Rattle.sd_work.specs.Memory.{array, absent}
 use Rattle.sd_graph.specs.PlainTree.{GraphTree}
 use Rattle.sd_graph.specs.TreeParts.{containers_of}
 use Rattle.sd_graph.specs.ContainerParts.{Containers, container_at, extents_of, is_stream, is_argument, is_of_run, opening_contents}
@@ -29,8 +31,8 @@ others_are_private PrivateStream e h = refl
 
 opens_by : (argument own : Bool) (container : Container) (given : List ℤ) → is_argument container.kind ≡ argument → is_of_run container.kind ≡ own →
     (is_argument container.kind ≡ true → length given ≡ product (extents_of container)) →
-    (is_private container.kind ≡ true) ⊎ IsContentsOf container (if argument then array given else if own then opening_contents container else array [])
-opens_by true own container given e h fits = inr (arguments_are_arrays container.kind e, fits e)
+    (is_private container.kind ≡ true) ⊎ IsContentsOf container (if argument then array container.width (map (wrapped_to container.width) given) else if own then opening_contents container else absent)
+opens_by true own container given e h fits = inr (arguments_are_arrays container.kind e, length-map given (wrapped_to container.width) ∙ fits e, refl)
 opens_by false true container given e h fits = inr (opening_fits container)
 opens_by false false container given e h fits = inl (others_are_private container.kind e h)
 

@@ -5,14 +5,14 @@ use Rattle.std.proofs.lemmas.List.{length-replicate}
 use Rattle.sd_range.specs.Points.{product}
 use Rattle.sd_range.specs.Subset.{inside}
 use Rattle.sd_range.specs.declared.subset.Subset.{Subset}
-use Rattle.sd_work.specs.Memory.{Contents, array, stream, Memory, Memories}
+use Rattle.sd_work.specs.Memory.{Contents, array, stream, Memory, Memories, absent}
 use Rattle.sd_work.specs.Change.{changed_at}
 use Rattle.sd_work.specs.Exit.{Values}
 use Rattle.sd_graph.specs.RowOrder.{row_number}
 use Rattle.sd_graph.specs.ContainerParts.{Containers, container_at, extents_of, is_stream, is_argument, is_of_run, opening_contents}
 use Rattle.sd_graph.specs.Wiring.{has_number}
 use Rattle.sd_graph.specs.Context.{Reach, Context, found, index_at, own_reach, raised, view, memory_from, private_memory, entered}
-use Rattle.sd_graph.specs.Unfold.{in_graph, reach_through, reach_inside, run_memory, element_memory}
+use Rattle.sd_graph.specs.Unfold.{in_graph, reach_through, reach_inside, run_memory, element_memory, one_element}
 use Rattle.sd_graph.specs.There.{IsElementThere, IsStreamThere}
 use Rattle.sd_graph.specs.InForce.{is_private, IsInForce, IsElement, AreLinksInForce}
 use Rattle.sd_graph.specs.InPlace.{AreToArrays, ArgumentsComeFirst}
@@ -38,9 +38,9 @@ pub record HasContents (memory : Memory) (containers : Containers) (number : ℕ
   pub fits : IsContentsOf (container_at containers number) contents
 
 opening_fits_by : (container : Container) (streams : Bool) → is_stream container.kind ≡ streams →
-    IsContentsOf container (if streams then stream [] else array (replicate (product (extents_of container)) (pos 0)))
-opening_fits_by container true e = e
-opening_fits_by container false e = (e, length-replicate (product (extents_of container)) (pos 0))
+    IsContentsOf container (if streams then stream container.width [] else array container.width (replicate (product (extents_of container)) (pos 0)))
+opening_fits_by container true e = (e, refl)
+opening_fits_by container false e = (e, length-replicate (product (extents_of container)) (pos 0), refl)
 
 pub opening_fits : (container : Container) → IsContentsOf container (opening_contents container)
 opening_fits container = opening_fits_by container (is_stream container.kind) refl
@@ -55,7 +55,7 @@ begins : (has : ℕ → ContainerKind → Bool) (first at : ℕ) (containers : C
 begins has first at [] number h same here = absurd (omega (arith, h))
 begins has first at (entry ∷ entries) zero h same here =
     let this : at ≡ first = omega (arith, same) in
-    chosen (has first entry.1.kind) (opening_contents entry.1) (array []) (subst (λ n. has n entry.1.kind ≡ true) this here)
+    chosen (has first entry.1.kind) (opening_contents entry.1) absent (subst (λ n. has n entry.1.kind ≡ true) this here)
 begins has first at (entry ∷ entries) (suc number) h same here = begins has (suc first) at entries number (omega (arith, h)) (omega (arith, same)) here
 
 made_has : (has : ℕ → ContainerKind → Bool) (containers : Containers) (number : ℕ) → number < length containers → has number (container_at containers number).kind ≡ true →
@@ -96,12 +96,13 @@ found_below container index element e =
 
 own_finds_by : (contents : Contents) (memory : Memory) (memories : Memories) (containers : Containers) (number : ℕ) → slice_get memory number ≡ Some contents →
     IsContentsOf (container_at containers number) contents → is_stream (container_at containers number).kind ≡ false → FindsElements (memory ∷ memories) (own_reach containers number)
-own_finds_by (array elements) memory memories containers number held fits kind = λ index element e. record {
+own_finds_by (array width elements) memory memories containers number held fits kind = λ index element e. record {
+  width = width;
   elements = elements;
   held = record { memory = memory; on_stack = refl; in_memory = held };
   within = omega (arith, fits.1, found_below (container_at containers number) index element e);
 }
-own_finds_by (stream values) memory memories containers number held fits kind = true_is_not_false (is_stream (container_at containers number).kind) fits kind
+own_finds_by (stream width values) memory memories containers number held fits kind = true_is_not_false (is_stream (container_at containers number).kind) fits.0 kind
 
 own_finds : (memory : Memory) (memories : Memories) (containers : Containers) (number : ℕ) → HasContents memory containers number → is_stream (container_at containers number).kind ≡ false →
     FindsElements (memory ∷ memories) (own_reach containers number)
@@ -109,9 +110,9 @@ own_finds memory memories containers number has kind = own_finds_by has.contents
 
 own_stream_by : (contents : Contents) (memory : Memory) (memories : Memories) (containers : Containers) (number : ℕ) → slice_get memory number ≡ Some contents →
     IsContentsOf (container_at containers number) contents → is_stream (container_at containers number).kind ≡ true → IsStreamThere (memory ∷ memories) 0 number
-own_stream_by (array elements) memory memories containers number held fits kind = true_is_not_false (is_stream (container_at containers number).kind) kind fits.0
-own_stream_by (stream values) memory memories containers number held fits kind =
-    record { values = values; held = record { memory = memory; on_stack = refl; in_memory = held } }
+own_stream_by (array width elements) memory memories containers number held fits kind = true_is_not_false (is_stream (container_at containers number).kind) kind fits.0
+own_stream_by (stream width values) memory memories containers number held fits kind =
+    record { width = width; values = values; held = record { memory = memory; on_stack = refl; in_memory = held } }
 
 own_stream : (memory : Memory) (memories : Memories) (containers : Containers) (number : ℕ) → HasContents memory containers number → is_stream (container_at containers number).kind ≡ true →
     IsStreamThere (memory ∷ memories) 0 number
@@ -121,6 +122,7 @@ raised_finds : (memory : Memory) (memories : Memories) (reach : Reach) → Finds
 raised_finds memory memories reach finds = λ index element e.
     let there : IsElementThere memories (record { level = reach.level; container = reach.container; element = element }) = finds index element e in
     record {
+      width = there.width;
       elements = there.elements;
       held = record { memory = there.held.memory; on_stack = there.held.on_stack; in_memory = there.held.in_memory };
       within = there.within;
@@ -128,7 +130,7 @@ raised_finds memory memories reach finds = λ index element e.
 
 raised_stream : (memory : Memory) (memories : Memories) (level container : ℕ) → IsStreamThere memories level container → IsStreamThere (memory ∷ memories) (suc level) container
 raised_stream memory memories level container there =
-    record { values = there.values; held = record { memory = there.held.memory; on_stack = there.held.on_stack; in_memory = there.held.in_memory } }
+    record { width = there.width; values = there.values; held = record { memory = there.held.memory; on_stack = there.held.on_stack; in_memory = there.held.in_memory } }
 
 given_if : (test : Bool) (found : Option ℕ) (element : ℕ) → (if test then found else None) ≡ Some element → found ≡ Some element
 given_if true found element e = e
@@ -199,11 +201,11 @@ private_has containers own number h mine = made_has (λ number kind. has_number 
 private_is_array : (kind : ContainerKind) → kind ≡ Private → is_stream kind ≡ false
 private_is_array kind e = subst (λ one. is_stream one ≡ false) (sym e) refl
 
-one_element : (extents : List ℕ) → extents ≡ 1 ∷ [] → 1 ≡ product extents
-one_element extents e = subst (λ one. 1 ≡ product one) (sym e) refl
+single_element : (extents : List ℕ) → extents ≡ 1 ∷ [] → 1 ≡ product extents
+single_element extents e = subst (λ one. 1 ≡ product one) (sym e) refl
 
-element_fits : (container : Container) (value : ℤ) → container.kind ≡ Private → extents_of container ≡ 1 ∷ [] → IsContentsOf container (array (value ∷ []))
-element_fits container value kind extents = (private_is_array container.kind kind, one_element (extents_of container) extents)
+element_fits : (container : Container) (value : ℤ) → container.kind ≡ Private → extents_of container ≡ 1 ∷ [] → IsContentsOf container (one_element container.width value)
+element_fits container value kind extents = (private_is_array container.kind kind, single_element (extents_of container) extents, refl)
 
 same_or_not : (number other : ℕ) → (number ≡ other) ⊎ (number ≡ other → ⊥)
 same_or_not zero zero = inl refl
@@ -218,14 +220,14 @@ pub element_has : (context : Context) (element : ℕ) (private : List ℕ) (valu
     (number : ℕ) → number < length context.containers → has_number (element ∷ private) number ≡ true → HasContents (element_memory context element private value) context.containers number
 element_has context element private value one number h mine = elim (same_or_not element number) [
   | inl same ↦ subst (λ n. HasContents (element_memory context element private value) context.containers n) same (record {
-    contents = array (value ∷ []);
-    held = here_changed element (λ old. array (value ∷ [])) (private_memory context.containers (element ∷ private)) (private_has context.containers (element ∷ private) number h mine).contents
+    contents = one_element (container_at context.containers element).width value;
+    held = here_changed element (λ old. one_element (container_at context.containers element).width value) (private_memory context.containers (element ∷ private)) (private_has context.containers (element ∷ private) number h mine).contents
         (subst (λ n. slice_get (private_memory context.containers (element ∷ private)) n ≡ Some (private_has context.containers (element ∷ private) number h mine).contents) (sym same) (private_has context.containers (element ∷ private) number h mine).held);
     fits = element_fits (container_at context.containers element) value one.0 one.1;
   })
   | inr two ↦ record {
     contents = (private_has context.containers (element ∷ private) number h mine).contents;
-    held = elsewhere element number (λ old. array (value ∷ [])) (private_memory context.containers (element ∷ private)) two ∙ (private_has context.containers (element ∷ private) number h mine).held;
+    held = elsewhere element number (λ old. one_element (container_at context.containers element).width value) (private_memory context.containers (element ∷ private)) two ∙ (private_has context.containers (element ∷ private) number h mine).held;
     fits = (private_has context.containers (element ∷ private) number h mine).fits;
   }
 ]

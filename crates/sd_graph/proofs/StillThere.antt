@@ -2,11 +2,11 @@
 use Rattle.std.proofs.Common.{◌≡◌, inl, inr, ℕ, zero, suc, ◌<◌, ℤ, List, [], ◌∷◌, ◌++◌, length, drop, Option, Some, None, Result, Ok, Err, Bool, true, false, cond, slice_get, refl, ap, sym, subst, arith}
 use Rattle.std.specs.Bool.{⊤}
 use Rattle.std.specs.List.{AllByRecursion}
-use Rattle.sd_num.specs.Wrapped.{wrapped}
+use Rattle.sd_num.specs.declared.width.Width.{Width}
 use Rattle.sd_num.specs.declared.resolution.Resolution.{Resolution}
 use Rattle.sd_work.specs.declared.fault.FaultKind.{FaultKind}
 use Rattle.sd_work.specs.Memory.{Contents, array, stream, Memory, Memories, Reference, seen, waiting}
-use Rattle.sd_work.specs.Change.{Change, nothing, write, push, take, written, changed_at, without, with_elements, with_values, innermost, own_after}
+use Rattle.sd_work.specs.Change.{Change, nothing, write, push, take, written, changed_at, appended, without, with_elements, with_values, innermost, own_after}
 use Rattle.sd_work.specs.Leaf.{Pending, write_value, transfer, push_to, Leaf, reading, doing}
 use Rattle.sd_work.specs.LeafMove.{leaf_move, write_move, do_move, read_move, evaluation_move}
 use Rattle.sd_work.specs.Exit.{Values, Exit, first_exit}
@@ -22,29 +22,29 @@ use Rattle.sd_graph.specs.There.{Holds, IsElementThere, IsStreamThere, IsThere, 
 
 -- ---- contents of one shape
 
--- two arrays with as many elements, or two streams
+-- two arrays of one width with as many elements, or two streams of one width
 abbrev IsAlikeShaped : Contents → Contents → Type 0
-IsAlikeShaped (array elements) (array others) = length elements ≡ length others
-IsAlikeShaped (array elements) (stream values) = ⊥
-IsAlikeShaped (stream values) (array elements) = ⊥
-IsAlikeShaped (stream values) (stream others) = ⊤
+IsAlikeShaped (array width elements) (array other others) = (width ≡ other) × (length elements ≡ length others)
+IsAlikeShaped (array width elements) (stream other values) = ⊥
+IsAlikeShaped (stream width values) (array other elements) = ⊥
+IsAlikeShaped (stream width values) (stream other others) = width ≡ other
 
 one_shape : (contents : Contents) → IsAlikeShaped contents contents
-one_shape (array elements) = refl
-one_shape (stream values) = tt
+one_shape (array width elements) = (refl, refl)
+one_shape (stream width values) = refl
 
 changed_length : {A : Type 0} (number : ℕ) (change : A → A) (members : List A) → length members ≡ length (changed_at number change members)
 changed_length number change [] = refl
 changed_length zero change (member ∷ members) = refl
 changed_length (suc number) change (member ∷ members) = ap suc (changed_length number change members)
 
-elements_shape : (number : ℕ) (change : ℤ → ℤ) (contents : Contents) → IsAlikeShaped contents (with_elements (changed_at number change) contents)
-elements_shape number change (array elements) = changed_length number change elements
-elements_shape number change (stream values) = tt
+elements_shape : (number : ℕ) (change : Width → ℤ → ℤ) (contents : Contents) → IsAlikeShaped contents (with_elements (λ width. changed_at number (change width)) contents)
+elements_shape number change (array width elements) = (refl, changed_length number (change width) elements)
+elements_shape number change (stream width values) = refl
 
-values_shape : (change : List ℤ → List ℤ) (contents : Contents) → IsAlikeShaped contents (with_values change contents)
-values_shape change (array elements) = refl
-values_shape change (stream values) = tt
+values_shape : (change : Width → List ℤ → List ℤ) (contents : Contents) → IsAlikeShaped contents (with_values change contents)
+values_shape change (array width elements) = (refl, refl)
+values_shape change (stream width values) = refl
 
 -- ---- stacks that keep what is there
 
@@ -57,24 +57,24 @@ record StillHolds (memories : Memories) (level container : ℕ) (contents : Cont
 abbrev Keeps : (memories later : Memories) → Type 0
 Keeps memories later = (level container : ℕ) (contents : Contents) → Holds memories level container contents → StillHolds later level container contents
 
-element_kept : (later : Memories) (reference : Reference) (elements : List ℤ) (now : Contents) → Holds later reference.level reference.container now → IsAlikeShaped (array elements) now →
+element_kept : (later : Memories) (reference : Reference) (width : Width) (elements : List ℤ) (now : Contents) → Holds later reference.level reference.container now → IsAlikeShaped (array width elements) now →
     reference.element < length elements → IsElementThere later reference
-element_kept later reference elements (array others) held shape within = record { elements = others; held = held; within = omega (arith, shape, within) }
-element_kept later reference elements (stream values) held shape within = elim shape [ ]
+element_kept later reference width elements (array other others) held shape within = record { width = other; elements = others; held = held; within = omega (arith, shape.1, within) }
+element_kept later reference width elements (stream other values) held shape within = elim shape [ ]
 
-stream_kept : (later : Memories) (level container : ℕ) (values : List ℤ) (now : Contents) → Holds later level container now → IsAlikeShaped (stream values) now → IsStreamThere later level container
-stream_kept later level container values (array elements) held shape = elim shape [ ]
-stream_kept later level container values (stream others) held shape = record { values = others; held = held }
+stream_kept : (later : Memories) (level container : ℕ) (width : Width) (values : List ℤ) (now : Contents) → Holds later level container now → IsAlikeShaped (stream width values) now → IsStreamThere later level container
+stream_kept later level container width values (array other elements) held shape = elim shape [ ]
+stream_kept later level container width values (stream other others) held shape = record { width = other; values = others; held = held }
 
 element_still : (memories later : Memories) (reference : Reference) → Keeps memories later → IsElementThere memories reference → IsElementThere later reference
 element_still memories later reference keeps there =
-    let still : StillHolds later reference.level reference.container (array there.elements) = keeps reference.level reference.container (array there.elements) there.held in
-    element_kept later reference there.elements still.now still.held still.shape there.within
+    let still : StillHolds later reference.level reference.container (array there.width there.elements) = keeps reference.level reference.container (array there.width there.elements) there.held in
+    element_kept later reference there.width there.elements still.now still.held still.shape there.within
 
 stream_still : (memories later : Memories) (level container : ℕ) → Keeps memories later → IsStreamThere memories level container → IsStreamThere later level container
 stream_still memories later level container keeps there =
-    let still : StillHolds later level container (stream there.values) = keeps level container (stream there.values) there.held in
-    stream_kept later level container there.values still.now still.held still.shape
+    let still : StillHolds later level container (stream there.width there.values) = keeps level container (stream there.width there.values) there.held in
+    stream_kept later level container there.width there.values still.now still.held still.shape
 
 touch_still : (memories later : Memories) (touch : Touch) → Keeps memories later → IsThere memories touch → IsThere later touch
 touch_still memories later (reads from) keeps there = element_still memories later from keeps there
@@ -114,19 +114,19 @@ some_same first second e = cc
 abbrev own_after_at : (level container : ℕ) → (Contents → Contents) → Memory → Memory
 own_after_at level container change own = innermost (changed_at level (changed_at container change) (own ∷ []))
 
-write_kept : (level container element : ℕ) (change : ℤ → ℤ) (own : Memory) → KeepsMemory own (own_after_at level container (with_elements (changed_at element change)) own)
-write_kept zero container element change own = changed_memory container (with_elements (changed_at element change)) (elements_shape element change) own
+write_kept : (level container element : ℕ) (change : Width → ℤ → ℤ) (own : Memory) → KeepsMemory own (own_after_at level container (with_elements (λ width. changed_at element (change width))) own)
+write_kept zero container element change own = changed_memory container (with_elements (λ width. changed_at element (change width))) (elements_shape element change) own
 write_kept (suc level) container element change own = same_memory own
 
-values_kept : (level container : ℕ) (change : List ℤ → List ℤ) (own : Memory) → KeepsMemory own (own_after_at level container (with_values change) own)
+values_kept : (level container : ℕ) (change : Width → List ℤ → List ℤ) (own : Memory) → KeepsMemory own (own_after_at level container (with_values change) own)
 values_kept zero container change own = changed_memory container (with_values change) (values_shape change) own
 values_kept (suc level) container change own = same_memory own
 
 own_kept : (change : Change) (own : Memory) → KeepsMemory own (own_after change own)
 own_kept nothing own = same_memory own
-own_kept (write to by value) own = write_kept to.level to.container to.element (written by value) own
-own_kept (push level container value) own = values_kept level container (λ values. values ++ wrapped value ∷ []) own
-own_kept (take level container position) own = values_kept level container (without position) own
+own_kept (write to by value) own = write_kept to.level to.container to.element (λ width. written width by value) own
+own_kept (push level container value) own = values_kept level container (appended value) own
+own_kept (take level container position) own = values_kept level container (λ width. without position) own
 
 keeps_first : (own later : Memory) (memories : Memories) → KeepsMemory own later → Keeps (own ∷ memories) (later ∷ memories)
 keeps_first own later memories keeps zero container contents holds =

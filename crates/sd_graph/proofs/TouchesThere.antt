@@ -8,19 +8,21 @@ use Rattle.sd_graph.specs.There.{IsThere, TouchesWhatIsThere, PartsTouchWhatIsTh
 -- what is there outside of an owner, as it is named inside, is there outside
 out_there : (own : Memory) (memories : Memories) (touch : Touch) → IsThere (own ∷ memories) (inner touch) → IsThere memories touch
 out_there own memories (reads from) there = record {
+  width = there.width;
   elements = there.elements;
   held = record { memory = there.held.memory; on_stack = there.held.on_stack; in_memory = there.held.in_memory };
   within = there.within;
 }
 out_there own memories (writes to by) there = record {
+  width = there.width;
   elements = there.elements;
   held = record { memory = there.held.memory; on_stack = there.held.on_stack; in_memory = there.held.in_memory };
   within = there.within;
 }
 out_there own memories (pushes level container) there =
-    record { values = there.values; held = record { memory = there.held.memory; on_stack = there.held.on_stack; in_memory = there.held.in_memory } }
+    record { width = there.width; values = there.values; held = record { memory = there.held.memory; on_stack = there.held.on_stack; in_memory = there.held.in_memory } }
 out_there own memories (takes level container) there =
-    record { values = there.values; held = record { memory = there.held.memory; on_stack = there.held.on_stack; in_memory = there.held.in_memory } }
+    record { width = there.width; values = there.values; held = record { memory = there.held.memory; on_stack = there.held.on_stack; in_memory = there.held.in_memory } }
 
 mutual
   pub touch_there : {P : Type 0} (term : Term P) (memories : Memories) (touch : Touch) → TouchesWhatIsThere memories term → Touches term touch → IsThere memories touch

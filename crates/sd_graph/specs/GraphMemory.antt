@@ -8,10 +8,10 @@ use Rattle.sd_graph.specs.ContainerParts.{Containers, container_at, extents_of, 
 use Rattle.sd_graph.specs.InForce.{is_private}
 use Rattle.sd_graph.specs.declared.container.Container.{Container}
 
--- contents as a container has them: an array with an element for each index, or a stream
+-- contents as a container has them, at its width: an array with an element for each index, or a stream
 abbrev pub IsContentsOf : Container → Contents → Type 0
-IsContentsOf container (array elements) = (is_stream container.kind ≡ false) × (length elements ≡ product (extents_of container))
-IsContentsOf container (stream values) = is_stream container.kind ≡ true
+IsContentsOf container (array width elements) = (is_stream container.kind ≡ false) × (length elements ≡ product (extents_of container)) × (width ≡ container.width)
+IsContentsOf container (stream width values) = (is_stream container.kind ≡ true) × (width ≡ container.width)
 
 -- contents for each container; those of a private one, which scopes hold, are free
 abbrev pub AreContentsOf : Containers → Memory → Type 0

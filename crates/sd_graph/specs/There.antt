@@ -1,5 +1,6 @@
 -- What is there: the elements and streams of a stack of memories, and work that touches nothing else.
 use Rattle.std.specs.Prelude.{◌≡◌, ◌<◌, ℕ, ℤ, List, ◌∷◌, length, Some, slice_get, ⊤}
+use Rattle.sd_num.specs.declared.width.Width.{Width}
 use Rattle.sd_work.specs.Memory.{Contents, array, stream, Memory, Memories, Reference}
 use Rattle.sd_work.specs.Exit.{Values}
 use Rattle.sd_work.specs.Residual.{Term, leaf, list, owning, nested, ended, pool, Terms, none, also, Actives, idle, busy}
@@ -13,14 +14,16 @@ pub record Holds (memories : Memories) (level container : ℕ) (contents : Conte
 
 -- an element is there: its container holds an array, which has an element of this number
 pub record IsElementThere (memories : Memories) (reference : Reference) : Type 0 where
+  pub width : Width
   pub elements : List ℤ
-  pub held : Holds memories reference.level reference.container (array elements)
+  pub held : Holds memories reference.level reference.container (array width elements)
   pub within : reference.element < length elements
 
 -- a stream is there: the container holds one
 pub record IsStreamThere (memories : Memories) (level container : ℕ) : Type 0 where
+  pub width : Width
   pub values : List ℤ
-  pub held : Holds memories level container (stream values)
+  pub held : Holds memories level container (stream width values)
 
 -- what is touched is there: an element that is read or written, a stream that is pushed into or taken from
 abbrev pub IsThere : Memories → Touch → Type 0

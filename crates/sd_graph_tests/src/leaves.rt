@@ -2,7 +2,7 @@
 use crate::written::read_graph;
 use sd_graph::{ItemKind, Sdfg};
 use sd_leaves::{Next, next_exit, run_copy};
-use sd_mem::{Cell, End, Machine, Memory, Station};
+use sd_mem::{Address, End, Machine, Memory, Station};
 use sd_scope::{Base, Scope};
 use std::alloc::Global;
 use std::test::Fail;
@@ -13,12 +13,12 @@ const GRAPH: &str = "transient 3; state; copy 0[0:1] > 0[1:2];
 next 0 if 0[1] > /0 | i0 1 < =o1; next 0 if 0[0] > /0 | i0 1 < =o1";
 
 /// An element of container 0 in the innermost memory.
-fn cell(element: u64) -> Cell {
+fn cell(element: u64) -> Address {
     let station = Station {
         level: 0,
         container: 0,
     };
-    Cell { station, element }
+    Address { station, element }
 }
 
 /// At the begin of a run without turns, in which the elements are 1, 2 and 3.

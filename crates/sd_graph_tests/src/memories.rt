@@ -1,19 +1,28 @@
-//! Memories that runs, points and elements begin with, and streams.
+//! Memories that runs, points and elements begin with, streams, and what is kept at each width.
+ghost use Rattle.std.specs.Prelude.{◌≡◌, [], ◌∷◌, pos, IfOk};
+ghost use Rattle.sd_work.specs.Memory.{array};
+
 use crate::written::read_graph;
-use sd_graph::Bound;
+use indexmap::IndexMap;
+use sd_graph::{Bound, Container, ContainerKind, Width};
 use sd_list::Sequence;
-use sd_mem::Memory;
+use sd_mem::{Cells, Elements, Memory};
+use sd_num::Resolution;
+use sd_range::Affine;
 use std::alloc::Global;
 use std::test::Fail;
 
 /// An argument, a transient, a stream, a private array and the array of an element.
 const CONTAINERS: &str = "argument 4; transient 3; stream; private 2; private 1";
 
-/// The elements that each container holds.
+/// The elements that each container holds, with 32 before those of 32 bits.
 fn told(alloc: Global, memory: &Memory) -> Result<String, Fail> {
     let mut text = String::new(alloc);
     for container in 0..5 {
-        write!(&mut text, "{:?}", memory.cells(container))?;
+        match memory.cells(container) {
+            Elements::W32(cells) => write!(&mut text, "32{:?}", cells)?,
+            Elements::W64(cells) => write!(&mut text, "{:?}", cells)?,
+        }
     }
     Ok(text)
 }
@@ -88,5 +97,66 @@ fn a_stream_gives_its_oldest_value_or_the_one_at_a_position(rt: HostRuntime) -> 
     )?;
     let wanted = "4 Some(-7) None 3 0 Some(5) Some(9) Some(7) None";
     assert_eq!(rt; told.as_str(), wanted);
+    Ok(())
+}
+
+#[test]
+fn what_is_kept_at_32_bits_is_wrapped(rt: HostRuntime) -> Result<(), Fail> {
+    let alloc = rt.alloc();
+    let graph = read_graph(alloc, "argument32 3; argument 3; stream32; stream")?;
+    let mut given = Vec::new(alloc);
+    for _ in 0..2 {
+        let elements = vec![in alloc; 2147483649, 2147483647, 2147483647]?;
+        given.push(Sequence::from(elements))?;
+    }
+    let mut memory = Memory::opening(alloc, &Bound { graph }, given)?;
+    let opened =
+        "32[-2147483647, 2147483647, 2147483647][2147483649, 2147483647, 2147483647]32[][][]";
+    assert_eq!(rt; told(alloc, &memory)?.as_str(), opened);
+    for array in [0, 1] {
+        memory.set(array, 0, None, 2147483648);
+        memory.set(array, 1, Some(Resolution::Sum), 1);
+        memory.set(array, 2, Some(Resolution::Min), 5000000000);
+    }
+    let changed =
+        "32[-2147483648, -2147483648, 705032704][2147483648, 2147483648, 2147483647]32[][][]";
+    assert_eq!(rt; told(alloc, &memory)?.as_str(), changed);
+    memory.push(2, 2147483648)?;
+    memory.push(3, 2147483648)?;
+    assert_eq!(rt; memory.take(2), Some(-2147483648));
+    assert_eq!(rt; memory.take(3), Some(2147483648));
+    Ok(())
+}
+
+/// A memory whose only container is an array of two zeros.
+fn two_zeros(alloc: Global, width: Width) -> Result<Memory, Fail>
+    ensures { IfOk result (λ memory. memory ≡ record { shapes = (2 ∷ []) ∷ []; contents = array width (pos 0 ∷ pos 0 ∷ []) ∷ [] }) }
+{
+    let extents = vec![in alloc; Affine::constant(alloc, 2)]?;
+    let mut containers = IndexMap::new(alloc);
+    let zeros = Container {
+        extents: Sequence::from(extents),
+        kind: ContainerKind::Transient,
+        width,
+    };
+    containers.insert(String::new(alloc), zeros)?;
+    Ok(Memory::of_run(alloc, &containers)?)
+}
+
+#[test]
+fn an_array_is_taken_and_put_back_at_its_width(rt: HostRuntime) -> Result<(), Fail> {
+    let alloc = rt.alloc();
+    let mut narrow = two_zeros(alloc, Width::W32)?;
+    let mut wide = two_zeros(alloc, Width::W64)?;
+    let (Cells::W32(first), Cells::W64(second)) = (narrow.take_cells(0), wide.take_cells(0)) else {
+        return Err(Fail::new("an array of another width"));
+    };
+    assert!(rt; first.as_slice() == [0, 0].as_slice());
+    assert!(rt; second.as_slice() == [0, 0].as_slice());
+    assert_eq!(rt; told(alloc, &narrow)?.as_str(), "32[][][][][]");
+    narrow.put_cells(0, Cells::W32(vec![in alloc; -3, 7]?));
+    wide.put_cells(0, Cells::W64(vec![in alloc; -3, 2147483648]?));
+    assert_eq!(rt; told(alloc, &narrow)?.as_str(), "32[-3, 7][][][][]");
+    assert_eq!(rt; told(alloc, &wide)?.as_str(), "[-3, 2147483648][][][][]");
     Ok(())
 }

@@ -1,7 +1,7 @@
 //! Graphs that are written as texts: phrases with semicolons between them.
 //!
 //! `argument 3`, `transient 2 3`, `private 1`, `stream` and `private-stream` are containers with their
-//! extents, numbered in this order. `arguments 2` tells how many containers are arguments, where that is
+//! extents, numbered in this order; `argument32 3` has elements of 32 bits, and so for the others. `arguments 2` tells how many containers are arguments, where that is
 //! not how many are said to be, and `symbols 1` how many variables are size symbols. Each graph has nine
 //! variables. Behind `state` stand the items and the transitions of a state. Behind a scope or a nested
 //! graph stands what is in it, up to `end` or to the end of the text. `...` is nothing.
@@ -76,7 +76,11 @@ fn put_state(alloc: Global, graph: &mut Sdfg, word: &str, rest: &str) -> Result<
 
 /// A container, whose name is its number, or another phrase of a graph.
 fn put_in_graph(alloc: Global, graph: &mut Sdfg, word: &str, rest: &str) -> Result<(), Fail> {
-    let kind = match word {
+    let (kind, width) = match word.strip_suffix("32") {
+        Some(kind) => (kind, Width::W32),
+        None => (word, Width::W64),
+    };
+    let kind = match kind {
         "argument" => ContainerKind::Argument,
         "transient" => ContainerKind::Transient,
         "private" => ContainerKind::Private,
@@ -90,7 +94,7 @@ fn put_in_graph(alloc: Global, graph: &mut Sdfg, word: &str, rest: &str) -> Resu
     let container = Container {
         extents: affines(alloc, rest, ' ')?,
         kind,
-        width: Width::W64,
+        width,
     };
     let name = format!(in alloc; "{}", graph.containers.len())?;
     graph.containers.insert(name, container)?;

@@ -26,8 +26,8 @@ not_private PrivateStream is other = cc
 
 argument_is_array : (container : Container) (contents : Contents) → is_argument container.kind ≡ true → (is_private container.kind ≡ true) ⊎ IsContentsOf container contents → IsArray contents
 argument_is_array container contents is (inl private) = absurd (not_private container.kind is private)
-argument_is_array container (array elements) is (inr of) = tt
-argument_is_array container (stream values) is (inr of) = no_stream container.kind is of
+argument_is_array container (array width elements) is (inr of) = tt
+argument_is_array container (stream width values) is (inr of) = no_stream container.kind is of.0
 
 pub arguments_are_arrays : (arguments : ℕ) (containers : Containers) (memory : Memory) → ArgumentsComeFirst arguments containers → AreContentsOf containers memory →
     (argument : ℕ) → argument < arguments → IsArray (contents_of 0 argument (memory ∷ []))

@@ -22,6 +22,10 @@ head_of name extents = name ++ codes "[" ++ extents_text extents ++ codes "] ="
 abbrev pub elements_text : (elements : List ℤ) → List ℕ
 elements_text elements = flat_map (λ element. 32 ∷ signed_decimal element) elements
 
+-- the elements that cells hold, each after a space
+abbrev pub cells_text : {Cell : Type 0} → (element : Cell → ℤ) → (cells : List Cell) → List ℕ
+cells_text element cells = flat_map (λ cell. 32 ∷ signed_decimal (element cell)) cells
+
 -- the line of an array: its name, its extents in brackets, and each of its elements after a space
 abbrev pub line_of : (name extents : List ℕ) → (elements : List ℤ) → List ℕ
 line_of name extents elements =

@@ -1,14 +1,15 @@
-ghost use Rattle.std.specs.Prelude.{◌≡◌, ◌∷◌, ◌++◌, map, unsigned_abs, string_bytes, IfOk, OnOk};
-ghost use Rattle.std.specs.List.{flat_map};
-ghost use Rattle.std.specs.Fmt.{signed_decimal};
+ghost use Rattle.std.specs.Prelude.{◌≡◌, ◌++◌, map, unsigned_abs, string_bytes, IfOk, OnOk};
+ghost use Rattle.sd_work.specs.Memory.{elements_of};
 ghost use Rattle.sd_graph.specs.TreeFold.{graph_tree};
-ghost use Rattle.sd_json.specs.AnswerText.{extents_text};
+ghost use Rattle.sd_mem.specs.mem.Cells.{array_lent};
+ghost use Rattle.sd_json.specs.AnswerText.{cells_text, extents_text};
 ghost use Rattle.sd_json.specs.AnswerText as definition;
 
 use crate::fitting::extent_value;
 use sd_graph::Bound;
 use sd_list::NoMemory;
-use sd_mem::Memory;
+use sd_mem::{Elements, Memory};
+use sd_num::Cell;
 use sd_range::Affine;
 use std::alloc::Global;
 
@@ -26,16 +27,26 @@ fn push_extents(line: &mut String, extents: &[Affine]) -> Result<(), NoMemory>
     Ok(())
 }
 
-/// Adds elements, each after a space.
-fn push_elements(line: &mut String, elements: &[i64]) -> Result<(), NoMemory>
-    ensures { OnOk result (string_bytes line.new ≡ string_bytes line.old ++ flat_map (λ element. 32 ∷ signed_decimal element) elements.now) }
+/// Adds the elements of cells, each after a space.
+fn push_cells<T: Cell>(line: &mut String, cells: &[T]) -> Result<(), NoMemory>
+    ensures { OnOk result (string_bytes line.new ≡ string_bytes line.old ++ cells_text T.element cells.now) }
 {
     let mut buffer = itoa::Buffer::new();
-    for element in elements {
+    for cell in cells {
         line.push_str(" ")?;
-        line.push_str(buffer.format(*element))?;
+        line.push_str(buffer.format(cell.value()))?;
     }
     Ok(())
+}
+
+/// Adds elements of either width, each after a space.
+fn push_elements(line: &mut String, elements: Elements) -> Result<(), NoMemory>
+    ensures { OnOk result (string_bytes line.new ≡ string_bytes line.old ++ definition.elements_text (elements_of (array_lent elements.entry))) }
+{
+    match elements {
+        Elements::W32(cells) => push_cells(line, cells),
+        Elements::W64(cells) => push_cells(line, cells),
+    }
 }
 
 /// How the line of an array begins, up to its elements.
@@ -61,12 +72,12 @@ pub fn line_head(alloc: Global, bound: &Bound, container: u32) -> Result<String,
     }
 }
 
-/// Elements as they stand in a line, each after a space.
-pub fn elements_text(alloc: Global, elements: &[i64]) -> Result<String, NoMemory>
-    ensures { IfOk result (λ text. string_bytes text ≡ definition.elements_text elements.now) }
+/// The elements of cells as they stand in a line, each after a space.
+pub fn elements_text<T: Cell>(alloc: Global, cells: &[T]) -> Result<String, NoMemory>
+    ensures { IfOk result (λ text. string_bytes text ≡ cells_text T.element cells.now) }
 {
     let mut text = String::new(alloc);
-    push_elements(&mut text, elements)?;
+    push_cells(&mut text, cells)?;
     Ok(text)
 }
 

@@ -1,4 +1,5 @@
 pub mod Shaped
+pub mod Cells
 pub mod GraphContents
 pub mod Holding
 pub mod Strides

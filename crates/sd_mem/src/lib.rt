@@ -8,8 +8,8 @@
 mod machine;
 mod mem;
 
-pub use machine::{Cell, End, Machine, Station};
+pub use machine::{Address, End, Machine, Station};
 pub use mem::{
-    Memory, a_place_is_the_sum_of_strides_times_numbers, an_element_is_the_one_that_work_reaches,
-    memories_of_a_graph_are_whole,
+    Cells, Elements, Memory, a_place_is_the_sum_of_strides_times_numbers,
+    an_element_is_the_one_that_work_reaches, memories_of_a_graph_are_whole,
 };

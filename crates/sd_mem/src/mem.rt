@@ -6,6 +6,7 @@
 //! element has a place, its number in row order, so that code may find it once and use it often.
 mod beginning;
 mod buffer;
+mod cells;
 mod element;
 mod holding;
 mod laws;
@@ -14,6 +15,7 @@ mod opening;
 mod place;
 mod stream;
 
+pub use cells::{Cells, Elements};
 pub use laws::{
     a_place_is_the_sum_of_strides_times_numbers, an_element_is_the_one_that_work_reaches,
     memories_of_a_graph_are_whole,

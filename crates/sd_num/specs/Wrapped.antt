@@ -1,4 +1,4 @@
--- Elements are 64-bit two's complement numbers.
+-- Numbers modulo 2^64: the elements of 64 bits.
 use Rattle.std.specs.Prelude.{ℤ}
 use Rattle.std.specs.Int.{int_wrap, w64}
 

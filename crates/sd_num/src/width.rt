@@ -81,10 +81,12 @@ impl Cell for i32 {
 
     ghost same = { λ a b equal. equal };
 
+    #[inline(always)]
     fn value(self) -> i64 {
         i64::from(self)
     }
 
+    #[inline(always)]
     fn of(value: i64) -> i32 {
         low_half(value)
     }
@@ -99,10 +101,12 @@ impl Cell for i64 {
 
     ghost same = { λ a b equal. equal };
 
+    #[inline(always)]
     fn value(self) -> i64 {
         self
     }
 
+    #[inline(always)]
     fn of(value: i64) -> i64 {
         value
     }

@@ -1,15 +1,18 @@
 -- What a small source looks for in an arrays file, begins with and prints, computed.
-use Rattle.std.proofs.Common.{◌≡◌, ℕ, pos, List, [], ◌∷◌, ◌++◌, Some, None, refl}
+use Rattle.std.proofs.Common.{◌≡◌, ℕ, ◌^◌, pos, List, [], ◌∷◌, ◌++◌, Some, None, refl}
 use Rattle.sd_lex.specs.PlainTree.{number, named, Expression, Expressions, no_expression, and_expression, span, argument_array, local_array, local_stream, map_scope, no_statement, and_statement, FunctionTree, ProgramTree}
-use Rattle.sd_work.specs.Memory.{Memory, array, stream}
+use Rattle.sd_num.specs.declared.width.Width.TheVariants.{W64}
+use Rattle.sd_work.specs.Memory.{Memory, array, stream, absent}
 use Rattle.sd_work.specs.Move.{Fault}
 use Rattle.sd_work.specs.Step.{Done, Faulted, Spent}
 use Rattle.sd_graph.specs.declared.place.Place.{Place}
 use Rattle.sd_program.specs.Names.{Name}
 use Rattle.sd_json.specs.AnswerText.{line_of}
 use Rattle.sd_json.specs.Given.{Contents}
+use Rattle.sd_says.specs.Held.{array_of}
+use Rattle.sd_says.specs.Declared.{of_caller}
 use Rattle.sd_report.specs.write.RunText.{fault_line, spent_line}
-use Rattle.sd_promise.specs.Source.{names_sought, memory_given, text_said, status_said}
+use Rattle.sd_promise.specs.Source.{names_sought, held_first, memory_given, text_said, status_said}
 
 abbrev N : Name
 N = 78 ∷ []
@@ -55,11 +58,15 @@ names_are : names_sought source.symbols (last ∷ above ∷ []) ≡ record { sym
 names_are = refl
 
 -- arguments as given, zeros for what belongs to the run, nothing for what belongs to points
-memory_is : memory_given source contents ≡ array (pos 4 ∷ pos 5 ∷ pos 6 ∷ []) ∷ array (pos 7 ∷ []) ∷ array (pos 0 ∷ pos 0 ∷ pos 0 ∷ pos 0 ∷ pos 0 ∷ pos 0 ∷ []) ∷ stream [] ∷ array [] ∷ []
+memory_is : memory_given source contents ≡ array W64 (pos 4 ∷ pos 5 ∷ pos 6 ∷ []) ∷ array W64 (pos 7 ∷ []) ∷ array W64 (pos 0 ∷ pos 0 ∷ pos 0 ∷ pos 0 ∷ pos 0 ∷ pos 0 ∷ []) ∷ stream W64 [] ∷ absent ∷ []
 memory_is = refl
 
+-- what is given to an argument stays as it is, even where it is no element of 64 bits
+given_stays : held_first of_caller W64 (array_of (1 ∷ [])) (pos (2 ^ 64) ∷ []) ≡ array W64 (pos (2 ^ 64) ∷ [])
+given_stays = refl
+
 abbrev after : Memory
-after = array (pos 1 ∷ pos 2 ∷ pos 3 ∷ []) ∷ array (pos 9 ∷ []) ∷ array (pos 8 ∷ []) ∷ []
+after = array W64 (pos 1 ∷ pos 2 ∷ pos 3 ∷ []) ∷ array W64 (pos 9 ∷ []) ∷ array W64 (pos 8 ∷ []) ∷ []
 
 -- a line for each argument, with its extents
 text_is : text_said source contents.sizes 20 (Done (record { memory = after; turns = 5 })) ≡ line_of X (3 ∷ []) (pos 1 ∷ pos 2 ∷ pos 3 ∷ []) ++ (line_of Y (1 ∷ []) (pos 9 ∷ []) ++ [])

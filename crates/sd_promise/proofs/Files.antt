@@ -27,6 +27,7 @@ use Rattle.sd_tool.specs.Answers.{status_of_end}
 use Rattle.sd_tool.specs.Work.{Work, source_graph, prepared, run_of_work}
 use Rattle.sd_promise.specs.Promise.{FilesSay}
 use Rattle.sd_promise.specs.Source.{names_sought, file_read, memory_given, lines_of_last, text_said, status_said}
+use Rattle.sd_promise.proofs.Given.{elements_given}
 use Rattle.sd_promise.proofs.Graphs.{names_latest, memory_latest, lines_latest}
 use Rattle.sd_promise.proofs.Prepared.{has_source, own_graph, bound_is, elements_in, opens}
 
@@ -52,7 +53,7 @@ comes_of text source arrays work reading comes =
       contents = contents;
       given = subst (λ names. arrays_reading names arrays ≡ Ok contents) names opened.given;
       bound = opened.bound;
-      memory = sym (memory_latest source.symbols functions fine contents.sizes (elements_in contents.arrays)) ∙ ap (λ tree. opening_memory tree (elements_in contents.arrays)) sized ∙ opened.memory;
+      memory = sym (memory_latest source.symbols functions fine contents.sizes (elements_in contents.arrays) (elements_given (names_in (graph_of source)) arrays contents opened.given)) ∙ ap (λ tree. opening_memory tree (elements_in contents.arrays)) sized ∙ opened.memory;
       lines = λ memory.
           subst (λ tree. done_text tree memory ≡ lines_of_last (sizes_of source contents.sizes) functions memory) sized
           (lines_latest source.symbols functions fine contents.sizes (record { shapes = shapes_of (containers_of (with_sizes (graph_latest source.symbols functions) contents.sizes)); contents = memory }));

@@ -1,8 +1,10 @@
 -- What the graph of a source looks for in an arrays file, begins with and prints is what the source does by itself.
 use Rattle.std.proofs.Common.{◌≡◌, ◌∙◌, ℕ, suc, ℤ, List, [], ◌∷◌, length, map, take, slice_index_or, refl, ap, sym, subst}
-use Rattle.std.specs.List.{flat_map, range_with_len}
+use Rattle.std.specs.List.{flat_map, range_with_len, AllByRecursion}
 use Rattle.sd_num.specs.declared.width.Width.{Width}
+use Rattle.sd_num.specs.declared.width.Width.TheVariants.{W64}
 use Rattle.sd_lex.specs.PlainTree.{FunctionTree}
+use Rattle.sd_work.specs.Memory.{array}
 use Rattle.sd_range.specs.declared.affine.Affine.{Affine}
 use Rattle.sd_graph.specs.PlainTree.{GraphTree}
 use Rattle.sd_graph.specs.Unfold.{opening_of, opening_from, opening_memory}
@@ -32,6 +34,8 @@ use Rattle.sd_tie.proofs.programs_lemmas.Names.{all_names_behind}
 use Rattle.sd_tie.proofs.programs_lemmas.Sizes.{numbered}
 use Rattle.sd_tie.proofs.meant_lemmas.Sources.{graph_latest, named_sizes, values_latest, tree_latest}
 use Rattle.sd_promise.specs.Source.{argument_names, names_sought, held_first, memory_from, memory_of_last, argument_lines, lines_of_last}
+use Rattle.sd_promise.proofs.Given.{AreElements, elements_kept, each_is}
+use Rattle.sd_promise.proofs.Widths.{IsWide, program_wide}
 use Rattle.sd_promise.proofs.Arguments.{made, made_names, made_counted, arguments_first, first_of_joined, StandFrom, stand_first, row, lines_tied}
 
 -- ---- what it looks for
@@ -57,36 +61,37 @@ names_latest symbols (function ∷ earlier) fine = names_tied symbols earlier (g
 
 -- ---- what it begins with
 
-held_same : (sizes : List ℤ) (extents : List Affine) (kind : ContainerKind) (width : Width) (given : List ℤ) →
-    opening_of (bound_container sizes (record { extents = extents; kind = kind; width = width })) given ≡ held_first (owner_of kind) (shape_of (bound_container sizes (record { extents = extents; kind = kind; width = width }))) given
-held_same sizes extents Argument width given = refl
-held_same sizes extents Transient width given = refl
-held_same sizes extents Private width given = refl
-held_same sizes extents Stream width given = refl
-held_same sizes extents PrivateStream width given = refl
+held_same : (sizes : List ℤ) (extents : List Affine) (kind : ContainerKind) (width : Width) (given : List ℤ) → width ≡ W64 → AreElements given →
+    opening_of (bound_container sizes (record { extents = extents; kind = kind; width = width })) given ≡ held_first (owner_of kind) width (shape_of (bound_container sizes (record { extents = extents; kind = kind; width = width }))) given
+held_same sizes extents Argument width given wide are = ap (array width) (elements_kept width wide given are)
+held_same sizes extents Transient width given wide are = refl
+held_same sizes extents Private width given wide are = refl
+held_same sizes extents Stream width given wide are = refl
+held_same sizes extents PrivateStream width given wide are = refl
 
-memory_same : (sizes : List ℤ) (given : List (List ℤ)) (number : ℕ) (containers : Containers) →
+memory_same : (sizes : List ℤ) (given : List (List ℤ)) (number : ℕ) (containers : Containers) → AllByRecursion AreElements given → AllByRecursion IsWide (map (declared_by sizes) containers) →
     opening_from given number (map (bound_entry sizes) containers) ≡ memory_from given number (map (declared_by sizes) containers)
-memory_same sizes given number [] = refl
-memory_same sizes given number (entry ∷ containers) =
-    (λ i. held_same sizes entry.1.extents entry.1.kind entry.1.width (slice_index_or given number []) i ∷ memory_same sizes given (suc number) containers i)
+memory_same sizes given number [] are wide = refl
+memory_same sizes given number (entry ∷ containers) are wide =
+    (λ i. held_same sizes entry.1.extents entry.1.kind entry.1.width (slice_index_or given number []) wide.0 (each_is given number are) i ∷ memory_same sizes given (suc number) containers are wide.1 i)
 
-memory_tied : (named : Named ℤ) (earlier : List FunctionTree) (graphs : Name → GraphTree) (function : FunctionTree) → IsFitting earlier function → (given : List (List ℤ)) →
+memory_tied : (named : Named ℤ) (earlier : List FunctionTree) (graphs : Name → GraphTree) (function : FunctionTree) → IsFitting earlier function → (given : List (List ℤ)) → AllByRecursion AreElements given →
     opening_memory (bound_graph (values_of named) (function_graph (symbols_of named) graphs function)) given ≡ memory_from given 0 (declared_of named function)
-memory_tied named earlier graphs function fine given =
+memory_tied named earlier graphs function fine given are =
     let containers : Containers = containers_of_function (symbols_of named) function in
-    memory_same (values_of named) given 0 containers
-    ∙ ap (memory_from given 0) (sym (all_declared named containers (declared_of named function) (program_declared named function fine.affine.0 fine.affine.1)))
+    let as_declared : declared_of named function ≡ map (declared_by (values_of named)) containers =
+    all_declared named containers (declared_of named function) (program_declared named function fine.affine.0 fine.affine.1) in
+    memory_same (values_of named) given 0 containers are (subst (AllByRecursion IsWide) as_declared (program_wide named function)) ∙ ap (memory_from given 0) (sym as_declared)
 
-pub memory_latest : (symbols : List Name) (functions : List FunctionTree) → AreFitting functions → (sizes : NamedSizes) (given : List (List ℤ)) →
+pub memory_latest : (symbols : List Name) (functions : List FunctionTree) → AreFitting functions → (sizes : NamedSizes) (given : List (List ℤ)) → AllByRecursion AreElements given →
     opening_memory (with_sizes (graph_latest symbols functions) sizes) given ≡ memory_of_last (named_sizes symbols sizes) functions given
-memory_latest symbols [] fine sizes given = refl
-memory_latest symbols (function ∷ earlier) fine sizes given =
+memory_latest symbols [] fine sizes given are = refl
+memory_latest symbols (function ∷ earlier) fine sizes given are =
     let named : Named ℤ = named_sizes symbols sizes in
     let tree : GraphTree = graph_latest symbols (function ∷ earlier) in
     let said = memory_from given 0 (declared_of named function) in
     subst (λ values. opening_memory (bound_graph values tree) given ≡ said) (values_latest symbols function earlier sizes)
-    (subst (λ tree. opening_memory (bound_graph (values_of named) tree) given ≡ said) (tree_latest symbols function earlier sizes) (memory_tied named earlier (graph_named (graphs_latest (symbols_of named) earlier)) function fine.0 given))
+    (subst (λ tree. opening_memory (bound_graph (values_of named) tree) given ≡ said) (tree_latest symbols function earlier sizes) (memory_tied named earlier (graph_named (graphs_latest (symbols_of named) earlier)) function fine.0 given are))
 
 -- ---- what it prints
 

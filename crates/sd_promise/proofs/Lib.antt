@@ -1,4 +1,6 @@
 pub mod Arguments
+pub mod Given
+pub mod Widths
 pub mod Graphs
 pub mod Prepared
 pub mod Files

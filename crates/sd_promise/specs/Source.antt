@@ -1,7 +1,8 @@
 -- What a call makes of a source, by the source alone: what it looks for in an arrays file, the memory of its run, and the text of what comes of it.
 use Rattle.std.specs.Prelude.{ℕ, suc, ◌+◌, ℤ, List, [], ◌∷◌, ◌++◌, map, reverse, Result, slice_index_or}
 use Rattle.sd_lex.specs.PlainTree.{argument_array, Block, no_statement, and_statement, FunctionTree, ProgramTree}
-use Rattle.sd_work.specs.Memory.{Contents, array, Memory, elements_of, contents_of}
+use Rattle.sd_num.specs.declared.width.Width.{Width}
+use Rattle.sd_work.specs.Memory.{Contents, array, absent, Memory, elements_of, contents_of}
 use Rattle.sd_work.specs.Run.{Left}
 use Rattle.sd_work.specs.Step.{Outcome, Done, Faulted, Spent}
 use Rattle.sd_graph.specs.declared.place.Place.{Place}
@@ -38,15 +39,15 @@ file_read source arrays = arrays_reading (names_sought source.symbols (reverse s
 -- ---- the memory that its run begins with
 
 -- what a container holds there: an argument what is given, what belongs to the run zeros or nothing, what belongs to a scope nothing
-abbrev pub held_first : Owner → Shape → (given : List ℤ) → Contents
-held_first of_caller shape given = array given
-held_first of_run shape given = opening_contents shape
-held_first of_scope shape given = array []
+abbrev pub held_first : Owner → Width → Shape → (given : List ℤ) → Contents
+held_first of_caller width shape given = array width given
+held_first of_run width shape given = opening_contents width shape
+held_first of_scope width shape given = absent
 
 -- the containers one after another; the first has this number
 abbrev pub memory_from : (given : List (List ℤ)) → (number : ℕ) → List Declaration → Memory
 memory_from given number [] = []
-memory_from given number (first ∷ rest) = held_first first.owner first.shape (slice_index_or given number []) ∷ memory_from given (suc number) rest
+memory_from given number (first ∷ rest) = held_first first.owner first.width first.shape (slice_index_or given number []) ∷ memory_from given (suc number) rest
 
 -- those of the last program, whose arguments have these elements
 abbrev pub memory_of_last : (sizes : Named ℤ) → List FunctionTree → (given : List (List ℤ)) → Memory

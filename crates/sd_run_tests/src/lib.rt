@@ -1,7 +1,9 @@
 //! Tests of what runs stand on, where no command shows it: the size of an instruction, flat code that reads an array, the
-//! memories of a run, and maps whose points are ordered. They are in a crate of their own so that the crates of runs are proved without them.
+//! memories of a run, maps whose points are ordered, and containers of 32 bits. They are in a crate of their own so that the crates of runs are proved without them.
 #![tactic(auto)]
 
+#[cfg(test)]
+mod building;
 #[cfg(test)]
 mod flat_code;
 #[cfg(test)]
@@ -12,3 +14,5 @@ mod machines;
 mod neighbours;
 #[cfg(test)]
 mod sure;
+#[cfg(test)]
+mod widths;

@@ -3,7 +3,7 @@ use crate::sure::sure;
 use indexmap::IndexMap;
 use sd_graph::{Container, ContainerKind, Width};
 use sd_list::Sequence;
-use sd_mem::{Cell, Machine, Memory, Station};
+use sd_mem::{Address, Machine, Memory, Station};
 use sd_num::Resolution;
 use sd_range::Affine;
 use std::alloc::Global;
@@ -39,8 +39,8 @@ fn station(level: usize, container: u32) -> Station {
 }
 
 /// An element of the array of a memory, counted from the innermost.
-fn cell(level: usize, element: u64) -> Cell {
-    Cell {
+fn cell(level: usize, element: u64) -> Address {
+    Address {
         station: station(level, 0),
         element,
     }

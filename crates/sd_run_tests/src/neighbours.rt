@@ -1,113 +1,27 @@
 //! A map in which each point reads what the next one writes, in order and in any order. No source has an ordered one.
+use crate::building;
+use crate::building::{argument, assignment, element, map, parameter};
 use crate::sure::sure;
-use indexmap::IndexMap;
 use sd_core::{run_picked, run_traced};
 use sd_cut::{Window, cells_within, windowed_base};
-use sd_graph::{
-    Act, Bound, Container, ContainerKind, Item, ItemKind, Link, Memlet, Path, Port, Sdfg, State,
-    Tasklet, Value, Width,
-};
-use sd_list::{Sequence, Text};
-use sd_mem::Memory;
+use sd_graph::{Bound, Path, Width};
+use sd_list::Sequence;
+use sd_mem::{Elements, Memory};
 use sd_race::{RaceError, check, scope_accepted};
-use sd_range::{Affine, Dim, Range, Subset};
 use sd_seq::RunEnd;
 use std::alloc::Global;
 use std::process::Abort;
 use std::test::Fail;
 
-/// The element of the array so far behind that of the point.
-fn link(rt: &impl Abort, alloc: Global, behind: i128) -> Link {
-    let mut index = sure(rt, Affine::variable(alloc, 0));
-    index.constant = behind;
-    let dims = sure(rt, vec![in alloc; Dim::Index(index)]);
-    Link {
-        connector: Text::from(String::new(alloc)),
-        memlet: Memlet {
-            container: 0,
-            subset: Subset {
-                dims: Sequence::from(dims),
-            },
-            volume: 1,
-            resolution: None,
-        },
-    }
-}
-
-fn port(alloc: Global) -> Port {
-    Port {
-        connector: Text::from(String::new(alloc)),
-        dims: 0,
-    }
-}
-
-/// `A[i] = A[i + 1]`
-fn shift(rt: &impl Abort, alloc: Global) -> ItemKind {
-    let input = Value::Input {
-        connector: 0,
-        at: Vec::new(alloc),
-    };
-    let act = Act::Out {
-        connector: 1,
-        at: Vec::new(alloc),
-        value: input,
-    };
-    ItemKind::Task {
-        code: Tasklet {
-            ins: sure(rt, vec![in alloc; port(alloc)]),
-            outs: sure(rt, vec![in alloc; port(alloc)]),
-            variables: Vec::new(alloc),
-            locals: 0,
-            body: sure(rt, vec![in alloc; act]),
-        },
-        ins: sure(rt, vec![in alloc; link(rt, alloc, 1)]),
-        outs: sure(rt, vec![in alloc; link(rt, alloc, 0)]),
-    }
-}
-
-fn item(kind: ItemKind) -> Item {
-    Item { line: 1, kind }
-}
-
-/// The map over `i` from 0 to 2.
-fn map(rt: &impl Abort, alloc: Global, sequential: bool) -> ItemKind {
-    let range = Range {
-        begin: Affine::constant(alloc, 0),
-        ends: Sequence::from(sure(rt, vec![in alloc; Affine::constant(alloc, 2)])),
-        step: 1,
-    };
-    ItemKind::Map {
-        params: sure(rt, vec![in alloc; (0, range)]),
-        private: Vec::new(alloc),
-        body: sure(rt, vec![in alloc; item(shift(rt, alloc))]),
-        sequential,
-    }
-}
-
-/// An array of four elements, and the map alone in the one state.
+/// An array of four elements, and the map of `A[i] = A[i + 1]` over `i` from 0 to 2 alone in the one state.
 fn graph(rt: &impl Abort, alloc: Global, sequential: bool) -> Bound {
-    let extents = sure(rt, vec![in alloc; Affine::constant(alloc, 4)]);
-    let array = Container {
-        extents: Sequence::from(extents),
-        kind: ContainerKind::Argument,
-        width: Width::W64,
-    };
-    let mut containers = IndexMap::new(alloc);
-    sure(rt, containers.insert(sure(rt, "A".to_string(alloc)), array));
-    let state = State {
-        items: sure(rt, vec![in alloc; item(map(rt, alloc, sequential))]),
-        exits: Vec::new(alloc),
-    };
-    let name = sure(rt, "i".to_string(alloc));
-    let graph = Sdfg {
-        name: String::new(alloc),
-        containers,
-        arguments: 1,
-        variables: sure(rt, vec![in alloc; name]),
-        symbols: 0,
-        states: sure(rt, vec![in alloc; state]),
-    };
-    Bound { graph }
+    let from = element(rt, alloc, 0, parameter(rt, alloc, 1), None);
+    let to = element(rt, alloc, 0, parameter(rt, alloc, 0), None);
+    let kind = map(rt, alloc, 2, sequential, assignment(rt, alloc, to, from));
+    let arguments = sure(rt, vec![in alloc; argument(rt, alloc, 4, Width::W64)]);
+    Bound {
+        graph: building::graph(rt, alloc, arguments, kind),
+    }
 }
 
 /// A memory in which the elements are 1 to 4.
@@ -121,7 +35,10 @@ fn memory(rt: &impl Abort, alloc: Global, bound: &Bound) -> Memory {
 fn leaves(rt: &impl Abort, alloc: Global, bound: &Bound, picks: &[u64], wanted: &[i64]) -> bool {
     let memory = memory(rt, alloc, bound);
     match sure(rt, run_picked(alloc, bound, memory, 100, picks)) {
-        RunEnd::Done { memory, turns } => memory.cells(0) == wanted && turns == 97,
+        RunEnd::Done { memory, turns } => match memory.cells(0) {
+            Elements::W64(cells) => cells == wanted && turns == 97,
+            Elements::W32(_) => false,
+        },
         _ => false,
     }
 }

@@ -5,6 +5,7 @@ use Rattle.sd_lex.specs.PlainTree.{copy, reduce, Expression, number, named, elem
 use Rattle.sd_lex.specs.declared.syntax.operator.TwoSign.TheVariants.{Add, Sub, Mul, Less, Equal, FloorDiv}
 use Rattle.sd_lex.specs.declared.syntax.memlet.Lambda.TheVariants.{Sum}
 use Rattle.sd_work.specs.declared.fault.FaultKind.TheVariants.{Division, Subscript}
+use Rattle.sd_num.specs.declared.width.Width.TheVariants.{W64}
 use Rattle.sd_work.specs.Memory.{Memory, array, stream}
 use Rattle.sd_work.specs.Move.{fault_at}
 use Rattle.sd_work.specs.Step.{Outcome, Done, Faulted, Spent}
@@ -79,9 +80,9 @@ abbrev says : List FunctionTree → (most : ℕ) → Memory → (turns : ℕ) �
 says functions most memory turns = said_within most (record { symbols = N ∷ []; functions = functions }) ((N, pos 2) ∷ []) memory turns
 
 abbrev two_arrays : Memory
-two_arrays = array (pos 3 ∷ pos 4 ∷ []) ∷ array (pos 0 ∷ pos 10 ∷ []) ∷ array [] ∷ []
+two_arrays = array W64 (pos 3 ∷ pos 4 ∷ []) ∷ array W64 (pos 0 ∷ pos 10 ∷ []) ∷ array W64 [] ∷ []
 
-sums_said : says (sums ∷ []) 3 two_arrays 20 ≡ Some (Done (record { memory = array (pos 3 ∷ pos 4 ∷ []) ∷ array (pos 7 ∷ pos 19 ∷ []) ∷ array [] ∷ []; turns = 10 }))
+sums_said : says (sums ∷ []) 3 two_arrays 20 ≡ Some (Done (record { memory = array W64 (pos 3 ∷ pos 4 ∷ []) ∷ array W64 (pos 7 ∷ pos 19 ∷ []) ∷ array W64 [] ∷ []; turns = 10 }))
 unfolding int_wrap
 sums_said = refl
 
@@ -90,9 +91,9 @@ unfolding int_wrap
 sums_spent = refl
 
 abbrev three_arrays : Memory
-three_arrays = array (pos 0 ∷ pos 0 ∷ pos 3 ∷ pos 4 ∷ []) ∷ array (pos 0 ∷ pos 10 ∷ []) ∷ []
+three_arrays = array W64 (pos 0 ∷ pos 0 ∷ pos 3 ∷ pos 4 ∷ []) ∷ array W64 (pos 0 ∷ pos 10 ∷ []) ∷ []
 
-call_said : says (sums ∷ calls_it ∷ []) 3 three_arrays 20 ≡ Some (Done (record { memory = array (pos 0 ∷ pos 0 ∷ pos 3 ∷ pos 4 ∷ []) ∷ array (pos 7 ∷ pos 19 ∷ []) ∷ []; turns = 10 }))
+call_said : says (sums ∷ calls_it ∷ []) 3 three_arrays 20 ≡ Some (Done (record { memory = array W64 (pos 0 ∷ pos 0 ∷ pos 3 ∷ pos 4 ∷ []) ∷ array W64 (pos 7 ∷ pos 19 ∷ []) ∷ []; turns = 10 }))
 unfolding int_wrap
 call_said = refl
 
@@ -145,9 +146,9 @@ countdown = record {
 }
 
 abbrev start : Memory
-start = array (pos 2 ∷ []) ∷ array (pos 100 ∷ []) ∷ stream [] ∷ array [] ∷ []
+start = array W64 (pos 2 ∷ []) ∷ array W64 (pos 100 ∷ []) ∷ stream W64 [] ∷ array W64 [] ∷ []
 
-countdown_said : says (countdown ∷ []) 20 start 20 ≡ Some (Done (record { memory = array (pos 2 ∷ []) ∷ array (pos 171 ∷ []) ∷ stream [] ∷ array [] ∷ []; turns = 8 }))
+countdown_said : says (countdown ∷ []) 20 start 20 ≡ Some (Done (record { memory = array W64 (pos 2 ∷ []) ∷ array W64 (pos 171 ∷ []) ∷ stream W64 [] ∷ array W64 [] ∷ []; turns = 8 }))
 unfolding int_wrap
 countdown_said = refl
 
@@ -168,10 +169,10 @@ red = record {
 }
 
 abbrev six : Memory
-six = array (pos 1 ∷ pos 2 ∷ pos 3 ∷ pos 4 ∷ pos 5 ∷ pos 6 ∷ []) ∷ array (pos 9 ∷ pos 9 ∷ []) ∷ array (pos 0 ∷ pos 0 ∷ pos 0 ∷ pos 0 ∷ pos 0 ∷ pos 0 ∷ []) ∷ []
+six = array W64 (pos 1 ∷ pos 2 ∷ pos 3 ∷ pos 4 ∷ pos 5 ∷ pos 6 ∷ []) ∷ array W64 (pos 9 ∷ pos 9 ∷ []) ∷ array W64 (pos 0 ∷ pos 0 ∷ pos 0 ∷ pos 0 ∷ pos 0 ∷ pos 0 ∷ []) ∷ []
 
 red_said : says (red ∷ []) 1 six 0 ≡ Some (Done (record {
-  memory = array (pos 1 ∷ pos 2 ∷ pos 3 ∷ pos 4 ∷ pos 5 ∷ pos 6 ∷ []) ∷ array (pos 6 ∷ pos 15 ∷ []) ∷ array (pos 1 ∷ pos 2 ∷ pos 3 ∷ pos 4 ∷ pos 5 ∷ pos 6 ∷ []) ∷ [];
+  memory = array W64 (pos 1 ∷ pos 2 ∷ pos 3 ∷ pos 4 ∷ pos 5 ∷ pos 6 ∷ []) ∷ array W64 (pos 6 ∷ pos 15 ∷ []) ∷ array W64 (pos 1 ∷ pos 2 ∷ pos 3 ∷ pos 4 ∷ pos 5 ∷ pos 6 ∷ []) ∷ [];
   turns = 0;
 }))
 unfolding int_wrap
@@ -192,7 +193,7 @@ fib = record {
       (and_statement (set 14 o (two Add (named e) (number (negsuc 0)))) (and_statement (set 15 o (two Add (named e) (number (negsuc 1)))) no_statement)) no_statement) no_statement)) no_statement)))) no_statement));
 }
 
-fib_said : says (fib ∷ []) 20 (array (pos 5 ∷ []) ∷ array (pos 0 ∷ []) ∷ stream [] ∷ array [] ∷ []) 16 ≡ Some (Done (record { memory = array (pos 5 ∷ []) ∷ array (pos 5 ∷ []) ∷ stream [] ∷ array [] ∷ []; turns = 0 }))
+fib_said : says (fib ∷ []) 20 (array W64 (pos 5 ∷ []) ∷ array W64 (pos 0 ∷ []) ∷ stream W64 [] ∷ array W64 [] ∷ []) 16 ≡ Some (Done (record { memory = array W64 (pos 5 ∷ []) ∷ array W64 (pos 5 ∷ []) ∷ stream W64 [] ∷ array W64 [] ∷ []; turns = 0 }))
 unfolding int_wrap
 fib_said = refl
 
@@ -250,7 +251,7 @@ shows_element = record {
       (and_statement (output 7 o (whole_of B)) (and_statement (set_at 8 o (at_one (named e)) (number (pos 0))) no_statement))) no_statement));
 }
 
-shows_element_said : says (shows_element ∷ []) 3 (array (pos 3 ∷ pos 4 ∷ []) ∷ array (pos 0 ∷ pos 10 ∷ []) ∷ stream [] ∷ array [] ∷ []) 20
+shows_element_said : says (shows_element ∷ []) 3 (array W64 (pos 3 ∷ pos 4 ∷ []) ∷ array W64 (pos 0 ∷ pos 10 ∷ []) ∷ stream W64 [] ∷ array W64 [] ∷ []) 20
     ≡ Some (Faulted (fault_at (record { frames = record { line = 6; values = (e, pos 5) ∷ [] } ∷ [] }) Subscript))
 unfolding int_wrap
 shows_element_said = refl
@@ -275,13 +276,13 @@ doubles = record {
 }
 
 -- what is declared in a loop is not zero again in its next round: 3 and 1 and 2 are 6
-doubles_said : says (doubles ∷ []) 9 (array (pos 3 ∷ pos 4 ∷ []) ∷ array (pos 0 ∷ pos 10 ∷ []) ∷ array (pos 0 ∷ []) ∷ []) 20
-    ≡ Some (Done (record { memory = array (pos 6 ∷ pos 4 ∷ []) ∷ array (pos 0 ∷ pos 10 ∷ []) ∷ array (pos 2 ∷ []) ∷ []; turns = 14 }))
+doubles_said : says (doubles ∷ []) 9 (array W64 (pos 3 ∷ pos 4 ∷ []) ∷ array W64 (pos 0 ∷ pos 10 ∷ []) ∷ array W64 (pos 0 ∷ []) ∷ []) 20
+    ≡ Some (Done (record { memory = array W64 (pos 6 ∷ pos 4 ∷ []) ∷ array W64 (pos 0 ∷ pos 10 ∷ []) ∷ array W64 (pos 2 ∷ []) ∷ []; turns = 14 }))
 unfolding int_wrap
 doubles_said = refl
 
 -- too few tests allowed: nothing is said
-doubles_unsaid : says (doubles ∷ []) 2 (array (pos 3 ∷ pos 4 ∷ []) ∷ array (pos 0 ∷ pos 10 ∷ []) ∷ array (pos 0 ∷ []) ∷ []) 20 ≡ None
+doubles_unsaid : says (doubles ∷ []) 2 (array W64 (pos 3 ∷ pos 4 ∷ []) ∷ array W64 (pos 0 ∷ pos 10 ∷ []) ∷ array W64 (pos 0 ∷ []) ∷ []) 20 ≡ None
 unfolding int_wrap
 doubles_unsaid = refl
 
@@ -330,9 +331,9 @@ abbrev rows_source : ProgramTree
 rows_source = record { symbols = N ∷ M ∷ []; functions = dot ∷ rows ∷ [] }
 
 rows_said : said_within 1 rows_source ((M, pos 3) ∷ (N, pos 2) ∷ [])
-    (array (pos 1 ∷ pos 2 ∷ pos 3 ∷ pos 4 ∷ pos 5 ∷ pos 6 ∷ []) ∷ array (pos 10 ∷ pos 100 ∷ pos 1000 ∷ []) ∷ array (pos 7 ∷ pos 7 ∷ []) ∷ []) 6
+    (array W64 (pos 1 ∷ pos 2 ∷ pos 3 ∷ pos 4 ∷ pos 5 ∷ pos 6 ∷ []) ∷ array W64 (pos 10 ∷ pos 100 ∷ pos 1000 ∷ []) ∷ array W64 (pos 7 ∷ pos 7 ∷ []) ∷ []) 6
     ≡ Some (Done (record {
-      memory = array (pos 1 ∷ pos 2 ∷ pos 3 ∷ pos 4 ∷ pos 5 ∷ pos 6 ∷ []) ∷ array (pos 10 ∷ pos 100 ∷ pos 1000 ∷ []) ∷ array (pos 3210 ∷ pos 6540 ∷ []) ∷ [];
+      memory = array W64 (pos 1 ∷ pos 2 ∷ pos 3 ∷ pos 4 ∷ pos 5 ∷ pos 6 ∷ []) ∷ array W64 (pos 10 ∷ pos 100 ∷ pos 1000 ∷ []) ∷ array W64 (pos 3210 ∷ pos 6540 ∷ []) ∷ [];
       turns = 0;
     }))
 unfolding int_wrap

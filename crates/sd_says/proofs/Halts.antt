@@ -4,6 +4,8 @@ use Rattle.std.specs.Bool.{⊤}
 use Rattle.sd_num.specs.declared.resolution.Resolution.{Resolution}
 use Rattle.sd_work.specs.declared.fault.FaultKind.{FaultKind}
 use Rattle.sd_work.specs.declared.fault.FaultKind.TheVariants.{Subscript}
+use Rattle.sd_num.specs.declared.width.Width.{Width}
+use Rattle.sd_num.specs.declared.width.Width.TheVariants.{W64}
 use Rattle.sd_work.specs.Memory.{Contents, array, stream, Memory, Memories, Reference, seen, values_of, waiting}
 use Rattle.sd_work.specs.Change.{write, written, with_elements, take, apply, changed_at, without, with_values}
 use Rattle.sd_work.specs.Leaf.{Pending, write_value, transfer, push_to, Evaluation, instance_of, copy_of, identities, reduction_of}
@@ -210,11 +212,11 @@ less-without : (values : List ℤ) → length (without 0 values) ≤ length valu
 less-without [] = omega arith
 less-without (value ∷ values) = omega arith
 
-less-contents : (contents : Contents) → length (values_of (with_values (without 0) contents)) ≤ length (values_of contents)
-less-contents (array elements) = omega arith
-less-contents (stream values) = less-without values
+less-contents : (contents : Contents) → length (values_of (with_values (λ width. without 0) contents)) ≤ length (values_of contents)
+less-contents (array width elements) = omega arith
+less-contents (stream width values) = less-without values
 
-less-memory : (container c : ℕ) (memory : Memory) → length (values_of (slice_index_or (changed_at container (with_values (without 0)) memory) c (stream []))) ≤ length (values_of (slice_index_or memory c (stream [])))
+less-memory : (container c : ℕ) (memory : Memory) → length (values_of (slice_index_or (changed_at container (with_values (λ width. without 0)) memory) c (stream W64 []))) ≤ length (values_of (slice_index_or memory c (stream W64 [])))
 less-memory container c [] = omega arith
 less-memory zero zero (contents ∷ memory) = less-contents contents
 less-memory zero (suc c) (contents ∷ memory) = omega arith
@@ -230,13 +232,13 @@ take-less (suc level) container (memory ∷ memories) zero c = omega arith
 take-less (suc level) container (memory ∷ memories) (suc l) c = take-less level container memories l c
 
 -- and its own stream shorter
-taken-contents : (contents : Contents) (value : ℤ) (values : List ℤ) → values_of contents ≡ value ∷ values → length (values_of (with_values (without 0) contents)) ≤ length values
-taken-contents (array elements) value values e = cc
-taken-contents (stream []) value values e = cc
-taken-contents (stream (first ∷ rest)) value values e = let r : rest ≡ values = cc in subst (λ (v : List ℤ). length rest ≤ length v) r (omega arith)
+taken-contents : (contents : Contents) (value : ℤ) (values : List ℤ) → values_of contents ≡ value ∷ values → length (values_of (with_values (λ width. without 0) contents)) ≤ length values
+taken-contents (array width elements) value values e = cc
+taken-contents (stream width []) value values e = cc
+taken-contents (stream width (first ∷ rest)) value values e = let r : rest ≡ values = cc in subst (λ (v : List ℤ). length rest ≤ length v) r (omega arith)
 
-taken-memory : (container : ℕ) (memory : Memory) (value : ℤ) (values : List ℤ) → values_of (slice_index_or memory container (stream [])) ≡ value ∷ values →
-    length (values_of (slice_index_or (changed_at container (with_values (without 0)) memory) container (stream []))) ≤ length values
+taken-memory : (container : ℕ) (memory : Memory) (value : ℤ) (values : List ℤ) → values_of (slice_index_or memory container (stream W64 [])) ≡ value ∷ values →
+    length (values_of (slice_index_or (changed_at container (with_values (λ width. without 0)) memory) container (stream W64 []))) ≤ length values
 taken-memory container [] value values e = cc
 taken-memory zero (contents ∷ memory) value values e = taken-contents contents value values e
 taken-memory (suc container) (contents ∷ memory) value values e = taken-memory container memory value values e
@@ -291,7 +293,7 @@ module _ (level container : ℕ) (run : ℕ → ℤ → Memories → ℕ → Com
 -- ---- copies and reductions
 
 module _ (change : Contents → Contents) (kept : (contents : Contents) → length (values_of (change contents)) ≤ length (values_of contents)) where
-  kept-memory : (container c : ℕ) (memory : Memory) → length (values_of (slice_index_or (changed_at container change memory) c (stream []))) ≤ length (values_of (slice_index_or memory c (stream [])))
+  kept-memory : (container c : ℕ) (memory : Memory) → length (values_of (slice_index_or (changed_at container change memory) c (stream W64 []))) ≤ length (values_of (slice_index_or memory c (stream W64 [])))
   kept-memory container c [] = omega arith
   kept-memory zero zero (contents ∷ memory) = kept contents
   kept-memory zero (suc c) (contents ∷ memory) = omega arith
@@ -305,12 +307,12 @@ module _ (change : Contents → Contents) (kept : (contents : Contents) → leng
   kept-memories (suc level) container (memory ∷ memories) zero c = omega arith
   kept-memories (suc level) container (memory ∷ memories) (suc l) c = kept-memories level container memories l c
 
-elements-kept : (change : List ℤ → List ℤ) (contents : Contents) → length (values_of (with_elements change contents)) ≤ length (values_of contents)
-elements-kept change (array elements) = omega arith
-elements-kept change (stream values) = omega arith
+elements-kept : (change : Width → List ℤ → List ℤ) (contents : Contents) → length (values_of (with_elements change contents)) ≤ length (values_of contents)
+elements-kept change (array width elements) = omega arith
+elements-kept change (stream width values) = omega arith
 
 write-kept : (to : Reference) (by : Option Resolution) (value : ℤ) (memories : Memories) → NoLonger (apply (write to by value) memories) memories
-write-kept to by value memories = kept-memories (with_elements (changed_at to.element (written by value))) (elements-kept (changed_at to.element (written by value))) to.level to.container memories
+write-kept to by value memories = kept-memories (with_elements (λ width. changed_at to.element (written width by value))) (elements-kept (λ width. changed_at to.element (written width by value))) to.level to.container memories
 
 -- work that pushes nothing
 pub quiet-halts : (place : Place) (effects : List Pending) → PushesNothing effects → (memories : Memories) (turns : ℕ) → Halts (λ m. big_doing place effects memories turns) memories turns

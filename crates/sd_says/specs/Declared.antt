@@ -3,13 +3,16 @@ use Rattle.std.specs.Prelude.{ℕ, suc, nat_eq, ℤ, List, [], ◌∷◌, ◌++�
 use Rattle.std.specs.List.{list_any}
 use Rattle.sd_lex.specs.PlainTree.{Expressions, StatementTree, argument_array, local_array, local_stream, map_scope, consume_scope, for_loop, while_loop, branch, Block, no_statement, and_statement, FunctionTree}
 use Rattle.sd_lex.specs.StatementKind.{has_connector}
-use Rattle.sd_work.specs.Memory.{Memory, array}
+use Rattle.sd_num.specs.declared.width.Width.{Width}
+use Rattle.sd_num.specs.declared.width.Width.TheVariants.{W64}
+use Rattle.sd_work.specs.Memory.{Memory, absent}
 use Rattle.sd_work.specs.Change.{changed_at}
 use Rattle.sd_program.specs.Names.{Name, Named}
 use Rattle.sd_task.specs.in_force.Names.{with_numbered}
 use Rattle.sd_task.specs.in_force.Ranges as affine
 use Rattle.sd_task.specs.in_force.Subsets.{are_units}
 use Rattle.sd_graph.specs.Context.{Reach}
+use Rattle.sd_graph.specs.Unfold.{one_element}
 use Rattle.sd_says.specs.Exact.{extents_in}
 use Rattle.sd_says.specs.Held.{Shape, array_of, a_stream, Held, opening_contents, own_reach}
 use Rattle.sd_says.specs.Setting.{taken_in}
@@ -22,6 +25,8 @@ pub data Owner : Type 0 where
 
 pub record Declaration : Type 0 where
   pub shape : Shape
+  -- of its elements or values; each declaration says 64 bits
+  pub width : Width
   -- its extents are written as 1 each
   pub unit : Bool
   pub owner : Owner
@@ -36,16 +41,16 @@ is_unit symbols extents = are_units (affine.extents_of (with_numbered symbols 0 
 
 -- the element of a consume scope: an array with one element
 abbrev pub element_declared : Declaration
-element_declared = record { shape = array_of (1 ∷ []); unit = true; owner = of_scope }
+element_declared = record { shape = array_of (1 ∷ []); width = W64; unit = true; owner = of_scope }
 
 abbrev pub stream_declared : Owner → Declaration
-stream_declared owner = record { shape = a_stream; unit = true; owner = owner }
+stream_declared owner = record { shape = a_stream; width = W64; unit = true; owner = owner }
 
 -- the size symbols with their values
 module _ (sizes : Named ℤ) where
   abbrev pub array_declared : Expressions → Owner → Declaration
   array_declared extents owner =
-      record { shape = array_of (extents_in (taken_in sizes []) extents); unit = is_unit (map (λ size. size.0) sizes) extents; owner = owner }
+      record { shape = array_of (extents_in (taken_in sizes []) extents); width = W64; unit = is_unit (map (λ size. size.0) sizes) extents; owner = owner }
 
   abbrev mutual
     -- the containers that a statement declares, in the blocks below it too
@@ -73,7 +78,7 @@ module _ (sizes : Named ℤ) where
 
 -- what a number stands for that no container has: an array of a scope, without extents
 abbrev pub no_declaration : Declaration
-no_declaration = record { shape = array_of []; unit = true; owner = of_scope }
+no_declaration = record { shape = array_of []; width = W64; unit = true; owner = of_scope }
 
 abbrev pub declaration_at : List Declaration → (number : ℕ) → Declaration
 declaration_at all number = slice_index_or all number no_declaration
@@ -88,10 +93,10 @@ own_held all number = held_with all number (own_reach (declaration_at all number
 
 -- ---- memories
 
--- a memory in which those containers begin of which this holds; each other one is an array without elements
+-- a memory in which those containers begin of which this holds, each at its width; each other one is absent
 abbrev pub memory_where : (has : ℕ → Owner → Bool) → (number : ℕ) → List Declaration → Memory
 memory_where has number [] = []
-memory_where has number (first ∷ rest) = (if has number first.owner then opening_contents first.shape else array []) ∷ memory_where has (suc number) rest
+memory_where has number (first ∷ rest) = (if has number first.owner then opening_contents first.width first.shape else absent) ∷ memory_where has (suc number) rest
 
 abbrev pub is_of_run : Owner → Bool
 is_of_run of_caller = false
@@ -106,6 +111,6 @@ run_memory all = memory_where (λ number owner. is_of_run owner) 0 all
 abbrev pub scope_memory : List Declaration → (own : List ℕ) → Memory
 scope_memory all own = memory_where (λ number owner. list_any (nat_eq number) own) 0 all
 
--- the memory of an element, whose container has the value taken
+-- the memory of an element, whose container has the value taken, at its width
 abbrev pub element_memory : List Declaration → (element : ℕ) → (own : List ℕ) → (value : ℤ) → Memory
-element_memory all element own value = changed_at element (λ old. array (value ∷ [])) (scope_memory all (element ∷ own))
+element_memory all element own value = changed_at element (λ old. one_element (declaration_at all element).width value) (scope_memory all (element ∷ own))

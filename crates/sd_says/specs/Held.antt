@@ -1,6 +1,7 @@
 -- What a name of a container stands for: what it holds, and how it is reached from where a statement stands.
 use Rattle.std.specs.Prelude.{ℕ, ℤ, pos, List, [], replicate, Option, Some, None, Bool, true, if◌then◌else◌}
 use Rattle.sd_num.specs.declared.resolution.Resolution.{Resolution}
+use Rattle.sd_num.specs.declared.width.Width.{Width}
 use Rattle.sd_range.specs.Points.{product}
 use Rattle.sd_range.specs.Subset.{inside}
 use Rattle.sd_work.specs.Memory.{Contents, array, stream, Reference}
@@ -27,10 +28,10 @@ extents_of_shape a_stream = []
 abbrev pub extents_of : Held → List ℕ
 extents_of held = extents_of_shape held.shape
 
--- zeros, or nothing
-abbrev pub opening_contents : Shape → Contents
-opening_contents (array_of extents) = array (replicate (product extents) (pos 0))
-opening_contents a_stream = stream []
+-- zeros, or nothing, at a width
+abbrev pub opening_contents : Width → Shape → Contents
+opening_contents width (array_of extents) = array width (replicate (product extents) (pos 0))
+opening_contents width a_stream = stream width []
 
 -- the number of an element in row order, where the index is inside
 abbrev pub element_number : List ℕ → (index : List ℤ) → Option ℕ

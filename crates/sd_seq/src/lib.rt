@@ -12,5 +12,6 @@ mod run;
 mod run_end;
 mod sequential;
 
+pub use run::run_item;
 pub use run_end::RunEnd;
 pub use sequential::run_seq;

@@ -46,10 +46,10 @@ fn run_items(
     Ok(End::Finished)
 }
 
-/// One item with its line.
+/// One item with its line: it ends as its work does from left to right.
 #[cycle(run)]
 #[tactic(auto, using(sd_row::proofs::instance_lemmas::Bodies::item_opened))]
-fn run_item(
+pub fn run_item(
     alloc: Global,
     item: &Item,
     graph: &Sdfg,

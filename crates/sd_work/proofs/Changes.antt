@@ -1,12 +1,14 @@
 -- What changes of memories keep, and when two of them commute.
 use Rattle.std.proofs.Common.{◌≡◌, ◌≢◌, ℕ, zero, suc, List, [], ◌∷◌, Option, Some, None, ℤ, pos, slice_index_or, refl, sym, ◌∙◌, ap, subst, FitsSigned, w64}
-use Rattle.std.proofs.lemmas.Int.{SFits-int_wrap, int_wrap_fits}
-use Rattle.sd_num.specs.Wrapped.{wrapped}
+use Rattle.std.proofs.lemmas.Int.{int_wrap_fits}
+use Rattle.sd_num.specs.Width.{wrapped_to, IsElement}
 use Rattle.sd_num.specs.Resolution.{resolved}
+use Rattle.sd_num.specs.declared.width.Width.{Width}
 use Rattle.sd_num.specs.declared.resolution.Resolution.{Resolution}
-use Rattle.sd_num.specs.declared.resolution.Resolution.TheVariants.{Last}
-use Rattle.sd_num.proofs.ResolutionLemmas.{resolved_comm, resolved_assoc, FitsSigned-resolved}
-use Rattle.sd_work.specs.Memory.{Contents, array, stream, Memory, Memories, Reference, elements_of, values_of, contents_of, look, waiting}
+use Rattle.sd_num.proofs.ResolutionLemmas.{FitsSigned-resolved}
+use Rattle.sd_num.proofs.StoredLemmas.{wrapped_to-element, stored-exchanges, IsElement-stored}
+use Rattle.sd_num.specs.declared.width.Width.TheVariants.{W64}
+use Rattle.sd_work.specs.Memory.{Contents, array, stream, Memory, Memories, Reference, width_of, elements_of, values_of, contents_of, look, waiting}
 use Rattle.sd_work.specs.Change.{Change, nothing, write, push, take, became, written, changed_at, with_elements, with_values, with_contents, apply, outer, outer_write, own_after}
 use Rattle.sd_work.specs.Harmless.{SameCommuting, AreTwo, AreHarmless, SparesElement, SparesStream}
 
@@ -32,54 +34,46 @@ same_reference r q a b c = λ i. record { level = a i; container = b i; element 
 
 -- ---- what is written to one element
 
--- two values are resolved into an element in either order
-exchanged : (r : Resolution) → r ≢ Last → (a x y : ℤ) → FitsSigned w64 a → FitsSigned w64 x → FitsSigned w64 y → resolved r (resolved r a x) y ≡ resolved r (resolved r a y) x
-exchanged r commutes a x y p q s = resolved_assoc r a x y p q s ∙ ap (resolved r a) (resolved_comm r x y commutes) ∙ sym (resolved_assoc r a y x p s q)
-
--- what is resolved of two whole numbers that are taken as elements is an element
-wrapped-resolved : (r : Resolution) (v old : ℤ) → wrapped (resolved r (wrapped old) (wrapped v)) ≡ resolved r (wrapped old) (wrapped v)
-wrapped-resolved r v old = int_wrap_fits w64 _ (FitsSigned-resolved r (wrapped old) (wrapped v) (SFits-int_wrap w64 old) (SFits-int_wrap w64 v))
-
-written-resolved : (r : Resolution) → r ≢ Last → (v w old : ℤ) → written (Some r) v (written (Some r) w old) ≡ written (Some r) w (written (Some r) v old)
-written-resolved r commutes v w old =
-    ap (λ x. resolved r x (wrapped v)) (wrapped-resolved r w old)
-    ∙ exchanged r commutes (wrapped old) (wrapped w) (wrapped v) (SFits-int_wrap w64 old) (SFits-int_wrap w64 w) (SFits-int_wrap w64 v)
-    ∙ sym (ap (λ x. resolved r x (wrapped w)) (wrapped-resolved r v old))
-
 -- two values are written in either order where one resolution that commutes resolves both
-pub written-written : (by to : Option Resolution) → SameCommuting by to → (v w old : ℤ) → written by v (written to w old) ≡ written to w (written by v old)
-written-written None to h v w old = elim h [ ]
-written-written (Some r) None h v w old = elim h [ ]
-written-written (Some r) (Some q) h v w old =
-    subst (λ z. written (Some r) v (written (Some z) w old) ≡ written (Some z) w (written (Some r) v old)) h.0 (written-resolved r h.1 v w old)
+pub written-written : (width : Width) (by to : Option Resolution) → SameCommuting by to → (v w old : ℤ) → written width by v (written width to w old) ≡ written width to w (written width by v old)
+written-written width None to h v w old = elim h [ ]
+written-written width (Some r) None h v w old = elim h [ ]
+written-written width (Some r) (Some q) h v w old =
+    subst (λ z. written width (Some r) v (written width (Some z) w old) ≡ written width (Some z) w (written width (Some r) v old)) h.0 (stored-exchanges width r h.1 old w v)
 
--- an element that is written is the new one, or the two resolved
-pub written-became : (by : Option Resolution) (value old : ℤ) → FitsSigned w64 value → FitsSigned w64 old → written by value old ≡ became by old value
-written-became by value old p q = λ i. became by (int_wrap_fits w64 old q i) (int_wrap_fits w64 value p i)
+-- an element that is written is the new one, or the two resolved, and what they come to is wrapped
+pub written-became : (width : Width) (by : Option Resolution) (value old : ℤ) → IsElement width value → IsElement width old → written width by value old ≡ wrapped_to width (became by old value)
+written-became width None value old p q = refl
+written-became width (Some r) value old p q =
+    λ i. wrapped_to width (resolved r (wrapped_to-element width old q i) (wrapped_to-element width value p i))
+
+-- at 64 bits the new one, or the two resolved, is an element as it is
+pub written-wide : (by : Option Resolution) (value old : ℤ) → FitsSigned w64 value → FitsSigned w64 old → written W64 by value old ≡ became by old value
+written-wide None value old p q = int_wrap_fits w64 value p
+written-wide (Some r) value old p q = written-became W64 (Some r) value old p q ∙ int_wrap_fits w64 _ (FitsSigned-resolved r old value q p)
 
 -- what is written is an element
-pub FitsSigned-written : (by : Option Resolution) (value old : ℤ) → FitsSigned w64 (written by value old)
-FitsSigned-written None value old = SFits-int_wrap w64 value
-FitsSigned-written (Some r) value old = FitsSigned-resolved r (wrapped old) (wrapped value) (SFits-int_wrap w64 old) (SFits-int_wrap w64 value)
+pub IsElement-written : (width : Width) (by : Option Resolution) (value old : ℤ) → IsElement width (written width by value old)
+IsElement-written width by value old = IsElement-stored width by old value
 
 -- ---- two changes
 
-elements_commute : (f g : List ℤ → List ℤ) → ((xs : List ℤ) → f (g xs) ≡ g (f xs)) → (c : Contents) → with_elements f (with_elements g c) ≡ with_elements g (with_elements f c)
-elements_commute f g h (array elements) = ap array (h elements)
-elements_commute f g h (stream values) = refl
+elements_commute : (f g : Width → List ℤ → List ℤ) → ((width : Width) (xs : List ℤ) → f width (g width xs) ≡ g width (f width xs)) → (c : Contents) → with_elements f (with_elements g c) ≡ with_elements g (with_elements f c)
+elements_commute f g h (array width elements) = ap (array width) (h width elements)
+elements_commute f g h (stream width values) = refl
 
-kinds_commute : (f g : List ℤ → List ℤ) → (c : Contents) → with_elements f (with_values g c) ≡ with_values g (with_elements f c)
-kinds_commute f g (array elements) = refl
-kinds_commute f g (stream values) = refl
+kinds_commute : (f g : Width → List ℤ → List ℤ) → (c : Contents) → with_elements f (with_values g c) ≡ with_values g (with_elements f c)
+kinds_commute f g (array width elements) = refl
+kinds_commute f g (stream width values) = refl
 
 -- a write and a change of a stream
-write_and_stream : (to : Reference) (l c : ℕ) (f g : List ℤ → List ℤ) (s : Memories) →
+write_and_stream : (to : Reference) (l c : ℕ) (f g : Width → List ℤ → List ℤ) (s : Memories) →
     with_contents to.level to.container (with_elements f) (with_contents l c (with_values g) s) ≡ with_contents l c (with_values g) (with_contents to.level to.container (with_elements f) s)
 write_and_stream to l c f g s =
     changed_at-changed_at to.level l _ _ (λ e m. changed_at-changed_at to.container c _ _ (λ e' k. kinds_commute f g k) m) s
 
 -- changes of two streams
-two_streams : (l c m d : ℕ) → AreTwo l c m d → (f g : List ℤ → List ℤ) (s : Memories) →
+two_streams : (l c m d : ℕ) → AreTwo l c m d → (f g : Width → List ℤ → List ℤ) (s : Memories) →
     with_contents l c (with_values f) (with_contents m d (with_values g) s) ≡ with_contents m d (with_values g) (with_contents l c (with_values f) s)
 two_streams l c m d h f g s =
     changed_at-changed_at l m _ _ (λ e k. changed_at-changed_at c d _ _ (λ e' x. elim (h e e') [ ]) k) s
@@ -94,7 +88,7 @@ apply-apply (push l c x) nothing h s = refl
 apply-apply (take l c k) nothing h s = refl
 apply-apply (write r by x) (write q to y) h s =
     changed_at-changed_at r.level q.level _ _ (λ e m. changed_at-changed_at r.container q.container _ _ (λ e' c.
-    elements_commute _ _ (changed_at-changed_at r.element q.element _ _ (λ e''. written-written by to (h (same_reference r q e e' e'')) x y)) c) m) s
+    elements_commute _ _ (λ width. changed_at-changed_at r.element q.element _ _ (λ e''. written-written width by to (h (same_reference r q e e' e'')) x y)) c) m) s
 apply-apply (write r by x) (push l c y) h s = write_and_stream r l c _ _ s
 apply-apply (write r by x) (take l c k) h s = write_and_stream r l c _ _ s
 apply-apply (push l c x) (write q to y) h s = sym (write_and_stream q l c _ _ s)
@@ -110,19 +104,19 @@ apply-apply (take l c k) (take m d j) h s = two_streams l c m d h _ _ s
 seen-with_contents : {B : Type 0} (q : Contents → B) (l c m d : ℕ) (f : Contents → Contents) → (l ≡ m → c ≡ d → (k : Contents) → q (f k) ≡ q k) → (s : Memories) →
     q (contents_of l c (with_contents m d f s)) ≡ q (contents_of l c s)
 seen-with_contents q l c m d f h s =
-    seen-changed_at [] (λ memory. q (slice_index_or memory c (stream []))) l m _ (λ e memory. seen-changed_at (stream []) q c d f (λ e' k. h e e' k) memory) s
+    seen-changed_at [] (λ memory. q (slice_index_or memory c (stream W64 []))) l m _ (λ e memory. seen-changed_at (stream W64 []) q c d f (λ e' k. h e e' k) memory) s
 
-elements_stay : (f : List ℤ → List ℤ) (c : Contents) → elements_of (with_values f c) ≡ elements_of c
-elements_stay f (array elements) = refl
-elements_stay f (stream values) = refl
+elements_stay : (f : Width → List ℤ → List ℤ) (c : Contents) → elements_of (with_values f c) ≡ elements_of c
+elements_stay f (array width elements) = refl
+elements_stay f (stream width values) = refl
 
-values_stay : (f : List ℤ → List ℤ) (c : Contents) → values_of (with_elements f c) ≡ values_of c
-values_stay f (array elements) = refl
-values_stay f (stream values) = refl
+values_stay : (f : Width → List ℤ → List ℤ) (c : Contents) → values_of (with_elements f c) ≡ values_of c
+values_stay f (array width elements) = refl
+values_stay f (stream width values) = refl
 
-other_element : (p j : ℕ) (f : ℤ → ℤ) → (p ≡ j → ⊥) → (c : Contents) → slice_index_or (elements_of (with_elements (changed_at j f) c)) p (pos 0) ≡ slice_index_or (elements_of c) p (pos 0)
-other_element p j f h (array elements) = seen-changed_at (pos 0) (λ x. x) p j f (λ e x. elim (h e) [ ]) elements
-other_element p j f h (stream values) = refl
+other_element : (p j : ℕ) (f : Width → ℤ → ℤ) → (p ≡ j → ⊥) → (c : Contents) → slice_index_or (elements_of (with_elements (λ width. changed_at j (f width)) c)) p (pos 0) ≡ slice_index_or (elements_of c) p (pos 0)
+other_element p j f h (array width elements) = seen-changed_at (pos 0) (λ x. x) p j (f width) (λ e x. elim (h e) [ ]) elements
+other_element p j f h (stream width values) = refl
 
 pub look-apply : (r : Reference) (change : Change) → SparesElement r change → (s : Memories) → look r (apply change s) ≡ look r s
 look-apply r nothing h s = refl
@@ -141,6 +135,21 @@ waiting-apply l c nothing h s = refl
 waiting-apply l c (write q by x) h s = seen-with_contents values_of l c q.level q.container _ (λ e e' k. values_stay _ k) s
 waiting-apply l c (push m d x) h s = seen-with_contents values_of l c m d _ (λ e e' k. elim (h e e') [ ]) s
 waiting-apply l c (take m d j) h s = seen-with_contents values_of l c m d _ (λ e e' k. elim (h e e') [ ]) s
+
+-- a change keeps the width of each container
+elements_width : (f : Width → List ℤ → List ℤ) (c : Contents) → width_of (with_elements f c) ≡ width_of c
+elements_width f (array width elements) = refl
+elements_width f (stream width values) = refl
+
+values_width : (f : Width → List ℤ → List ℤ) (c : Contents) → width_of (with_values f c) ≡ width_of c
+values_width f (array width elements) = refl
+values_width f (stream width values) = refl
+
+pub width-apply : (l c : ℕ) (change : Change) (s : Memories) → width_of (contents_of l c (apply change s)) ≡ width_of (contents_of l c s)
+width-apply l c nothing s = refl
+width-apply l c (write q by x) s = seen-with_contents width_of l c q.level q.container _ (λ e e' k. elements_width _ k) s
+width-apply l c (push m d x) s = seen-with_contents width_of l c m d _ (λ e e' k. values_width _ k) s
+width-apply l c (take m d j) s = seen-with_contents width_of l c m d _ (λ e e' k. values_width _ k) s
 
 -- ---- a change seen from outside
 

@@ -1,10 +1,16 @@
 -- Containers in memories, the innermost memory first.
 use Rattle.std.specs.Prelude.{ℕ, ℤ, pos, List, [], Option, Some, None, slice_index_or}
+use Rattle.sd_num.specs.declared.width.Width.{Width}
+use Rattle.sd_num.specs.declared.width.Width.TheVariants.{W64}
 
--- what a container holds: an array its elements in row order, a stream its values, the oldest first
+-- what a container of a width holds: an array its elements in row order, a stream its values, the oldest first
 pub data Contents : Type 0 where
-  array : (elements : List ℤ) → Contents
-  stream : (values : List ℤ) → Contents
+  array : (width : Width) → (elements : List ℤ) → Contents
+  stream : (width : Width) → (values : List ℤ) → Contents
+
+-- what stands for a container that has no place in a memory: an array without elements
+abbrev pub absent : Contents
+absent = array W64 []
 
 -- the contents of each container, by number
 abbrev pub Memory : Type 0
@@ -20,19 +26,24 @@ pub record Reference : Type 0 where
   pub container : ℕ
   pub element : ℕ
 
+-- the width of the elements or values
+abbrev pub width_of : Contents → Width
+width_of (array width elements) = width
+width_of (stream width values) = width
+
 -- the elements of an array; a stream has none
 abbrev pub elements_of : Contents → List ℤ
-elements_of (array elements) = elements
-elements_of (stream values) = []
+elements_of (array width elements) = elements
+elements_of (stream width values) = []
 
 -- the values of a stream; an array has none
 abbrev pub values_of : Contents → List ℤ
-values_of (array elements) = []
-values_of (stream values) = values
+values_of (array width elements) = []
+values_of (stream width values) = values
 
 -- what a container of a memory of the stack holds; nothing where there is no such container
 abbrev pub contents_of : (level container : ℕ) → Memories → Contents
-contents_of level container memories = slice_index_or (slice_index_or memories level []) container (stream [])
+contents_of level container memories = slice_index_or (slice_index_or memories level []) container (stream W64 [])
 
 -- the value of an element; 0 where there is no such element
 abbrev pub look : Reference → Memories → ℤ

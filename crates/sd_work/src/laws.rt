@@ -1,7 +1,10 @@
 ghost use Rattle.std.specs.Prelude.{◌≡◌, ℕ, ℤ, true, List, [], ◌∷◌, Option, Some, FitsSigned};
 ghost use Rattle.std.specs.Int.{w64};
+ghost use Rattle.sd_num.specs.Width.{wrapped_to, IsElement};
+ghost use Rattle.sd_num.specs.declared.width.Width.{Width};
+ghost use Rattle.sd_num.specs.declared.width.Width.TheVariants.{W64};
 ghost use Rattle.sd_num.specs.declared.resolution.Resolution.{Resolution};
-ghost use Rattle.sd_work.specs.Memory.{Memory, Memories, Reference, look, waiting};
+ghost use Rattle.sd_work.specs.Memory.{Memory, Memories, Reference, contents_of, look, waiting, width_of};
 ghost use Rattle.sd_work.specs.Change.{Change, apply, became, outer, own_after, written};
 ghost use Rattle.sd_work.specs.Residual.{Term, finished};
 ghost use Rattle.sd_work.specs.Moves.{Path, moves};
@@ -16,11 +19,20 @@ ghost use Rattle.sd_work.specs.OrderedPools.{HasOrderedPools};
 ghost use Rattle.sd_work.specs.Harmless.{AreHarmless, SparesElement, SparesStream};
 ghost use Rattle.sd_work.specs.Touch.{SparesWork};
 
-/// What is written to an element is the new value, or the old one resolved with it.
+/// What is written to an element is the new value, or the old one resolved with it, and what they come to is
+/// wrapped; at 64 bits it is an element as it is.
 pub fn an_element_is_replaced_or_resolved()
-    ensures same { (by : Option Resolution) (value old : ℤ) → FitsSigned w64 value → FitsSigned w64 old
-        → written by value old ≡ became by old value }
-    ensures fits { (by : Option Resolution) (value old : ℤ) → FitsSigned w64 (written by value old) }
+    ensures same { (width : Width) (by : Option Resolution) (value old : ℤ) → IsElement width value → IsElement width old
+        → written width by value old ≡ wrapped_to width (became by old value) }
+    ensures wide { (by : Option Resolution) (value old : ℤ) → FitsSigned w64 value → FitsSigned w64 old
+        → written W64 by value old ≡ became by old value }
+    ensures fits { (width : Width) (by : Option Resolution) (value old : ℤ) → IsElement width (written width by value old) }
+{}
+
+/// A change keeps the width of each container.
+pub fn a_change_keeps_widths()
+    ensures { (level container : ℕ) (change : Change) (memories : Memories)
+        → width_of (contents_of level container (apply change memories)) ≡ width_of (contents_of level container memories) }
 {}
 
 /// Changes at different places may be made in either order, and so may values that are resolved

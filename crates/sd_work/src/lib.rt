@@ -12,8 +12,9 @@ mod laws;
 
 pub use fault::FaultKind;
 pub use laws::{
-    a_change_elsewhere_is_not_seen, a_change_splits_at_an_owner, a_finished_term_has_no_move,
-    a_machine_moves_until_it_is_finished, a_run_from_left_to_right_is_sequential,
-    a_run_has_one_outcome, an_element_is_replaced_or_resolved, changes_at_different_places_commute,
-    every_run_ends, settling_once_is_enough, work_does_not_see_a_change_elsewhere,
+    a_change_elsewhere_is_not_seen, a_change_keeps_widths, a_change_splits_at_an_owner,
+    a_finished_term_has_no_move, a_machine_moves_until_it_is_finished,
+    a_run_from_left_to_right_is_sequential, a_run_has_one_outcome,
+    an_element_is_replaced_or_resolved, changes_at_different_places_commute, every_run_ends,
+    settling_once_is_enough, work_does_not_see_a_change_elsewhere,
 };

@@ -1,14 +1,16 @@
--- Memories in which a stream is a bag, which knows how often each value waits and in no order.
+-- Memories in which a stream is a bag, which knows how often each value waits and in no order. Each container has its width.
 use Rattle.std.proofs.Common.{ℕ, zero, suc, pred, List, [], ◌∷◌, ℤ, Option, cond}
-use Rattle.sd_num.specs.Wrapped.{wrapped}
+use Rattle.sd_num.specs.Width.{wrapped_to}
 use Rattle.sd_num.specs.declared.resolution.Resolution.{Resolution}
+use Rattle.sd_num.specs.declared.width.Width.{Width}
+use Rattle.sd_num.specs.declared.width.Width.TheVariants.{W64}
 use Rattle.sd_work.specs.Memory.{Contents, array, stream, Memory, Memories, Reference}
 use Rattle.sd_work.specs.Change.{Change, nothing, write, push, take, written, changed_at}
 use Rattle.std.specs.Ordering.{int_eq}
 
 pub data Holding : Type 0 where
-  cells : (elements : List ℤ) → Holding
-  bag : (count : ℤ → ℕ) → Holding
+  cells : (width : Width) → (elements : List ℤ) → Holding
+  bag : (width : Width) → (count : ℤ → ℕ) → Holding
 
 abbrev pub Frame : Type 0
 Frame = List Holding
@@ -22,13 +24,17 @@ nth other number [] = other
 nth other zero (member ∷ members) = member
 nth other (suc number) (member ∷ members) = nth other number members
 
-abbrev pub on_cells : (List ℤ → List ℤ) → Holding → Holding
-on_cells f (cells elements) = cells (f elements)
-on_cells f (bag count) = bag count
+-- what stands where there is no container
+abbrev pub nowhere : Holding
+nowhere = cells W64 []
 
-abbrev pub on_bag : ((ℤ → ℕ) → ℤ → ℕ) → Holding → Holding
-on_bag f (cells elements) = cells elements
-on_bag f (bag count) = bag (f count)
+abbrev pub on_cells : (Width → List ℤ → List ℤ) → Holding → Holding
+on_cells f (cells width elements) = cells width (f width elements)
+on_cells f (bag width count) = bag width count
+
+abbrev pub on_bag : (Width → (ℤ → ℕ) → ℤ → ℕ) → Holding → Holding
+on_bag f (cells width elements) = cells width elements
+on_bag f (bag width count) = bag width (f width count)
 
 abbrev pub add_one_of : ℤ → (ℤ → ℕ) → ℤ → ℕ
 add_one_of v f w = cond (int_eq v w) (suc (f w)) (f w)
@@ -37,17 +43,17 @@ abbrev pub drop_one_of : ℤ → (ℤ → ℕ) → ℤ → ℕ
 drop_one_of v f w = cond (int_eq v w) (pred (f w)) (f w)
 
 abbrev pub count_in : Holding → ℤ → ℕ
-count_in (cells elements) v = 0
-count_in (bag count) v = count v
+count_in (cells width elements) v = 0
+count_in (bag width count) v = count v
 
 -- how often a value waits in a stream
 abbrev pub held : ℕ → ℕ → ℤ → Stack → ℕ
-held l c v s = count_in (nth (cells []) c (nth [] l s)) v
+held l c v s = count_in (nth nowhere c (nth [] l s)) v
 
 -- the arrays of a stack, as leaves and conditions read them
 abbrev pub plain_holding : Holding → Contents
-plain_holding (cells elements) = array elements
-plain_holding (bag count) = stream []
+plain_holding (cells width elements) = array width elements
+plain_holding (bag width count) = stream width []
 
 abbrev pub plain_frame : Frame → Memory
 plain_frame [] = []
@@ -66,15 +72,15 @@ pub data Update : Type 0 where
 
 abbrev pub updated : Update → Stack → Stack
 updated keep s = s
-updated (put to by v) s = changed_at to.level (changed_at to.container (on_cells (changed_at to.element (written by v)))) s
-updated (add l c v) s = changed_at l (changed_at c (on_bag (add_one_of v))) s
-updated (remove l c v) s = changed_at l (changed_at c (on_bag (drop_one_of v))) s
+updated (put to by v) s = changed_at to.level (changed_at to.container (on_cells (λ width. changed_at to.element (written width by v)))) s
+updated (add l c v) s = changed_at l (changed_at c (on_bag (λ width. add_one_of (wrapped_to width v)))) s
+updated (remove l c v) s = changed_at l (changed_at c (on_bag (λ width. drop_one_of v))) s
 
 -- what a leaf changes
 abbrev pub update_by : Change → Update
 update_by nothing = keep
 update_by (write to by value) = put to by value
-update_by (push level container value) = add level container (wrapped value)
+update_by (push level container value) = add level container value
 update_by (take level container position) = keep
 
 -- an update seen from outside the innermost frame

@@ -1,11 +1,12 @@
 -- Two next moves of safe work commute, pools included.
 use Rattle.std.proofs.Common.{◌≡◌, ℕ, zero, suc, pred, List, [], ◌∷◌, ℤ, Bool, true, false, cond, refl, sym, ◌∙◌, ap, subst}
+use Rattle.sd_num.specs.Width.{wrapped_to}
 use Rattle.sd_work.specs.Change.{changed_at}
 use Rattle.sd_work.specs.Exit.{Values, Exit, first_exit}
 use Rattle.sd_work.specs.Touch.{Touch, AreCompatible}
 use Rattle.std.specs.Ordering.{int_eq}
 use Rattle.sd_confluence.proofs.bags.Values.{same-true, same-refl, same-false}
-use Rattle.sd_confluence.proofs.bags.BagMemory.{Holding, cells, bag, nth, on_bag, add_one_of, drop_one_of, count_in, Frame, Stack, Update, keep, put, add, remove, updated, held, plain}
+use Rattle.sd_confluence.proofs.bags.BagMemory.{Holding, cells, bag, nth, nowhere, on_bag, add_one_of, drop_one_of, count_in, Frame, Stack, Update, keep, put, add, remove, updated, held, plain}
 use Rattle.sd_confluence.proofs.bags.Works.{Work, thread, group, scope, nest, over, basin, Works, no_works, and_work, is_over, part_number, taking, acting, closing, Route, Answer, stops, makes, no_answer, map_answer, follow, owned_answer, at_last, put_active, act, act_at, Can, CanAt, CanHere}
 use Rattle.sd_confluence.proofs.bags.WorkTouches.{WorkTouches, AllCompatible, work_at, Safe, AllSafe}
 use Rattle.sd_confluence.proofs.bags.BagChanges.{apply_comm}
@@ -24,9 +25,9 @@ at_comm_at d (suc i) zero f g (x ∷ xs) h = refl
 at_comm_at d (suc i) (suc j) f g (x ∷ xs) h = ap (λ ys. x ∷ ys) (at_comm_at d i j f g xs (λ e. h (ap suc e)))
 
 -- a value that waits can be taken before or after a push
-drop_add : (v x : ℤ) (k : Holding) (n : ℕ) → count_in k v ≡ suc n → on_bag (drop_one_of v) (on_bag (add_one_of x) k) ≡ on_bag (add_one_of x) (on_bag (drop_one_of v) k)
-drop_add v x (cells elements) n e = refl
-drop_add v x (bag f) n e = ap bag (λ i y. go y (int_eq v y) refl (int_eq x y) i)
+drop_add : (v x : ℤ) (k : Holding) (n : ℕ) → count_in k v ≡ suc n → on_bag (λ width. drop_one_of v) (on_bag (λ width. add_one_of (wrapped_to width x)) k) ≡ on_bag (λ width. add_one_of (wrapped_to width x)) (on_bag (λ width. drop_one_of v) k)
+drop_add v x (cells width elements) n e = refl
+drop_add v x (bag width f) n e = ap (bag width) (λ i y. go y (int_eq v y) refl (int_eq (wrapped_to width x) y) i)
   where
     go : (y : ℤ) (a : Bool) → int_eq v y ≡ a → (b : Bool) → cond a (pred (cond b (suc (f y)) (f y))) (cond b (suc (f y)) (f y)) ≡ cond b (suc (cond a (pred (f y)) (f y))) (cond a (pred (f y)) (f y))
     go y true q true = let h : f y ≡ suc n = ap f (sym (same-true v y q)) ∙ e in h ∙ ap (λ m. suc (pred m)) (sym h)
@@ -36,7 +37,7 @@ drop_add v x (bag f) n e = ap bag (λ i y. go y (int_eq v y) refl (int_eq x y) i
 
 take_push : (l c m d : ℕ) (v x : ℤ) (s : Stack) (n : ℕ) → held l c v s ≡ suc n → updated (remove l c v) (updated (add m d x) s) ≡ updated (add m d x) (updated (remove l c v) s)
 take_push l c m d v x s n e =
-    at_comm_at [] l m _ _ s (λ _. at_comm_at (cells []) c d _ _ (nth [] l s) (λ _. drop_add v x (nth (cells []) c (nth [] l s)) n e))
+    at_comm_at [] l m _ _ s (λ _. at_comm_at nowhere c d _ _ (nth [] l s) (λ _. drop_add v x (nth nowhere c (nth [] l s)) n e))
 
 -- a take and what a body changes
 take_body : (l c : ℕ) (v : ℤ) (u : Update) (T : Touch → Type 0) → Covered u T → (s : Stack) (n : ℕ) → held l c v s ≡ suc n → updated (remove l c v) (updated u s) ≡ updated u (updated (remove l c v) s)

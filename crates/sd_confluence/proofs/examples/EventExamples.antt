@@ -2,6 +2,8 @@
 use Rattle.std.proofs.Common.{◌≡◌, ◌+◌, ◌^◌, ℕ, zero, suc, ℤ, pos, negsuc, List, [], ◌∷◌, Some, None, true, false, refl, arith}
 use Rattle.std.specs.Int.{int_wrap}
 use Rattle.sd_num.specs.declared.resolution.Resolution.TheVariants.{Sum}
+use Rattle.sd_num.specs.declared.width.Width.TheVariants.{W32}
+use Rattle.sd_work.specs.Memory.{stream}
 use Rattle.sd_work.specs.Leaf.{Pending, write_value, push_to}
 use Rattle.sd_work.specs.Residual.{Term, owning, pool, idle}
 use Rattle.sd_work.specs.Change.{write, push, take}
@@ -98,6 +100,10 @@ a_take_and_a_push_are_not_alike h = let clash : 1 ≡ 0 = (h 1).0 (pos 7) in ome
 a_push_of_a_number_is_of_its_element : event_of (memory (pos 0) []) (push 0 1 (pos (2 ^ 64 + 5))) ≡ pushed 1 (pos 5) ∷ []
 unfolding int_wrap
 a_push_of_a_number_is_of_its_element = refl
+
+a_push_into_a_stream_of_32_bits_is_of_its_element : event_of (stream W32 [] ∷ []) (push 0 0 (pos (2 ^ 32 + 5))) ≡ pushed 0 (pos 5) ∷ []
+unfolding int_wrap
+a_push_into_a_stream_of_32_bits_is_of_its_element = refl
 
 a_push_into_an_array_is_no_event : event_of (memory (pos 0) []) (push 0 0 (pos 5)) ≡ []
 a_push_into_an_array_is_no_event = refl

@@ -1,5 +1,6 @@
 -- Which paths are of two parts, which terms are alike, and what may be left of work.
 use Rattle.std.proofs.Common.{◌≡◌, ℕ, pos, suc, [], ◌∷◌, None, Bool, true, false, cond, int_eq, refl, sym, subst, inl, inr, ap, arith}
+use Rattle.sd_num.specs.declared.width.Width.TheVariants.{W64}
 use Rattle.sd_work.specs.Memory.{array, stream}
 use Rattle.sd_work.specs.Leaf.{Leaf, doing, write_value}
 use Rattle.sd_work.specs.Residual.{Term, leaf, owning, ended, none, also}
@@ -28,18 +29,18 @@ exchanged true false n = refl
 exchanged false true n = refl
 exchanged false false n = refl
 
-streams_of_a_term_may_differ_in_their_order : AreTermsAlike (owning (stream (pos 7 ∷ pos 8 ∷ []) ∷ []) pair) (owning (stream (pos 8 ∷ pos 7 ∷ []) ∷ []) pair)
+streams_of_a_term_may_differ_in_their_order : AreTermsAlike (owning (stream W64 (pos 7 ∷ pos 8 ∷ []) ∷ []) pair) (owning (stream W64 (pos 8 ∷ pos 7 ∷ []) ∷ []) pair)
 streams_of_a_term_may_differ_in_their_order = (
-  stream (pos 7 ∷ pos 8 ∷ []) ∷ [],
+  stream W64 (pos 7 ∷ pos 8 ∷ []) ∷ [],
   pair,
   refl,
-  ((λ value. exchanged (int_eq (pos 7) value) (int_eq (pos 8) value) 0), tt),
+  ((refl, λ value. exchanged (int_eq (pos 7) value) (int_eq (pos 8) value) 0), tt),
   (two (sets 1 (cell 0 0 0) (pos 7)) (sets 2 (cell 0 0 1) (pos 8)), refl, (sets 1 (cell 0 0 0) (pos 7), also (sets 2 (cell 0 0 1) (pos 8)) none, refl, refl, (sets 2 (cell 0 0 1) (pos 8), none, refl, refl, refl))),
 )
 
 -- but not in the elements of an array
-terms_with_other_elements_are_not_alike : AreTermsAlike {P = ℕ} (ended (array (pos 7 ∷ []) ∷ [])) (ended (array (pos 8 ∷ []) ∷ [])) → ⊥
-terms_with_other_elements_are_not_alike alike = differ (memories-alike (ended (array (pos 7 ∷ []) ∷ [])) (ended (array (pos 8 ∷ []) ∷ [])) alike).0
+terms_with_other_elements_are_not_alike : AreTermsAlike {P = ℕ} (ended (array W64 (pos 7 ∷ []) ∷ [])) (ended (array W64 (pos 8 ∷ []) ∷ [])) → ⊥
+terms_with_other_elements_are_not_alike alike = differ (memories-alike (ended (array W64 (pos 7 ∷ []) ∷ [])) (ended (array W64 (pos 8 ∷ []) ∷ [])) alike).0.1
   where
     differ : pos 7 ∷ [] ≡ pos 8 ∷ [] → ⊥
     differ same = cc

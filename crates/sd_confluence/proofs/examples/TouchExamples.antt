@@ -2,6 +2,7 @@
 use Rattle.std.proofs.Common.{◌≡◌, ◌↔◌, ℕ, zero, suc, ◌⊎◌, ℤ, pos, negsuc, ◌-ℤ◌, List, [], ◌∷◌, Option, Some, None, Ok, Err, Bool, true, false, refl, sym, subst, ap, inl, inr, arith}
 use Rattle.sd_num.specs.declared.resolution.Resolution.TheVariants.{Sum, Product, Last}
 use Rattle.sd_work.specs.declared.fault.FaultKind.TheVariants.{Division}
+use Rattle.sd_num.specs.declared.width.Width.TheVariants.{W64}
 use Rattle.sd_work.specs.Memory.{Memory, array, Reference}
 use Rattle.sd_work.specs.Leaf.{Pending, write_value, push_to, reading, instance_of, copy_of}
 use Rattle.sd_work.specs.Exit.{Values, Exit}
@@ -122,7 +123,7 @@ a_copy_touches_both_ends = (inl (inl refl), inl (inr refl))
 
 -- an array of one element
 abbrev pub cells : Memory
-cells = array (pos 0 ∷ []) ∷ []
+cells = array W64 (pos 0 ∷ []) ∷ []
 
 -- a tasklet that replaces an element touches that and no more
 pub replaces : (line : ℕ) (l p : ℕ) (v : ℤ) (a : Touch) → Touches (sets line (cell l 0 p) v) a → a ≡ writes (record { level = l; container = 0; element = p }) None

@@ -12,10 +12,10 @@ use Rattle.sd_confluence.proofs.runs.Reaching.{left_of}
 use Rattle.sd_confluence.proofs.runs.Nearer.{engine}
 
 contents_alike : (c d : Contents) → holding_of c ≡ holding_of d → AreContentsAlike c d
-contents_alike (array xs) (array ys) e = cc
-contents_alike (array xs) (stream ys) e = cc
-contents_alike (stream xs) (array ys) e = cc
-contents_alike (stream xs) (stream ys) e = λ v. ap (λ h. count_in h v) e
+contents_alike (array width xs) (array other ys) e = (cc, cc)
+contents_alike (array width xs) (stream other ys) e = cc
+contents_alike (stream width xs) (array other ys) e = cc
+contents_alike (stream width xs) (stream other ys) e = (cc, λ v. ap (λ h. count_in h v) e)
 
 abbrev first_holding : Holding → Frame → Holding
 first_holding d [] = d
@@ -32,10 +32,10 @@ frame-alike (c ∷ m) [] e = cc
 frame-alike (c ∷ m) (d ∷ n) e = (contents_alike c d (ap (first_holding (holding_of c)) e), frame-alike m n (ap other_holdings e))
 
 contents_image : (c d : Contents) → AreContentsAlike c d → holding_of c ≡ holding_of d
-contents_image (array xs) (array ys) h = ap cells h
-contents_image (array xs) (stream ys) h = elim h [ ]
-contents_image (stream xs) (array ys) h = elim h [ ]
-contents_image (stream xs) (stream ys) h = ap bag (λ i v. h v i)
+contents_image (array width xs) (array other ys) h = λ i. cells (h.0 i) (h.1 i)
+contents_image (array width xs) (stream other ys) h = elim h [ ]
+contents_image (stream width xs) (array other ys) h = elim h [ ]
+contents_image (stream width xs) (stream other ys) h = λ i. bag (h.0 i) (λ v. h.1 v i)
 
 pub alike-frame : (m n : Memory) → AreAlike m n → frame_of m ≡ frame_of n
 alike-frame [] [] h = refl

@@ -1,8 +1,10 @@
 -- What changes and reads of memories are of their image.
-use Rattle.std.proofs.Common.{◌≡◌, ℕ, zero, suc, List, [], ◌∷◌, ◌++◌, Option, Some, None, ℤ, pos, not, slice_get, slice_index_or, refl, ◌∙◌, ap}
-use Rattle.sd_num.specs.Wrapped.{wrapped}
+use Rattle.std.proofs.Common.{◌≡◌, ℕ, zero, suc, List, [], ◌∷◌, Option, Some, None, ℤ, pos, not, slice_get, slice_index_or, refl, ◌∙◌, ap}
+use Rattle.sd_num.specs.Width.{wrapped_to}
+use Rattle.sd_num.specs.declared.width.Width.{Width}
+use Rattle.sd_num.specs.declared.width.Width.TheVariants.{W64}
 use Rattle.sd_work.specs.Memory.{Contents, array, stream, Memory, Memories, Reference, elements_of, values_of, contents_of, seen, waiting}
-use Rattle.sd_work.specs.Change.{Change, nothing, write, push, take, written, changed_at, without, with_elements, with_values, apply, outer, outer_write, innermost, own_after}
+use Rattle.sd_work.specs.Change.{Change, nothing, write, push, take, written, changed_at, without, with_elements, with_values, appended, apply, outer, outer_write, innermost, own_after}
 use Rattle.sd_work.specs.Leaf.{write_value, transfer, push_to, Leaf, reading, doing}
 use Rattle.sd_work.specs.LeafMove.{write_move, read_move, leaf_move}
 use Rattle.sd_work.specs.Exit.{Exit, Guard, all_seen, with_value, decided, passed, or_later, first_exit}
@@ -17,7 +19,7 @@ stack_at l f g [] h = refl
 stack_at zero f g (m ∷ s) h = ap (λ x. x ∷ stack_of s) h
 stack_at (suc l) f g (m ∷ s) h = ap (λ x. frame_of m ∷ x) (stack_at l f g s h)
 
-frame_at : (c : ℕ) (f : Contents → Contents) (g : Holding → Holding) (m : Memory) → holding_of (f (slice_index_or m c (stream []))) ≡ g (holding_of (slice_index_or m c (stream []))) → frame_of (changed_at c f m) ≡ changed_at c g (frame_of m)
+frame_at : (c : ℕ) (f : Contents → Contents) (g : Holding → Holding) (m : Memory) → holding_of (f (slice_index_or m c (stream W64 []))) ≡ g (holding_of (slice_index_or m c (stream W64 []))) → frame_of (changed_at c f m) ≡ changed_at c g (frame_of m)
 frame_at c f g [] h = refl
 frame_at zero f g (x ∷ m) h = ap (λ y. y ∷ frame_of m) h
 frame_at (suc c) f g (x ∷ m) h = ap (λ y. holding_of x ∷ y) (frame_at c f g m h)
@@ -31,31 +33,31 @@ fixed_at n f d [] h = refl
 fixed_at zero f d (x ∷ xs) h = ap (λ y. y ∷ xs) h
 fixed_at (suc n) f d (x ∷ xs) h = ap (λ y. x ∷ y) (fixed_at n f d xs h)
 
-written_in : (f : List ℤ → List ℤ) (k : Contents) → holding_of (with_elements f k) ≡ on_cells f (holding_of k)
-written_in f (array elements) = refl
-written_in f (stream values) = refl
+written_in : (f : Width → List ℤ → List ℤ) (k : Contents) → holding_of (with_elements f k) ≡ on_cells f (holding_of k)
+written_in f (array width elements) = refl
+written_in f (stream width values) = refl
 
-pushed_in : (v : ℤ) (k : Contents) → holding_of (with_values (λ values. values ++ v ∷ []) k) ≡ on_bag (add_one_of v) (holding_of k)
-pushed_in v (array elements) = refl
-pushed_in v (stream values) = ap bag (λ i w. count-last values v w i)
+pushed_in : (v : ℤ) (k : Contents) → holding_of (with_values (appended v) k) ≡ on_bag (λ width. add_one_of (wrapped_to width v)) (holding_of k)
+pushed_in v (array width elements) = refl
+pushed_in v (stream width values) = ap (bag width) (λ i w. count-last values (wrapped_to width v) w i)
 
-taken_from : (k : ℕ) (v : ℤ) (x : Contents) → slice_get (values_of x) k ≡ Some v → holding_of (with_values (without k) x) ≡ on_bag (drop_one_of v) (holding_of x)
-taken_from k v (array elements) e = cc
-taken_from k v (stream values) e = ap bag (λ i w. count-taken k values v w e i)
+taken_from : (k : ℕ) (v : ℤ) (x : Contents) → slice_get (values_of x) k ≡ Some v → holding_of (with_values (λ width. without k) x) ≡ on_bag (λ width. drop_one_of v) (holding_of x)
+taken_from k v (array width elements) e = cc
+taken_from k v (stream width values) e = ap (bag width) (λ i w. count-taken k values v w e i)
 
-not_taken : (k : ℕ) (x : Contents) → slice_get (values_of x) k ≡ None → with_values (without k) x ≡ x
-not_taken k (array elements) e = refl
-not_taken k (stream values) e = ap stream (without-none k values e)
+not_taken : (k : ℕ) (x : Contents) → slice_get (values_of x) k ≡ None → with_values (λ width. without k) x ≡ x
+not_taken k (array width elements) e = refl
+not_taken k (stream width values) e = ap (stream width) (without-none k values e)
 
 -- the image of changed memories is the changed image
 pub image_change : (u : Change) (s : Memories) → stack_of (apply u s) ≡ updated (update_of u s) (stack_of s)
 image_change nothing s = refl
-image_change (write to by v) s = changed_in to.level to.container _ _ s (written_in (changed_at to.element (written by v)) (contents_of to.level to.container s))
-image_change (push l c v) s = changed_in l c _ _ s (pushed_in (wrapped v) (contents_of l c s))
+image_change (write to by v) s = changed_in to.level to.container _ _ s (written_in (λ width. changed_at to.element (written width by v)) (contents_of to.level to.container s))
+image_change (push l c v) s = changed_in l c _ _ s (pushed_in v (contents_of l c s))
 image_change (take l c k) s = go (slice_get (waiting l c s) k) refl
   where
     go : (o : Option ℤ) → slice_get (waiting l c s) k ≡ o → stack_of (apply (take l c k) s) ≡ updated (remove_found l c o) (stack_of s)
-    go None e = ap stack_of (fixed_at l _ [] s (fixed_at c _ (stream []) (slice_index_or s l []) (not_taken k (contents_of l c s) e)))
+    go None e = ap stack_of (fixed_at l _ [] s (fixed_at c _ (stream W64 []) (slice_index_or s l []) (not_taken k (contents_of l c s) e)))
     go (Some v) e = changed_in l c _ _ s (taken_from k v (contents_of l c s) e)
 
 -- a change seen from outside an owner
@@ -98,10 +100,10 @@ own_is (take (suc l) c k) own s = go (slice_get (waiting l c s) k)
 -- ---- what is read
 
 elements_plain : (k : Contents) → elements_of (plain_holding (holding_of k)) ≡ elements_of k
-elements_plain (array elements) = refl
-elements_plain (stream values) = refl
+elements_plain (array width elements) = refl
+elements_plain (stream width values) = refl
 
-elements_in : (c : ℕ) (m : Memory) → elements_of (slice_index_or (plain_frame (frame_of m)) c (stream [])) ≡ elements_of (slice_index_or m c (stream []))
+elements_in : (c : ℕ) (m : Memory) → elements_of (slice_index_or (plain_frame (frame_of m)) c (stream W64 [])) ≡ elements_of (slice_index_or m c (stream W64 []))
 elements_in c [] = refl
 elements_in zero (k ∷ m) = elements_plain k
 elements_in (suc c) (k ∷ m) = elements_in c m

@@ -11,8 +11,8 @@ use Rattle.sd_confluence.proofs.bags.BagMemory.{Holding, cells, bag, Frame, Stac
 use Rattle.sd_confluence.proofs.bags.Works.{Work, thread, group, scope, nest, over, basin, Works, no_works, and_work, part_number, taking, acting, Route}
 
 abbrev pub holding_of : Contents → Holding
-holding_of (array elements) = cells elements
-holding_of (stream values) = bag (how_often values)
+holding_of (array width elements) = cells width elements
+holding_of (stream width values) = bag width (how_often values)
 
 abbrev pub frame_of : Memory → Frame
 frame_of [] = []

@@ -1,5 +1,6 @@
 -- A next move of a term is one of its image.
 use Rattle.std.proofs.Common.{◌≡◌, ℕ, zero, suc, [], ◌∷◌, Option, Some, None, ℤ, Bool, true, false, cond, ◌&&◌, slice_get, slice_index_or, refl, sym, ◌∙◌, ap, subst}
+use Rattle.sd_num.specs.declared.width.Width.TheVariants.{W64}
 use Rattle.sd_work.specs.Memory.{array, stream, Memory, Memories, values_of, waiting}
 use Rattle.sd_work.specs.Residual.{Term, leaf, list, owning, nested, ended, pool, Terms, none, also, Actives, idle, busy, finished, all_finished, none_active, is_ready}
 use Rattle.sd_work.specs.Moves.{Path}
@@ -7,15 +8,15 @@ use Rattle.sd_work.proofs.Flags.{both, and_false}
 use Rattle.std.specs.Ordering.{int_eq}
 use Rattle.sd_confluence.specs.Alike.{how_often}
 use Rattle.sd_confluence.proofs.bags.Values.{same-refl, waits}
-use Rattle.sd_confluence.proofs.bags.BagMemory.{cells, nth, count_in, Stack, held}
+use Rattle.sd_confluence.proofs.bags.BagMemory.{nowhere, nth, count_in, Stack, held}
 use Rattle.sd_confluence.proofs.bags.Works.{Work, basin, Works, and_work, is_over, all_over, taking, acting, Route, Can, CanAt, CanHere}
 use Rattle.sd_confluence.proofs.image.Images.{frame_of, stack_of, work_of, works_of, active_of, value_at, number_at, named, route_of, route_at, route_in, IsNext, IsNextAt, IsNextIn, IsNextHere}
 use Rattle.sd_confluence.proofs.image.Link.{finished_is, flags_is}
 
-held_in : (c : ℕ) (v : ℤ) (m : Memory) → count_in (nth (cells []) c (frame_of m)) v ≡ how_often (values_of (slice_index_or m c (stream []))) v
+held_in : (c : ℕ) (v : ℤ) (m : Memory) → count_in (nth nowhere c (frame_of m)) v ≡ how_often (values_of (slice_index_or m c (stream W64 []))) v
 held_in c v [] = refl
-held_in zero v (array elements ∷ m) = refl
-held_in zero v (stream values ∷ m) = refl
+held_in zero v (array width elements ∷ m) = refl
+held_in zero v (stream width values ∷ m) = refl
 held_in (suc c) v (k ∷ m) = held_in c v m
 
 -- a value waits as often in the image as in the stream

@@ -1,5 +1,5 @@
 -- Terms that are alike have memories that are alike.
-use Rattle.std.proofs.Common.{◌≡◌, [], sym, subst}
+use Rattle.std.proofs.Common.{[], sym, subst}
 use Rattle.sd_work.specs.Residual.{Term, leaf, list, owning, nested, ended, pool}
 use Rattle.sd_work.specs.Run.{memory_of}
 use Rattle.sd_confluence.specs.Alike.{AreAlike}

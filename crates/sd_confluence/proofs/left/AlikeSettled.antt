@@ -1,5 +1,6 @@
 -- Terms that are alike stay so where they are settled.
 use Rattle.std.proofs.Common.{◌≡◌, ℕ, zero, suc, ℤ, List, [], ◌∷◌, ◌++◌, map, Bool, true, false, cond, ◌&&◌, ◌||◌, slice_index_or, refl, sym, ◌∙◌, ap, subst}
+use Rattle.sd_num.specs.declared.width.Width.TheVariants.{W64}
 use Rattle.sd_work.specs.Memory.{Contents, array, stream, Memory, Memories, values_of, waiting}
 use Rattle.sd_work.specs.Residual.{Parts, Term, leaf, list, owning, nested, ended, pool, Terms, none, also, Actives, idle, busy, finished, all_finished, none_active, is_ready}
 use Rattle.sd_work.specs.Settle.{is_empty, is_first_left, settle, settle_parts, settle_active}
@@ -37,12 +38,12 @@ empty_values (v ∷ vs) [] h = absurd (holds_one v vs (sym (h v)))
 empty_values (v ∷ vs) (w ∷ ws) h = refl
 
 empty_contents : (k j : Contents) → AreContentsAlike k j → is_empty (values_of k) ≡ is_empty (values_of j)
-empty_contents (array elements) (array others) h = refl
-empty_contents (array elements) (stream vs) h = absurd h
-empty_contents (stream vs) (array elements) h = absurd h
-empty_contents (stream vs) (stream ws) h = empty_values vs ws h
+empty_contents (array width elements) (array other others) h = refl
+empty_contents (array width elements) (stream other vs) h = absurd h
+empty_contents (stream width vs) (array other elements) h = absurd h
+empty_contents (stream width vs) (stream other ws) h = empty_values vs ws h.1
 
-empty_memory : (c : ℕ) (m n : Memory) → AreAlike m n → is_empty (values_of (slice_index_or m c (stream []))) ≡ is_empty (values_of (slice_index_or n c (stream [])))
+empty_memory : (c : ℕ) (m n : Memory) → AreAlike m n → is_empty (values_of (slice_index_or m c (stream W64 []))) ≡ is_empty (values_of (slice_index_or n c (stream W64 [])))
 empty_memory c [] [] h = refl
 empty_memory c [] (j ∷ n) h = absurd h
 empty_memory c (k ∷ m) [] h = absurd h

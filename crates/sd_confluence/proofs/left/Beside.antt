@@ -2,9 +2,9 @@
 use Rattle.std.proofs.Common.{◌≡◌, ◌≢◌, ℕ, zero, suc, ℤ, List, [], ◌∷◌, ◌++◌, Bool, true, false, cond, refl, sym, ◌∙◌, ap, subst}
 use Rattle.std.specs.Bool.{⊤}
 use Rattle.std.specs.Ordering.{int_eq}
-use Rattle.sd_num.specs.Wrapped.{wrapped}
+use Rattle.sd_num.specs.Width.{wrapped_to}
 use Rattle.sd_work.specs.Memory.{Contents, array, stream, Memory, Memories}
-use Rattle.sd_work.specs.Change.{Change, nothing, write, push, take, apply, changed_at, with_values}
+use Rattle.sd_work.specs.Change.{Change, nothing, write, push, take, apply, changed_at, with_values, appended}
 use Rattle.sd_work.specs.Harmless.{AreHarmless}
 use Rattle.sd_work.specs.Move.{Move, fails, goes, no_move, map_move}
 use Rattle.sd_work.specs.Residual.{Parts, Term, list, Terms, none, also, part_at}
@@ -83,8 +83,8 @@ alike_values : (values : List ℤ) → HoldAlike values values
 alike_values values v = refl
 
 pub same_contents : (c : Contents) → AreContentsAlike c c
-same_contents (array elements) = refl
-same_contents (stream values) = λ v. refl
+same_contents (array width elements) = (refl, refl)
+same_contents (stream width values) = (refl, λ v. refl)
 
 pub same_memory : (memory : Memory) → AreAlike memory memory
 same_memory [] = tt
@@ -100,29 +100,33 @@ exchanged true false n = refl
 exchanged false true n = refl
 exchanged false false n = refl
 
--- two values pushed into one stream
-pushed_alike : (v w : ℤ) (c : Contents) → AreContentsAlike (with_values (λ values. values ++ w ∷ []) (with_values (λ values. values ++ v ∷ []) c)) (with_values (λ values. values ++ v ∷ []) (with_values (λ values. values ++ w ∷ []) c))
-pushed_alike v w (array elements) = refl
-pushed_alike v w (stream values) = λ x.
+-- two values at the end of a list
+two_last : (v w : ℤ) (values : List ℤ) → HoldAlike ((values ++ v ∷ []) ++ w ∷ []) ((values ++ w ∷ []) ++ v ∷ [])
+two_last v w values x =
     count-last (values ++ v ∷ []) w x
     ∙ ap (λ n. cond (int_eq w x) (suc n) n) (count-last values v x)
     ∙ exchanged (int_eq w x) (int_eq v x) (how_often values x)
     ∙ sym (ap (λ n. cond (int_eq v x) (suc n) n) (count-last values w x))
     ∙ sym (count-last (values ++ w ∷ []) v x)
 
+-- two values pushed into one stream
+pushed_alike : (v w : ℤ) (c : Contents) → AreContentsAlike (with_values (appended w) (with_values (appended v) c)) (with_values (appended v) (with_values (appended w) c))
+pushed_alike v w (array width elements) = (refl, refl)
+pushed_alike v w (stream width values) = (refl, two_last (wrapped_to width v) (wrapped_to width w) values)
+
 pushed_memory : (c d : ℕ) (v w : ℤ) (memory : Memory) →
-    AreAlike (changed_at d (with_values (λ values. values ++ w ∷ [])) (changed_at c (with_values (λ values. values ++ v ∷ [])) memory)) (changed_at c (with_values (λ values. values ++ v ∷ [])) (changed_at d (with_values (λ values. values ++ w ∷ [])) memory))
+    AreAlike (changed_at d (with_values (appended w)) (changed_at c (with_values (appended v)) memory)) (changed_at c (with_values (appended v)) (changed_at d (with_values (appended w)) memory))
 pushed_memory c d v w [] = tt
 pushed_memory zero zero v w (k ∷ memory) = (pushed_alike v w k, same_memory memory)
-pushed_memory zero (suc d) v w (k ∷ memory) = same_memory (with_values (λ values. values ++ v ∷ []) k ∷ changed_at d (with_values (λ values. values ++ w ∷ [])) memory)
-pushed_memory (suc c) zero v w (k ∷ memory) = same_memory (with_values (λ values. values ++ w ∷ []) k ∷ changed_at c (with_values (λ values. values ++ v ∷ [])) memory)
+pushed_memory zero (suc d) v w (k ∷ memory) = same_memory (with_values (appended v) k ∷ changed_at d (with_values (appended w)) memory)
+pushed_memory (suc c) zero v w (k ∷ memory) = same_memory (with_values (appended w) k ∷ changed_at c (with_values (appended v)) memory)
 pushed_memory (suc c) (suc d) v w (k ∷ memory) = (same_contents k, pushed_memory c d v w memory)
 
 pushed_stack : (l c m d : ℕ) (v w : ℤ) (s : Memories) → AreStacksAlike (apply (push m d w) (apply (push l c v) s)) (apply (push l c v) (apply (push m d w) s))
 pushed_stack l c m d v w [] = tt
-pushed_stack zero c zero d v w (memory ∷ s) = (pushed_memory c d (wrapped v) (wrapped w) memory, same_stack s)
-pushed_stack zero c (suc m) d v w (memory ∷ s) = same_stack (changed_at c (with_values (λ values. values ++ wrapped v ∷ [])) memory ∷ apply (push m d w) s)
-pushed_stack (suc l) c zero d v w (memory ∷ s) = same_stack (changed_at d (with_values (λ values. values ++ wrapped w ∷ [])) memory ∷ apply (push l c v) s)
+pushed_stack zero c zero d v w (memory ∷ s) = (pushed_memory c d v w memory, same_stack s)
+pushed_stack zero c (suc m) d v w (memory ∷ s) = same_stack (changed_at c (with_values (appended v)) memory ∷ apply (push m d w) s)
+pushed_stack (suc l) c zero d v w (memory ∷ s) = same_stack (changed_at d (with_values (appended w)) memory ∷ apply (push l c v) s)
 pushed_stack (suc l) c (suc m) d v w (memory ∷ s) = (same_memory memory, pushed_stack l c m d v w s)
 
 alike_of : (u v : Change) → AreHarmless v u → (s : Memories) → AreStacksAlike (apply v (apply u s)) (apply u (apply v s))

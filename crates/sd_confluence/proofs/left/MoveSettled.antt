@@ -1,5 +1,6 @@
 -- A move of a settled term, and the same move of the term before it was settled: they leave the same, once both are settled.
 use Rattle.std.proofs.Common.{◌≡◌, ℕ, zero, suc, ◌+◌, ◌<◌, ℤ, List, [], ◌∷◌, ◌++◌, map, length, Option, Some, None, Bool, true, false, cond, not, ◌&&◌, ◌||◌, slice_get, slice_index_or, refl, sym, ◌∙◌, ap, subst, arith, inl, inr, ◌⊎◌}
+use Rattle.sd_num.specs.declared.width.Width.TheVariants.{W64}
 use Rattle.sd_work.specs.Memory.{Contents, array, stream, Memory, Memories, values_of, waiting}
 use Rattle.sd_work.specs.Change.{Change, take, apply, outer, own_after, changed_at, without, with_values}
 use Rattle.sd_work.specs.LeafMove.{leaf_move}
@@ -139,12 +140,12 @@ Still s s' t = (l c : ℕ) → Touches t (takes l c) → is_empty (waiting l c s
 spared_still : {P : Type 0} (t : Term P) (u : Change) (s : Memories) → SparesWork t u → Still s (apply u s) t
 spared_still t u s h l c a e = ap is_empty (waiting-apply l c u (h (takes l c) a) s) ∙ e
 
-empty_contents : (j : ℕ) (k : Contents) → is_empty (values_of k) ≡ true → is_empty (values_of (with_values (without j) k)) ≡ true
-empty_contents j (array elements) e = e
-empty_contents j (stream []) e = refl
-empty_contents j (stream (v ∷ vs)) e = cc
+empty_contents : (j : ℕ) (k : Contents) → is_empty (values_of k) ≡ true → is_empty (values_of (with_values (λ width. without j) k)) ≡ true
+empty_contents j (array width elements) e = e
+empty_contents j (stream width []) e = refl
+empty_contents j (stream width (v ∷ vs)) e = cc
 
-empty_memory : (j c d : ℕ) (m : Memory) → is_empty (values_of (slice_index_or m d (stream []))) ≡ true → is_empty (values_of (slice_index_or (changed_at c (with_values (without j)) m) d (stream []))) ≡ true
+empty_memory : (j c d : ℕ) (m : Memory) → is_empty (values_of (slice_index_or m d (stream W64 []))) ≡ true → is_empty (values_of (slice_index_or (changed_at c (with_values (λ width. without j)) m) d (stream W64 []))) ≡ true
 empty_memory j c d [] e = e
 empty_memory j zero zero (k ∷ m) e = empty_contents j k e
 empty_memory j zero (suc d) (k ∷ m) e = e

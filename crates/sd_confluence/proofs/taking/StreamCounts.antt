@@ -2,9 +2,9 @@
 use Rattle.std.proofs.Common.{◌≡◌, ℕ, zero, suc, pred, ◌+◌, List, [], ◌∷◌, ◌++◌, Option, Some, None, ℤ, Bool, true, false, cond, eqb, slice_get, refl, sym, ◌∙◌, ap, arith}
 use Rattle.std.proofs.Math.Dec.{eqb-suc-zero, eqb-zero-suc}
 use Rattle.std.proofs.lemmas.Bool.{eqb-true, eqb-false}
-use Rattle.sd_num.specs.Wrapped.{wrapped}
+use Rattle.sd_num.specs.Width.{wrapped_to}
 use Rattle.sd_work.specs.Memory.{Contents, array, stream, Memory, values_of, waiting}
-use Rattle.sd_work.specs.Change.{Change, nothing, write, push, take, changed_at, without, with_values, apply, own_after}
+use Rattle.sd_work.specs.Change.{Change, nothing, write, push, take, changed_at, without, with_values, appended, apply, own_after}
 use Rattle.sd_work.proofs.Changes.{waiting-apply, apply-own}
 use Rattle.sd_confluence.specs.Alike.{how_often}
 use Rattle.sd_confluence.specs.Event.{Event, pushed, taken, pushed_if, taken_if, event_of, values_pushed, values_taken}
@@ -43,8 +43,8 @@ pushed-sum st es fs v = ap (λ xs. how_often xs v) (pushed_append st es fs) ∙ 
 -- a push takes nothing
 pub pushes-only : (st c : ℕ) (w : ℤ) (o : Option Contents) → values_taken st (pushed_if c w o) ≡ []
 pushes-only st c w None = refl
-pushes-only st c w (Some (array elements)) = refl
-pushes-only st c w (Some (stream values)) = refl
+pushes-only st c w (Some (array width elements)) = refl
+pushes-only st c w (Some (stream width values)) = refl
 
 -- a take pushes nothing
 pub takes-only : (st c : ℕ) (o : Option ℤ) → values_pushed st (taken_if c o) ≡ []
@@ -67,8 +67,8 @@ next_eqb a b = same-eqb (suc a) (suc b) a b (ap pred) (ap suc)
 -- the event of a container, as the next one has it in a memory with one container more
 pushed_on : (st c : ℕ) (w : ℤ) (o : Option Contents) → values_pushed (suc st) (pushed_if (suc c) w o) ≡ values_pushed st (pushed_if c w o)
 pushed_on st c w None = refl
-pushed_on st c w (Some (array elements)) = refl
-pushed_on st c w (Some (stream values)) = ap (λ b. cond b (wrapped w ∷ []) []) (next_eqb c st)
+pushed_on st c w (Some (array width elements)) = refl
+pushed_on st c w (Some (stream width values)) = ap (λ b. cond b (wrapped_to width w ∷ []) []) (next_eqb c st)
 
 taken_on : (st c : ℕ) (o : Option ℤ) → values_taken (suc st) (taken_if (suc c) o) ≡ values_taken st (taken_if c o)
 taken_on st c None = refl
@@ -77,8 +77,8 @@ taken_on st c (Some w) = ap (λ b. cond b (w ∷ []) []) (next_eqb c st)
 -- the event of another container
 pushed_off : (st c : ℕ) (w : ℤ) (o : Option Contents) → eqb c st ≡ false → values_pushed st (pushed_if c w o) ≡ []
 pushed_off st c w None e = refl
-pushed_off st c w (Some (array elements)) e = refl
-pushed_off st c w (Some (stream values)) e = ap (λ b. cond b (wrapped w ∷ []) []) e
+pushed_off st c w (Some (array width elements)) e = refl
+pushed_off st c w (Some (stream width values)) e = ap (λ b. cond b (wrapped_to width w ∷ []) []) e
 
 taken_off : (st c : ℕ) (o : Option ℤ) → eqb c st ≡ false → values_taken st (taken_if c o) ≡ []
 taken_off st c None e = refl
@@ -94,19 +94,19 @@ abbrev in_stream : ℕ → Memory → List ℤ
 in_stream st own = waiting 0 st (own ∷ [])
 
 push_counts : (st c : ℕ) (w v : ℤ) (own : Memory) →
-    how_often (in_stream st (changed_at c (with_values (λ values. values ++ wrapped w ∷ [])) own)) v ≡ how_often (in_stream st own) v + how_often (values_pushed st (pushed_if c w (slice_get own c))) v
+    how_often (in_stream st (changed_at c (with_values (appended w)) own)) v ≡ how_often (in_stream st own) v + how_often (values_pushed st (pushed_if c w (slice_get own c))) v
 push_counts st c w v [] = refl
-push_counts zero zero w v (array elements ∷ own) = refl
-push_counts zero zero w v (stream values ∷ own) = count-append values (wrapped w ∷ []) v
+push_counts zero zero w v (array width elements ∷ own) = refl
+push_counts zero zero w v (stream width values ∷ own) = count-append values (wrapped_to width w ∷ []) v
 push_counts zero (suc c) w v (k ∷ own) = none_more _ v _ (pushed_off 0 (suc c) w (slice_get own c) (eqb-suc-zero c))
 push_counts (suc st) zero w v (k ∷ own) = none_more _ v _ (pushed_off (suc st) 0 w (Some k) (eqb-zero-suc st))
 push_counts (suc st) (suc c) w v (k ∷ own) = push_counts st c w v own ∙ ap (λ xs. how_often (in_stream st own) v + how_often xs v) (sym (pushed_on st c w (slice_get own c)))
 
 take_counts : (st c k : ℕ) (v : ℤ) (own : Memory) →
-    how_often (in_stream st (changed_at c (with_values (without k)) own)) v + how_often (values_taken st (taken_if c (slice_get (in_stream c own) k))) v ≡ how_often (in_stream st own) v
+    how_often (in_stream st (changed_at c (with_values (λ width. without k)) own)) v + how_often (values_taken st (taken_if c (slice_get (in_stream c own) k))) v ≡ how_often (in_stream st own) v
 take_counts st c k v [] = refl
-take_counts zero zero k v (array elements ∷ own) = refl
-take_counts zero zero k v (stream values ∷ own) = go (slice_get values k) refl
+take_counts zero zero k v (array width elements ∷ own) = refl
+take_counts zero zero k v (stream width values ∷ own) = go (slice_get values k) refl
   where
     go : (o : Option ℤ) → slice_get values k ≡ o → how_often (without k values) v + how_often (values_taken 0 (taken_if 0 o)) v ≡ how_often values v
     go None e = let h : how_often (without k values) v ≡ how_often values v = ap (λ xs. how_often xs v) (without-none k values e) in omega (arith, h)
@@ -114,7 +114,7 @@ take_counts zero zero k v (stream values ∷ own) = go (slice_get values k) refl
 take_counts zero (suc c) k v (x ∷ own) = sym (none_more _ v _ (taken_off 0 (suc c) (slice_get (in_stream c own) k) (eqb-suc-zero c)))
 take_counts (suc st) zero k v (x ∷ own) = sym (none_more _ v _ (taken_off (suc st) 0 (slice_get (values_of x) k) (eqb-zero-suc st)))
 take_counts (suc st) (suc c) k v (x ∷ own) =
-    ap (λ xs. how_often (in_stream st (changed_at c (with_values (without k)) own)) v + how_often xs v) (taken_on st c (slice_get (in_stream c own) k)) ∙ take_counts st c k v own
+    ap (λ xs. how_often (in_stream st (changed_at c (with_values (λ width. without k)) own)) v + how_often xs v) (taken_on st c (slice_get (in_stream c own) k)) ∙ take_counts st c k v own
 
 -- a write to an element leaves the streams of the innermost memory
 written_streams : (st : ℕ) (u : Change) (own : Memory) → waiting 0 st (apply u (own ∷ [])) ≡ in_stream st own → in_stream st (own_after u own) ≡ in_stream st own

@@ -29,10 +29,10 @@ stream_alike (c ∷ own) [] h st v = elim h [ ]
 stream_alike (c ∷ own) (d ∷ other) h zero v = one c d h.0
   where
     one : (c d : Contents) → AreContentsAlike c d → how_often (values_of c) v ≡ how_often (values_of d) v
-    one (array xs) (array ys) g = refl
-    one (array xs) (stream ys) g = elim g [ ]
-    one (stream xs) (array ys) g = elim g [ ]
-    one (stream xs) (stream ys) g = g v
+    one (array width xs) (array other ys) g = refl
+    one (array width xs) (stream other ys) g = elim g [ ]
+    one (stream width xs) (array other ys) g = elim g [ ]
+    one (stream width xs) (stream other ys) g = g.1 v
 stream_alike (c ∷ own) (d ∷ other) h (suc st) v = stream_alike own other h.1 st v
 
 -- the works of a safe pool take from no stream outside of them

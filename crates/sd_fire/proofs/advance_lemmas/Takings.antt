@@ -8,7 +8,7 @@ use Rattle.sd_work.specs.BigStep.{Reached}
 use Rattle.sd_graph.specs.PlainTree.{KindTree, ItemTrees, consume_scope}
 use Rattle.sd_graph.specs.Context.{Context}
 use Rattle.sd_graph.specs.Unfold.{at_element, element_memory, list_of, unfold_items}
-use Rattle.sd_mem.specs.declared.machine.cell.Station.{Station}
+use Rattle.sd_mem.specs.declared.machine.address.Station.{Station}
 use Rattle.sd_mem.specs.declared.machine.end.End.TheVariants.{Finished}
 use Rattle.sd_left.specs.tree.Standing.{BodyLeft, element_term, body_left, value_at, active_left}
 use Rattle.sd_left.specs.fired.Fired.{IsFired, IsElementBegun}

@@ -10,7 +10,7 @@ use Rattle.sd_graph.specs.PlainTree.{TaskletTree, KindTree, task, map_scope, con
 use Rattle.sd_graph.specs.Context.{Context, place_at}
 use Rattle.sd_graph.specs.Unfold.{order_of_points, task_of}
 use Rattle.sd_graph.specs.declared.link.Link.{Link}
-use Rattle.sd_mem.specs.declared.machine.cell.Station.{Station}
+use Rattle.sd_mem.specs.declared.machine.address.Station.{Station}
 use Rattle.sd_leaves.specs.leaves.Done.{evaluation_of}
 use Rattle.sd_leaves.specs.moves.Left.{doing_left, instance_left}
 use Rattle.sd_leaves.specs.declared.moves.doing.Doing.{Doing}

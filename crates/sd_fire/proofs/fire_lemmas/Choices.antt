@@ -4,7 +4,7 @@ use Rattle.sd_work.specs.Moves.{Path}
 use Rattle.sd_work.specs.BigStep.{Reached}
 use Rattle.sd_graph.specs.PlainTree.{KindTree}
 use Rattle.sd_graph.specs.Context.{Context}
-use Rattle.sd_mem.specs.declared.machine.cell.Station.{Station}
+use Rattle.sd_mem.specs.declared.machine.address.Station.{Station}
 use Rattle.sd_mem.specs.declared.machine.end.End.{End}
 use Rattle.sd_left.specs.declared.left.left.Bodies.{Bodies as BodiesNow}
 use Rattle.sd_fire.specs.advance.Right.{AreElementsFired}

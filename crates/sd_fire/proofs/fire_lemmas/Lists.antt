@@ -8,7 +8,7 @@ use Rattle.sd_graph.specs.Context.{Context}
 use Rattle.sd_graph.specs.TreeFold.{kind_tree, item_trees}
 use Rattle.sd_graph.specs.declared.graph.Item.{Item}
 use Rattle.sd_graph.specs.declared.graph.ItemKind.TheViews.{out-Item}
-use Rattle.sd_mem.specs.declared.machine.cell.Station.{Station}
+use Rattle.sd_mem.specs.declared.machine.address.Station.{Station}
 use Rattle.sd_mem.specs.declared.machine.end.End.{End}
 use Rattle.sd_mem.specs.declared.machine.end.End.TheVariants.{Finished}
 use Rattle.sd_order.specs.table.Told.{told}

@@ -10,7 +10,7 @@ use Rattle.sd_moves.specs.numbered.OpenPools.{HasNoOpenPool}
 use Rattle.sd_graph.specs.PlainTree.{KindTree, no_item}
 use Rattle.sd_graph.specs.Context.{Context}
 use Rattle.sd_graph.specs.Unfold.{order_of_points}
-use Rattle.sd_mem.specs.declared.machine.cell.Station.{Station}
+use Rattle.sd_mem.specs.declared.machine.address.Station.{Station}
 use Rattle.sd_leaves.specs.declared.moves.doing.Doing.{Doing}
 use Rattle.sd_leaves.specs.declared.moves.instance.Instance.{Instance}
 use Rattle.sd_left.specs.tree.Standing.{BodyLeft, first_kind, element_term, active_left}

@@ -7,7 +7,7 @@ use Rattle.sd_graph.specs.PlainTree.{KindTree, ItemTrees, GraphTree}
 use Rattle.sd_graph.specs.Context.{Context, Reach}
 use Rattle.sd_graph.specs.Unfold.{order_of_points}
 use Rattle.sd_graph.specs.declared.place.Frame.{Frame}
-use Rattle.sd_mem.specs.declared.machine.cell.Station.{Station}
+use Rattle.sd_mem.specs.declared.machine.address.Station.{Station}
 use Rattle.sd_left.specs.tree.Standing.{body_left, points_left, active_left, run_left}
 use Rattle.sd_left.specs.declared.left.left.Left.{Left}
 use Rattle.sd_left.specs.declared.left.left.Bodies.{Bodies}

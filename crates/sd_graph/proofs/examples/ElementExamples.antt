@@ -4,6 +4,7 @@ use Rattle.std.specs.Int.{int_wrap}
 use Rattle.sd_num.specs.declared.resolution.Resolution.TheVariants.{Sum, Max}
 use Rattle.sd_range.specs.declared.subset.Dim.TheVariants.{Index, Span}
 use Rattle.sd_work.specs.declared.fault.FaultKind.TheVariants.{Subscript}
+use Rattle.sd_num.specs.declared.width.Width.TheVariants.{W64}
 use Rattle.sd_work.specs.Memory.{array}
 use Rattle.sd_graph.specs.PlainTree.{literal, variable, input, two, no_value, and_value, assign, no_act, and_act, task, map_scope, nested_graph, reduction, no_item, and_item, no_state, and_state, GraphTree, graph}
 use Rattle.sd_graph.specs.declared.container.ContainerKind.TheVariants.{Argument, Transient}
@@ -34,8 +35,8 @@ axis_graph =
 -- a reduction along the first axis, and one of all elements without an identity
 columns_are_summed_up :
     picked_from axis_graph ((pos 1 ∷ pos 2 ∷ pos 3 ∷ pos 4 ∷ pos 5 ∷ pos 6 ∷ []) ∷ (pos 9 ∷ pos 9 ∷ pos 9 ∷ []) ∷ (pos 4 ∷ []) ∷ []) 19 [] 100
-    ≡ done (array (pos 1 ∷ pos 2 ∷ pos 3 ∷ pos 4 ∷ pos 5 ∷ pos 6 ∷ []) ∷ array (pos 5 ∷ pos 7 ∷ pos 9 ∷ []) ∷
-    array (pos 6 ∷ []) ∷ []) 100
+    ≡ done (array W64 (pos 1 ∷ pos 2 ∷ pos 3 ∷ pos 4 ∷ pos 5 ∷ pos 6 ∷ []) ∷ array W64 (pos 5 ∷ pos 7 ∷ pos 9 ∷ []) ∷
+    array W64 (pos 6 ∷ []) ∷ []) 100
 unfolding int_wrap
 columns_are_summed_up = refl
 
@@ -66,7 +67,7 @@ wide_graph =
 -- a place in a connector counts steps of its subset
 steps_count_in_connectors :
     picked_from wide_graph ((pos 1 ∷ pos 2 ∷ pos 3 ∷ pos 4 ∷ pos 5 ∷ pos 6 ∷ []) ∷ (pos 0 ∷ pos 0 ∷ pos 0 ∷ pos 0 ∷ pos 0 ∷ pos 0 ∷ []) ∷ []) 15 [] 100
-    ≡ done (array (pos 1 ∷ pos 2 ∷ pos 3 ∷ pos 4 ∷ pos 5 ∷ pos 6 ∷ []) ∷ array (pos 0 ∷ pos 0 ∷ pos 5 ∷ pos 6 ∷
+    ≡ done (array W64 (pos 1 ∷ pos 2 ∷ pos 3 ∷ pos 4 ∷ pos 5 ∷ pos 6 ∷ []) ∷ array W64 (pos 0 ∷ pos 0 ∷ pos 5 ∷ pos 6 ∷
     pos 1 ∷ pos 2 ∷ []) ∷ []) 98
 unfolding int_wrap
 steps_count_in_connectors = refl
@@ -113,7 +114,7 @@ large_graph =
     no_item)) no_item)) no_item)) no_item)) no_item) [] no_state))
 
 -- code sees a parameter modulo 2^64
-a_parameter_wraps_in_code : picked_from large_graph ((pos 1 ∷ []) ∷ []) 5 [] 100 ≡ done (array (pos 357913941 ∷ []) ∷ []) 99
+a_parameter_wraps_in_code : picked_from large_graph ((pos 1 ∷ []) ∷ []) 5 [] 100 ≡ done (array W64 (pos 357913941 ∷ []) ∷ []) 99
 unfolding int_wrap
 a_parameter_wraps_in_code = refl
 
@@ -161,7 +162,7 @@ owned_graph =
 -- the transients of a nested run begin with 0 each time
 a_nested_run_has_transients_of_its_own :
     picked_from owned_graph ((pos 1 ∷ pos 2 ∷ pos 3 ∷ pos 4 ∷ []) ∷ (pos 0 ∷ pos 0 ∷ pos 0 ∷ pos 0 ∷ []) ∷ []) 27 (0 ∷ 1 ∷ 1 ∷ 0 ∷ 1 ∷ 1 ∷ []) 100
-    ≡ done (array (pos 1 ∷ pos 2 ∷ pos 3 ∷ pos 4 ∷ []) ∷ array (pos 3 ∷ pos 0 ∷ pos 7 ∷ pos 0 ∷ []) ∷ []) 94
+    ≡ done (array W64 (pos 1 ∷ pos 2 ∷ pos 3 ∷ pos 4 ∷ []) ∷ array W64 (pos 3 ∷ pos 0 ∷ pos 7 ∷ pos 0 ∷ []) ∷ []) 94
 unfolding int_wrap
 a_nested_run_has_transients_of_its_own = refl
 

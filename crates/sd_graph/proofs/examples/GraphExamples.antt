@@ -4,6 +4,7 @@ use Rattle.std.specs.Int.{int_wrap}
 use Rattle.sd_num.specs.declared.resolution.Resolution.TheVariants.{Sum}
 use Rattle.sd_range.specs.declared.subset.Dim.TheVariants.{Index, Span}
 use Rattle.sd_work.specs.declared.fault.FaultKind.TheVariants.{Division}
+use Rattle.sd_num.specs.declared.width.Width.TheVariants.{W64}
 use Rattle.sd_work.specs.Memory.{array}
 use Rattle.sd_graph.specs.PlainTree.{literal, variable, input, two, no_value, assign, no_act, and_act, task, map_scope, nested_graph, reduction, copy, no_item, and_item, no_state, and_state, GraphTree, graph}
 use Rattle.sd_graph.specs.declared.container.ContainerKind.TheVariants.{Argument, Transient}
@@ -47,7 +48,7 @@ rows_graph =
 -- a nested graph sees a row of each array
 a_nested_graph_sees_a_row :
     runs_to rows_graph ((pos 1 ∷ pos 2 ∷ pos 3 ∷ pos 4 ∷ []) ∷ (pos 0 ∷ pos 0 ∷ pos 0 ∷ pos 0 ∷ []) ∷ []) 19 20 100
-    (done (array (pos 1 ∷ pos 2 ∷ pos 3 ∷ pos 4 ∷ []) ∷ array (pos 2 ∷ pos 4 ∷ pos 6 ∷ pos 8 ∷ []) ∷ []) 96)
+    (done (array W64 (pos 1 ∷ pos 2 ∷ pos 3 ∷ pos 4 ∷ []) ∷ array W64 (pos 2 ∷ pos 4 ∷ pos 6 ∷ pos 8 ∷ []) ∷ []) 96)
 unfolding int_wrap
 a_nested_graph_sees_a_row = (refl, refl)
 
@@ -75,7 +76,7 @@ red_graph =
 -- rows are summed up in a copy
 rows_are_summed_up :
     runs_to red_graph ((pos 1 ∷ pos 2 ∷ pos 3 ∷ pos 4 ∷ pos 5 ∷ pos 6 ∷ []) ∷ (pos 7 ∷ pos 8 ∷ []) ∷ []) 18 20 100
-    (done (array (pos 1 ∷ pos 2 ∷ pos 3 ∷ pos 4 ∷ pos 5 ∷ pos 6 ∷ []) ∷ array (pos 6 ∷ pos 15 ∷ []) ∷ array (pos 1 ∷ pos 2 ∷ pos 3 ∷ pos 4 ∷ pos 5 ∷ pos 6 ∷ []) ∷ []) 100)
+    (done (array W64 (pos 1 ∷ pos 2 ∷ pos 3 ∷ pos 4 ∷ pos 5 ∷ pos 6 ∷ []) ∷ array W64 (pos 6 ∷ pos 15 ∷ []) ∷ array W64 (pos 1 ∷ pos 2 ∷ pos 3 ∷ pos 4 ∷ pos 5 ∷ pos 6 ∷ []) ∷ []) 100)
 unfolding int_wrap
 rows_are_summed_up = (refl, refl)
 
@@ -169,7 +170,7 @@ jac_graph =
 -- a loop with two maps in it
 a_loop_goes_round :
     runs_to jac_graph ((pos 0 ∷ pos 3 ∷ pos 6 ∷ pos 9 ∷ []) ∷ (pos 0 ∷ pos 0 ∷ pos 0 ∷ pos 0 ∷ []) ∷ []) 44 20 100
-    (done (array (pos 0 ∷ pos 3 ∷ pos 6 ∷ pos 9 ∷ []) ∷ array (pos 0 ∷ pos 3 ∷ pos 6 ∷ pos 0 ∷ []) ∷ []) 90)
+    (done (array W64 (pos 0 ∷ pos 3 ∷ pos 6 ∷ pos 9 ∷ []) ∷ array W64 (pos 0 ∷ pos 3 ∷ pos 6 ∷ pos 0 ∷ []) ∷ []) 90)
 unfolding int_wrap
 a_loop_goes_round = (refl, refl)
 
@@ -200,6 +201,6 @@ down_graph =
     (transition 1 true None [] ∷ []) (and_state no_item [] no_state)))))
 
 -- a loop while a condition holds
-a_loop_goes_on_while_it_holds : runs_to down_graph ((pos 7 ∷ []) ∷ []) 22 20 100 (done (array (negsuc 1 ∷ []) ∷ []) 94)
+a_loop_goes_on_while_it_holds : runs_to down_graph ((pos 7 ∷ []) ∷ []) 22 20 100 (done (array W64 (negsuc 1 ∷ []) ∷ []) 94)
 unfolding int_wrap
 a_loop_goes_on_while_it_holds = (refl, refl)

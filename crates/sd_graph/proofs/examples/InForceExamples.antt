@@ -2,6 +2,7 @@
 use Rattle.std.proofs.Common.{◌≡◌, ◌⊎◌, inl, inr, ℕ, ◌<◌, ℤ, pos, List, [], ◌∷◌, Some, None, Bool, true, false, refl, arith, codes}
 use Rattle.sd_num.specs.declared.resolution.Resolution.TheVariants.{Sum}
 use Rattle.sd_range.specs.declared.subset.Dim.TheVariants.{Index, Span}
+use Rattle.sd_num.specs.declared.width.Width.TheVariants.{W64}
 use Rattle.sd_work.specs.Memory.{array, stream, Reference}
 use Rattle.sd_work.specs.Touch.{reads}
 use Rattle.sd_graph.specs.PlainTree.{input, no_value, assign, no_act, and_act, KindTree, task, map_scope, consume_scope, nested_graph, reduction, copy, ItemTrees, no_item, and_item, no_state, and_state, GraphTree, graph, ExitTree, TaskletTree}
@@ -136,7 +137,7 @@ abbrev given : List (List ℤ)
 given = (pos 5 ∷ pos 6 ∷ []) ∷ []
 
 its_memory : IsMemoryOf whole_graph (opening_memory whole_graph given)
-its_memory = (inr (refl, refl), (inr (refl, refl), (inl refl, (inl refl, (inl refl, tt)))))
+its_memory = (inr (refl, refl, refl), (inr (refl, refl, refl), (inl refl, (inl refl, (inl refl, tt)))))
 
 -- so its run touches what is there
 it_touches_what_is_there : TouchesWhatIsThere [] (run_of whole_graph (opening_memory whole_graph given))
@@ -243,11 +244,11 @@ an_argument_more first = true_is_false first.0
 
 -- ---- memories
 
-an_element_is_missing : AreContentsOf containers (array (pos 5 ∷ []) ∷ array (pos 0 ∷ []) ∷ array [] ∷ array [] ∷ array [] ∷ []) → ⊥
+an_element_is_missing : AreContentsOf containers (array W64 (pos 5 ∷ []) ∷ array W64 (pos 0 ∷ []) ∷ array W64 [] ∷ array W64 [] ∷ array W64 [] ∷ []) → ⊥
 an_element_is_missing of = elim of.0 [ inl private ↦ false_is_true private | inr fits ↦ two_numbers 1 2 (inl (omega arith)) fits.1 ]
 
-an_array_is_given_as_a_stream : AreContentsOf containers (stream [] ∷ array (pos 0 ∷ []) ∷ array [] ∷ array [] ∷ array [] ∷ []) → ⊥
-an_array_is_given_as_a_stream of = elim of.0 [ inl private ↦ false_is_true private | inr fits ↦ false_is_true fits ]
+an_array_is_given_as_a_stream : AreContentsOf containers (stream W64 [] ∷ array W64 (pos 0 ∷ []) ∷ array W64 [] ∷ array W64 [] ∷ array W64 [] ∷ []) → ⊥
+an_array_is_given_as_a_stream of = elim of.0 [ inl private ↦ false_is_true private | inr fits ↦ false_is_true fits.0 ]
 
-a_container_is_missing : AreContentsOf containers (array (pos 5 ∷ pos 6 ∷ []) ∷ []) → ⊥
+a_container_is_missing : AreContentsOf containers (array W64 (pos 5 ∷ pos 6 ∷ []) ∷ []) → ⊥
 a_container_is_missing of = of.1

@@ -3,6 +3,7 @@ use Rattle.std.proofs.Common.{◌≡◌, pos, negsuc, [], ◌∷◌, Some, None,
 use Rattle.std.specs.Int.{int_wrap}
 use Rattle.sd_num.specs.declared.resolution.Resolution.TheVariants.{Sum}
 use Rattle.sd_range.specs.declared.subset.Dim.TheVariants.{Index, Span}
+use Rattle.sd_num.specs.declared.width.Width.TheVariants.{W64}
 use Rattle.sd_work.specs.Memory.{array, stream}
 use Rattle.sd_graph.specs.PlainTree.{literal, input, two, no_value, assign, no_act, and_act, task, map_scope, nested_graph, no_item, and_item, no_state, and_state, GraphTree, graph}
 use Rattle.sd_graph.specs.declared.container.ContainerKind.TheVariants.{Argument, Stream}
@@ -37,7 +38,7 @@ pushes_graph =
 -- two items that push into one stream are two moves
 two_pushes_are_in_no_order :
     picked_from pushes_graph ((pos 4 ∷ pos 5 ∷ []) ∷ (pos 0 ∷ []) ∷ []) 9 (0 ∷ 1 ∷ 1 ∷ 1 ∷ []) 100
-    ≡ done (array (pos 4 ∷ pos 5 ∷ []) ∷ array (pos 0 ∷ []) ∷ stream (pos 5 ∷ pos 4 ∷ []) ∷ []) 98
+    ≡ done (array W64 (pos 4 ∷ pos 5 ∷ []) ∷ array W64 (pos 0 ∷ []) ∷ stream W64 (pos 5 ∷ pos 4 ∷ []) ∷ []) 98
 unfolding int_wrap
 two_pushes_are_in_no_order = refl
 
@@ -80,7 +81,7 @@ sums_graph =
 -- two items that resolve by one resolution are two moves, and what replaces waits for both
 sums_are_in_no_order :
     picked_from sums_graph ((pos 4 ∷ pos 5 ∷ []) ∷ (pos 1 ∷ []) ∷ []) 11 (0 ∷ 1 ∷ 1 ∷ 1 ∷ 1 ∷ 1 ∷ []) 100
-    ≡ done (array (pos 4 ∷ pos 5 ∷ []) ∷ array (pos 7 ∷ []) ∷ []) 97
+    ≡ done (array W64 (pos 4 ∷ pos 5 ∷ []) ∷ array W64 (pos 7 ∷ []) ∷ []) 97
 unfolding int_wrap
 sums_are_in_no_order = refl
 
@@ -127,7 +128,7 @@ middle_graph =
 -- an item waits for one before an item between them, also where that has nothing to do
 an_item_waits_over_one_between :
     picked_from middle_graph ((pos 1 ∷ pos 2 ∷ []) ∷ (pos 3 ∷ pos 4 ∷ []) ∷ (pos 0 ∷ pos 0 ∷ []) ∷ []) 8 (0 ∷ 1 ∷ 1 ∷ 1 ∷ 1 ∷ []) 100
-    ≡ done (array (pos 5 ∷ pos 2 ∷ []) ∷ array (pos 3 ∷ pos 4 ∷ []) ∷ array (pos 0 ∷ pos 6 ∷ []) ∷ []) 98
+    ≡ done (array W64 (pos 5 ∷ pos 2 ∷ []) ∷ array W64 (pos 3 ∷ pos 4 ∷ []) ∷ array W64 (pos 0 ∷ pos 6 ∷ []) ∷ []) 98
 unfolding int_wrap
 an_item_waits_over_one_between = refl
 
@@ -191,7 +192,7 @@ nest_graph =
 -- a nested graph waits for what its condition reads, and others do not
 a_condition_reads_its_parameter :
     picked_from nest_graph ((pos 0 ∷ pos 0 ∷ []) ∷ (pos 0 ∷ pos 0 ∷ []) ∷ (pos 0 ∷ pos 0 ∷ []) ∷ []) 13 (0 ∷ 1 ∷ 1 ∷ 1 ∷ 1 ∷ 1 ∷ 1 ∷ []) 100
-    ≡ done (array (pos 5 ∷ pos 0 ∷ []) ∷ array (pos 1 ∷ pos 0 ∷ []) ∷ array (pos 3 ∷ pos 0 ∷ []) ∷ []) 97
+    ≡ done (array W64 (pos 5 ∷ pos 0 ∷ []) ∷ array W64 (pos 1 ∷ pos 0 ∷ []) ∷ array W64 (pos 3 ∷ pos 0 ∷ []) ∷ []) 97
 unfolding int_wrap
 a_condition_reads_its_parameter = refl
 

@@ -1,7 +1,9 @@
 -- Elements by their indices, connectors' extents, memories, and what transitions set.
 use Rattle.std.proofs.Common.{◌≡◌, ℕ, ℤ, pos, negsuc, List, [], ◌∷◌, Option, Some, None, true, false, refl, codes}
+use Rattle.std.specs.Int.{int_wrap}
 use Rattle.sd_range.specs.declared.subset.Dim.{Dim}
 use Rattle.sd_range.specs.declared.subset.Dim.TheVariants.{Index, Span}
+use Rattle.sd_num.specs.declared.width.Width.TheVariants.{W64}
 use Rattle.sd_work.specs.Memory.{array, stream}
 use Rattle.sd_work.specs.Leaf.{write_value}
 use Rattle.sd_work.specs.Residual.{ended, list, Points, owning, also, none}
@@ -69,11 +71,11 @@ an_effect_goes_by_its_output context link at value = (refl, refl, refl)
 
 -- ---- memories have an entry for each container
 
-a_run_has_transients_and_streams : run_memory containers ≡ array [] ∷ array (pos 0 ∷ pos 0 ∷ []) ∷ stream [] ∷ array [] ∷ array [] ∷ array [] ∷ []
+a_run_has_transients_and_streams : run_memory containers ≡ array W64 [] ∷ array W64 (pos 0 ∷ pos 0 ∷ []) ∷ stream W64 [] ∷ array W64 [] ∷ array W64 [] ∷ array W64 [] ∷ []
 a_run_has_transients_and_streams = refl
 
 a_point_has_its_private_containers :
-    private_memory containers (3 ∷ 4 ∷ []) ≡ array [] ∷ array [] ∷ array [] ∷ array (pos 0 ∷ []) ∷ stream [] ∷ array [] ∷ []
+    private_memory containers (3 ∷ 4 ∷ []) ≡ array W64 [] ∷ array W64 [] ∷ array W64 [] ∷ array W64 (pos 0 ∷ []) ∷ stream W64 [] ∷ array W64 [] ∷ []
 a_point_has_its_private_containers = refl
 
 -- ---- points, conditions and transitions
@@ -83,7 +85,8 @@ at_values first second = in_graph containers [] [] (own_reach containers) [] (fi
 
 an_element_has_the_value_taken :
     element_memory (at_values (pos 0) (pos 0)) 5 (3 ∷ []) (negsuc 6)
-    ≡ array [] ∷ array [] ∷ array [] ∷ array (pos 0 ∷ []) ∷ array [] ∷ array (negsuc 6 ∷ []) ∷ []
+    ≡ array W64 [] ∷ array W64 [] ∷ array W64 [] ∷ array W64 (pos 0 ∷ []) ∷ array W64 [] ∷ array W64 (negsuc 6 ∷ []) ∷ []
+unfolding int_wrap
 an_element_has_the_value_taken = refl
 
 -- a point has its memory, and the points are no items

@@ -4,6 +4,7 @@ use Rattle.std.specs.Int.{int_wrap}
 use Rattle.sd_num.specs.declared.resolution.Resolution.TheVariants.{Sum}
 use Rattle.sd_range.specs.declared.subset.Dim.TheVariants.{Index, Span}
 use Rattle.sd_work.specs.declared.fault.FaultKind.TheVariants.{Subscript}
+use Rattle.sd_num.specs.declared.width.Width.TheVariants.{W64}
 use Rattle.sd_work.specs.Memory.{array, stream}
 use Rattle.sd_graph.specs.PlainTree.{literal, input, two, no_value, and_value, assign, branch, no_act, and_act, task, map_scope, consume_scope, no_item, and_item, no_state, and_state, GraphTree, graph}
 use Rattle.sd_graph.specs.declared.container.ContainerKind.TheVariants.{Argument, Private, Stream, PrivateStream}
@@ -32,7 +33,7 @@ inc_graph =
 -- each element of B is that of A and 1 more
 one_is_added_to_each :
     runs_to inc_graph ((pos 1 ∷ pos 2 ∷ pos 9223372036854775807 ∷ []) ∷ (pos 0 ∷ pos 0 ∷ pos 0 ∷ []) ∷ []) 12 20 100
-    (done (array (pos 1 ∷ pos 2 ∷ pos 9223372036854775807 ∷ []) ∷ array (pos 2 ∷ pos 3 ∷ negsuc 9223372036854775807 ∷ []) ∷ []) 97)
+    (done (array W64 (pos 1 ∷ pos 2 ∷ pos 9223372036854775807 ∷ []) ∷ array W64 (pos 2 ∷ pos 3 ∷ negsuc 9223372036854775807 ∷ []) ∷ []) 97)
 unfolding int_wrap
 one_is_added_to_each = (refl, refl)
 
@@ -58,7 +59,7 @@ hist_graph =
 -- a value says which element is counted
 values_are_counted :
     runs_to hist_graph ((pos 1 ∷ pos 3 ∷ pos 3 ∷ pos 0 ∷ pos 3 ∷ []) ∷ (pos 0 ∷ pos 0 ∷ pos 0 ∷ pos 0 ∷ []) ∷ []) 18 20 100
-    (done (array (pos 1 ∷ pos 3 ∷ pos 3 ∷ pos 0 ∷ pos 3 ∷ []) ∷ array (pos 1 ∷ pos 1 ∷ pos 0 ∷ pos 3 ∷ []) ∷ []) 95)
+    (done (array W64 (pos 1 ∷ pos 3 ∷ pos 3 ∷ pos 0 ∷ pos 3 ∷ []) ∷ array W64 (pos 1 ∷ pos 1 ∷ pos 0 ∷ pos 3 ∷ []) ∷ []) 95)
 unfolding int_wrap
 values_are_counted = (refl, refl)
 
@@ -111,7 +112,7 @@ fib_graph =
 -- a pool fills its own stream
 a_pool_fills_its_stream :
     runs_to fib_graph ((pos 5 ∷ []) ∷ (pos 0 ∷ []) ∷ []) 71 20 100
-    (done (array (pos 5 ∷ []) ∷ array (pos 5 ∷ []) ∷ stream [] ∷ array [] ∷ []) 84)
+    (done (array W64 (pos 5 ∷ []) ∷ array W64 (pos 5 ∷ []) ∷ stream W64 [] ∷ array W64 [] ∷ []) 84)
 unfolding int_wrap
 a_pool_fills_its_stream = (refl, refl)
 
@@ -162,6 +163,6 @@ priv_graph =
 -- private containers of points
 points_have_containers_of_their_own :
     runs_to priv_graph ((pos 2 ∷ pos 3 ∷ []) ∷ (pos 0 ∷ pos 0 ∷ []) ∷ []) 35 20 100
-    (done (array (pos 2 ∷ pos 3 ∷ []) ∷ array (pos 9 ∷ pos 19 ∷ []) ∷ array [] ∷ array [] ∷ array [] ∷ []) 92)
+    (done (array W64 (pos 2 ∷ pos 3 ∷ []) ∷ array W64 (pos 9 ∷ pos 19 ∷ []) ∷ array W64 [] ∷ array W64 [] ∷ array W64 [] ∷ []) 92)
 unfolding int_wrap
 points_have_containers_of_their_own = (refl, refl)

@@ -2,6 +2,7 @@
 use Rattle.std.proofs.Common.{◌≡◌, ℕ, pos, List, [], ◌∷◌, None, Bool, true, false, refl, codes}
 use Rattle.std.specs.Int.{int_wrap}
 use Rattle.sd_range.specs.declared.subset.Dim.TheVariants.{Index}
+use Rattle.sd_num.specs.declared.width.Width.TheVariants.{W64}
 use Rattle.sd_work.specs.Memory.{array}
 use Rattle.sd_graph.specs.PlainTree.{GraphTree, graph, and_state, no_state, and_item, no_item, map_scope, task, and_act, no_act, assign, no_value, input}
 use Rattle.sd_graph.specs.declared.container.ContainerKind.TheVariants.{Argument}
@@ -26,12 +27,12 @@ abbrev picks : List ℕ
 picks = 1 ∷ 1 ∷ 1 ∷ 0 ∷ 5 ∷ 2 ∷ 3 ∷ []
 
 -- where nothing orders its points, the second may be done first
-points_may_be_done_in_any_order : picked_from (shift_graph false) ((pos 1 ∷ pos 2 ∷ pos 3 ∷ []) ∷ []) 9 picks 100 ≡ done (array (pos 3 ∷ pos 3 ∷ pos 3 ∷ []) ∷ []) 98
+points_may_be_done_in_any_order : picked_from (shift_graph false) ((pos 1 ∷ pos 2 ∷ pos 3 ∷ []) ∷ []) 9 picks 100 ≡ done (array W64 (pos 3 ∷ pos 3 ∷ pos 3 ∷ []) ∷ []) 98
 unfolding int_wrap
 points_may_be_done_in_any_order = refl
 
 -- in a sequential map the same picks find the first point alone until it is finished
-points_come_one_after_another : picked_from (shift_graph true) ((pos 1 ∷ pos 2 ∷ pos 3 ∷ []) ∷ []) 9 picks 100 ≡ done (array (pos 2 ∷ pos 3 ∷ pos 3 ∷ []) ∷ []) 98
+points_come_one_after_another : picked_from (shift_graph true) ((pos 1 ∷ pos 2 ∷ pos 3 ∷ []) ∷ []) 9 picks 100 ≡ done (array W64 (pos 2 ∷ pos 3 ∷ pos 3 ∷ []) ∷ []) 98
 unfolding int_wrap
 points_come_one_after_another = refl
 

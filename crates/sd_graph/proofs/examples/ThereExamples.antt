@@ -1,5 +1,7 @@
 -- What is there, and work that touches what is not.
 use Rattle.std.proofs.Common.{◌≡◌, inl, inr, ℕ, ◌≤◌, ℤ, pos, List, [], ◌∷◌, length, Option, Some, None, Result, Ok, true, false, slice_get, refl, sym, subst, arith}
+use Rattle.sd_num.specs.declared.width.Width.TheVariants.{W64}
+use Rattle.sd_num.specs.declared.width.Width.{Width}
 use Rattle.sd_work.specs.Memory.{Contents, array, stream, Memory, Memories, Reference}
 use Rattle.sd_work.specs.Leaf.{Pending, write_value, Leaf, instance_of, copy_of}
 use Rattle.sd_work.specs.Exit.{Values, Exit}
@@ -30,29 +32,29 @@ nothing_held memories level container memory contents on_stack missing holds =
     none_some : (given : Option Contents) → given ≡ None → given ≡ Some contents → ⊥
     none_some given e h = cc
 
-pub no_element : (memories : Memories) (reference : Reference) (memory : Memory) (elements : List ℤ) → slice_get memories reference.level ≡ Some memory → slice_get memory reference.container ≡ Some (array elements) →
+pub no_element : (memories : Memories) (reference : Reference) (memory : Memory) (elements : List ℤ) → slice_get memories reference.level ≡ Some memory → slice_get memory reference.container ≡ Some (array W64 elements) →
     length elements ≤ reference.element → IsElementThere memories reference → ⊥
 no_element memories reference memory elements on_stack in_memory few there =
-    let same : array elements ≡ array there.elements = held_one memories reference.level reference.container memory (array elements) (array there.elements) on_stack in_memory there.held in
-    let one : elements ≡ there.elements = arrays elements there.elements same in
+    let same : array W64 elements ≡ array there.width there.elements = held_one memories reference.level reference.container memory (array W64 elements) (array there.width there.elements) on_stack in_memory there.held in
+    let one : elements ≡ there.elements = arrays elements there.width there.elements same in
     absurd (omega (arith, there.within, subst (λ list. length list ≤ reference.element) one few))
   where
-    arrays : (first second : List ℤ) → array first ≡ array second → first ≡ second
-    arrays first second e = cc
+    arrays : (first : List ℤ) (width : Width) (second : List ℤ) → array W64 first ≡ array width second → first ≡ second
+    arrays first width second e = cc
 
 -- ---- an array with two elements, and a stream in which nothing waits
 
 abbrev memory : Memory
-memory = array (pos 1 ∷ pos 2 ∷ []) ∷ stream [] ∷ []
+memory = array W64 (pos 1 ∷ pos 2 ∷ []) ∷ stream W64 [] ∷ []
 
 abbrev element_at : (level container element : ℕ) → Reference
 element_at level container element = record { level = level; container = container; element = element }
 
 an_element_of_an_array_is_there : IsThere (memory ∷ []) (reads (element_at 0 0 1))
-an_element_of_an_array_is_there = record { elements = pos 1 ∷ pos 2 ∷ []; held = record { memory = memory; on_stack = refl; in_memory = refl }; within = omega arith }
+an_element_of_an_array_is_there = record { width = W64; elements = pos 1 ∷ pos 2 ∷ []; held = record { memory = memory; on_stack = refl; in_memory = refl }; within = omega arith }
 
 an_element_that_is_written_is_there : IsThere (memory ∷ []) (writes (element_at 0 0 0) None)
-an_element_that_is_written_is_there = record { elements = pos 1 ∷ pos 2 ∷ []; held = record { memory = memory; on_stack = refl; in_memory = refl }; within = omega arith }
+an_element_that_is_written_is_there = record { width = W64; elements = pos 1 ∷ pos 2 ∷ []; held = record { memory = memory; on_stack = refl; in_memory = refl }; within = omega arith }
 
 one_element_more_is_not_there : IsThere (memory ∷ []) (reads (element_at 0 0 2)) → ⊥
 one_element_more_is_not_there there = no_element (memory ∷ []) (element_at 0 0 2) memory (pos 1 ∷ pos 2 ∷ []) refl refl (omega arith) there
@@ -61,29 +63,29 @@ nor_can_it_be_written : IsThere (memory ∷ []) (writes (element_at 0 0 2) None)
 nor_can_it_be_written there = one_element_more_is_not_there there
 
 a_stream_has_no_element : IsThere (memory ∷ []) (reads (element_at 0 1 0)) → ⊥
-a_stream_has_no_element there = stream_array there.elements (held_one (memory ∷ []) 0 1 memory (stream []) (array there.elements) refl refl there.held)
+a_stream_has_no_element there = stream_array there.width there.elements (held_one (memory ∷ []) 0 1 memory (stream W64 []) (array there.width there.elements) refl refl there.held)
   where
-    stream_array : (elements : List ℤ) → stream [] ≡ array elements → ⊥
-    stream_array elements e = cc
+    stream_array : (width : Width) (elements : List ℤ) → stream W64 [] ≡ array width elements → ⊥
+    stream_array width elements e = cc
 
 a_stream_is_there : IsThere (memory ∷ []) (pushes 0 1) × IsThere (memory ∷ []) (takes 0 1)
 a_stream_is_there = (there, there)
   where
     there : IsStreamThere (memory ∷ []) 0 1
-    there = record { values = []; held = record { memory = memory; on_stack = refl; in_memory = refl } }
+    there = record { width = W64; values = []; held = record { memory = memory; on_stack = refl; in_memory = refl } }
 
 an_array_is_no_stream : IsThere (memory ∷ []) (pushes 0 0) → ⊥
-an_array_is_no_stream there = array_stream there.values (held_one (memory ∷ []) 0 0 memory (array (pos 1 ∷ pos 2 ∷ [])) (stream there.values) refl refl there.held)
+an_array_is_no_stream there = array_stream there.width there.values (held_one (memory ∷ []) 0 0 memory (array W64 (pos 1 ∷ pos 2 ∷ [])) (stream there.width there.values) refl refl there.held)
   where
-    array_stream : (values : List ℤ) → array (pos 1 ∷ pos 2 ∷ []) ≡ stream values → ⊥
-    array_stream values e = cc
+    array_stream : (width : Width) (values : List ℤ) → array W64 (pos 1 ∷ pos 2 ∷ []) ≡ stream width values → ⊥
+    array_stream width values e = cc
 
 nor_can_it_be_taken_from : IsThere (memory ∷ []) (takes 0 0) → ⊥
 nor_can_it_be_taken_from there = an_array_is_no_stream there
 
 a_container_more_is_not_there : (IsThere (memory ∷ []) (reads (element_at 0 2 0)) → ⊥) × (IsThere (memory ∷ []) (pushes 0 2) → ⊥)
 a_container_more_is_not_there =
-    (λ there. nothing_held (memory ∷ []) 0 2 memory (array there.elements) refl refl there.held, λ there. nothing_held (memory ∷ []) 0 2 memory (stream there.values) refl refl there.held)
+    (λ there. nothing_held (memory ∷ []) 0 2 memory (array there.width there.elements) refl refl there.held, λ there. nothing_held (memory ∷ []) 0 2 memory (stream there.width there.values) refl refl there.held)
 
 a_memory_more_is_not_there : (IsThere (memory ∷ []) (reads (element_at 1 0 0)) → ⊥) × (IsThere (memory ∷ []) (takes 1 1) → ⊥)
 a_memory_more_is_not_there = (λ there. off_stack there.held.memory there.held.on_stack, λ there. off_stack there.held.memory there.held.on_stack)
@@ -134,7 +136,7 @@ the_second_part_counts_too there = what_is_read_is_not_there there.1.0
 an_owner_has_other_elements : TouchesWhatIsThere (memory ∷ []) (owning [] (that_reads inside)) → ⊥
 an_owner_has_other_elements there =
     let read : IsElementThere ([] ∷ memory ∷ []) inside = there (reads inside) (inl (inl refl)) in
-    nothing_held ([] ∷ memory ∷ []) 0 0 [] (array read.elements) refl refl read.held
+    nothing_held ([] ∷ memory ∷ []) 0 0 [] (array read.width read.elements) refl refl read.held
 
 an_owner_s_own_element : TouchesWhatIsThere [] (owning memory (leaf_of (copy_of ((Some inside, Some inside) ∷ []))))
 an_owner_s_own_element = λ touch touched. elim touched [

@@ -18,7 +18,7 @@ use Rattle.sd_graph.specs.declared.link.Link.{Link}
 use Rattle.sd_graph.specs.declared.place.Place.{Place}
 use Rattle.sd_graph.proofs.ElementPlaces.{elements_are_at_places}
 use Rattle.sd_mem.specs.machine.Stack.{reference_of}
-use Rattle.sd_mem.specs.declared.machine.cell.Cell.{Cell}
+use Rattle.sd_mem.specs.declared.machine.address.Address.{Address}
 use Rattle.sd_leaves.specs.leaves.Read.{before_others, links_seen}
 
 -- ---- how many there are
@@ -156,7 +156,7 @@ module _ (find : List ℤ → Option Reference) (memories : Memories) (values : 
 
   module _ (indices rest : List (List ℤ)) (at : List ℤ) (is : indices ≡ at ∷ rest) where
     -- one more element is read
-    pub index_read : (cell : Cell) (more : List ℤ) (value : ℤ) → find at ≡ Some (reference_of cell) → value ≡ look (reference_of cell) memories → more ≡ values ++ value ∷ [] →
+    pub index_read : (cell : Address) (more : List ℤ) (value : ℤ) → find at ≡ Some (reference_of cell) → value ≡ look (reference_of cell) memories → more ≡ values ++ value ∷ [] →
         seen_from indices ≡ with_values more (all_seen (map find rest) memories)
     index_read cell more value found looked grown =
         ap seen_from is

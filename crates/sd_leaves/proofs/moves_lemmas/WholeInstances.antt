@@ -8,7 +8,7 @@ use Rattle.sd_work.specs.Settle.{is_empty}
 use Rattle.sd_work.specs.BigStep.{Reached}
 use Rattle.sd_graph.specs.declared.place.Place.{Place}
 use Rattle.sd_mem.specs.machine.Stack.{reference_of}
-use Rattle.sd_mem.specs.declared.machine.cell.Cell.{Cell}
+use Rattle.sd_mem.specs.declared.machine.address.Address.{Address}
 use Rattle.sd_mem.specs.declared.machine.end.End.{End}
 use Rattle.sd_mem.specs.declared.machine.end.End.TheVariants.{Finished, Fault, OutOfTurns}
 use Rattle.sd_leaves.proofs.leaves_lemmas.Lists.{from_here}
@@ -30,13 +30,13 @@ some_there : (values : List ℤ) (count : ℕ) → length values ≡ suc count �
 some_there [] count is = absurd (omega (arith, is))
 some_there (value ∷ values) count is = refl
 
-abbrev references : List (Option Cell) → List (Option Reference)
+abbrev references : List (Option Address) → List (Option Reference)
 references cells = map (option_map reference_of) cells
 
 -- ---- a read
 
 -- what is left behind a read
-left_read : (evaluation : Evaluation) (cells : List (Option Cell)) (values after : List ℤ) (move : Move Place Leaf) (old : Leaf) (now then : Reached) (end : End) → IsCounted end values after
+left_read : (evaluation : Evaluation) (cells : List (Option Address)) (values after : List ℤ) (move : Move Place Leaf) (old : Leaf) (now then : Reached) (end : End) → IsCounted end values after
     → IsMoved move old now end then (reading true (references (drop (length values + 1) cells)) after evaluation)
     → IsMoved move old now end then (reading_of evaluation cells after)
 left_read evaluation cells values after move old now then Finished counted moved =
@@ -46,7 +46,7 @@ left_read evaluation cells values after move old now then Finished counted moved
 left_read evaluation cells values after move old now then (Fault place kind) counted moved = record { comes = moved.comes; depth = moved.depth }
 left_read evaluation cells values after move old now then OutOfTurns counted moved = record { comes = moved.comes; depth = moved.depth }
 
-pub read-whole : (evaluation : Evaluation) (cells : List (Option Cell)) (values after : List ℤ) (cell : Option Cell) (place : Place) (now then : Reached) (end : End)
+pub read-whole : (evaluation : Evaluation) (cells : List (Option Address)) (values after : List ℤ) (cell : Option Address) (place : Place) (now then : Reached) (end : End)
     → length values < length cells → cell ≡ get_or cells (length values) cell → IsCounted end values after
     → ((old : Leaf) (left : List (Option Reference)) (evaluation : Evaluation) → IsMoved (read_move place (is_empty values) (seen (option_map reference_of cell) now.memories) left values evaluation) old now end then (reading true left after evaluation))
     → IsMoved (leaf_move place (reading_of evaluation cells values) now.memories) (reading_of evaluation cells values) now end then (reading_of evaluation cells after)
@@ -54,17 +54,17 @@ read-whole evaluation cells values after cell place now then end within is count
     let old = reading_of evaluation cells values in
     let rest = references (drop (length values + 1) cells) in
     let here : leaf_move place old now.memories ≡ read_move place (is_empty values) (seen (option_map reference_of cell) now.memories) rest values evaluation =
-    ap (λ (left : List (Option Cell)). leaf_move place (reading (not (is_empty values)) (references left) values evaluation) now.memories) (from_here cells (length values) cell within is)
+    ap (λ (left : List (Option Address)). leaf_move place (reading (not (is_empty values)) (references left) values evaluation) now.memories) (from_here cells (length values) cell within is)
     ∙ ap (λ (turn : Bool). read_move place turn (seen (option_map reference_of cell) now.memories) rest values evaluation) (twice (is_empty values)) in
     subst (λ (move : Move Place Leaf). IsMoved move old now end then (reading_of evaluation cells after)) (sym here)
     (left_read evaluation cells values after (read_move place (is_empty values) (seen (option_map reference_of cell) now.memories) rest values evaluation) old now then end counted (moves old rest evaluation))
 
 -- ---- an evaluation
 
-pub evaluation-whole : (evaluation : Evaluation) (cells : List (Option Cell)) (values : List ℤ) (place : Place) (memories : Memories) → length cells ≤ length values
+pub evaluation-whole : (evaluation : Evaluation) (cells : List (Option Address)) (values : List ℤ) (place : Place) (memories : Memories) → length cells ≤ length values
     → evaluation_move place (is_empty values) (evaluation values) ≡ leaf_move place (reading_of evaluation cells values) memories
 evaluation-whole evaluation cells values place memories over =
-    sym (ap (λ (left : List (Option Cell)). leaf_move place (reading (not (is_empty values)) (references left) values evaluation) memories) (drop_of_length-le cells over)
+    sym (ap (λ (left : List (Option Address)). leaf_move place (reading (not (is_empty values)) (references left) values evaluation) memories) (drop_of_length-le cells over)
     ∙ ap (λ (turn : Bool). evaluation_move place turn (evaluation values)) (twice (is_empty values)))
 
 -- the evaluation of an instance that has read all

@@ -3,7 +3,7 @@ use Rattle.std.specs.Prelude.{ℤ, List, map, length, drop, Option, option_map, 
 use Rattle.sd_work.specs.Leaf.{Pending, write_value, transfer, push_to, Evaluation, Leaf, reading, doing}
 use Rattle.sd_work.specs.Settle.{is_empty}
 use Rattle.sd_mem.specs.machine.Stack.{reference_of}
-use Rattle.sd_mem.specs.declared.machine.cell.Cell.{Cell}
+use Rattle.sd_mem.specs.declared.machine.address.Address.{Address}
 use Rattle.sd_leaves.specs.declared.moves.todo.Todo.{Todo}
 use Rattle.sd_leaves.specs.declared.moves.todo.Todo.TheVariants.{Write, Transfer, Push}
 use Rattle.sd_leaves.specs.declared.moves.doing.Doing as kept
@@ -25,7 +25,7 @@ abbrev pub doing_left : kept.Doing → Leaf
 doing_left kept = doing (all_told (drop kept.done kept.todo.items))
 
 -- the elements that are not read yet, behind those that have these values; an instance begins with its first read
-abbrev pub reading_of : Evaluation → (cells : List (Option Cell)) → (values : List ℤ) → Leaf
+abbrev pub reading_of : Evaluation → (cells : List (Option Address)) → (values : List ℤ) → Leaf
 reading_of evaluation cells values = reading (not (is_empty values)) (map (option_map reference_of) (drop (length values) cells)) values evaluation
 
 abbrev pub reading_left : Evaluation → read.Reading → Leaf

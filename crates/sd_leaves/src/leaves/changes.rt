@@ -6,13 +6,13 @@ ghost use Rattle.sd_leaves.specs.leaves.Done.{IsDone, performing};
 ghost use Rattle.sd_leaves.specs.leaves.Cells.{transferring};
 
 use sd_graph::FaultKind;
-use sd_mem::{Cell, Machine};
+use sd_mem::{Address, Machine};
 use sd_num::Resolution;
 
 /// Writes a value to an element, where that is inside.
 pub(crate) fn write(
     value: i64,
-    to: Option<Cell>,
+    to: Option<Address>,
     by: Option<Resolution>,
     machine: &mut Machine,
 ) -> Option<FaultKind>
@@ -27,8 +27,8 @@ pub(crate) fn write(
 
 /// Reads an element and writes its value to another one, where both are inside.
 pub(crate) fn transfer(
-    from: Option<Cell>,
-    to: Option<Cell>,
+    from: Option<Address>,
+    to: Option<Address>,
     by: Option<Resolution>,
     machine: &mut Machine,
 ) -> Option<FaultKind>

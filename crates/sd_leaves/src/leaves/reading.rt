@@ -8,7 +8,7 @@ ghost use Rattle.sd_leaves.specs.leaves.Read.{links_seen};
 
 use sd_graph::{Link, Sdfg};
 use sd_list::{NoMemory, Sequence};
-use sd_mem::{Cell, Machine};
+use sd_mem::{Address, Machine};
 use sd_scope::{Base, Indices, Scope, cell_at, has_one_element, link_cell};
 use std::alloc::Global;
 
@@ -70,7 +70,7 @@ fn values_of_link(
 /// The value of an element; `None` where that is outside.
 fn value_of_cell(
     alloc: Global,
-    cell: Option<Cell>,
+    cell: Option<Address>,
     machine: &Machine,
 ) -> Result<Option<Sequence<i64>>, NoMemory>
     ensures { IfOk result (λ values. values ≡ all_seen (option_map reference_of cell ∷ []) machine.now.memories) }

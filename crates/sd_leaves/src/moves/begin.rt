@@ -13,7 +13,7 @@ use crate::moves::doing::Doing;
 use crate::moves::todo::Todo;
 use sd_graph::{Link, Sdfg};
 use sd_list::NoMemory;
-use sd_mem::Cell;
+use sd_mem::Address;
 use sd_scope::{Base, Scope, link_cells};
 use std::alloc::Global;
 
@@ -24,7 +24,7 @@ pub(crate) fn cells_of_links(
     graph: &Sdfg,
     base: &Base,
     scope: &Scope,
-) -> Result<Vec<Option<Cell>>, NoMemory>
+) -> Result<Vec<Option<Address>>, NoMemory>
     ensures { IfOk result (λ cells. map (option_map reference_of) cells.items ≡ flat_map (link_elements (context_of (graph_tree graph.now) base.now scope.now)) links.now) }
 {
     let mut cells = Vec::new(alloc);
@@ -38,8 +38,8 @@ pub(crate) fn cells_of_links(
 /// Each first element written to the second one; what one of the lists has more is left.
 fn transfers(
     alloc: Global,
-    from: &[Option<Cell>],
-    to: &[Option<Cell>],
+    from: &[Option<Address>],
+    to: &[Option<Address>],
 ) -> Result<Vec<Todo>, NoMemory>
     ensures { IfOk result (λ todos. all_told todos.items ≡ map (transferring None) (zip from.now to.now)) }
 {

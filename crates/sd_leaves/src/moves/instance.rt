@@ -21,14 +21,14 @@ use crate::moves::effects::effects_of;
 use crate::moves::todo::Todo;
 use sd_graph::{FaultKind, Link, Sdfg, Tasklet};
 use sd_list::NoMemory;
-use sd_mem::{Cell, End, Machine};
+use sd_mem::{Address, End, Machine};
 use sd_scope::{Base, Scope, place_of};
 use std::alloc::Global;
 
 /// The elements that an instance reads, and the values of the first ones, which were read. Behind the last one it evaluates.
 #[derive(Drop)]
 pub struct Reading {
-    pub cells: Vec<Option<Cell>>,
+    pub cells: Vec<Option<Address>>,
     pub values: Vec<i64>,
 }
 
@@ -144,7 +144,7 @@ impl Instance {
 /// Reads the next element, behind those that have these values, in a line where a scope stands.
 fn read(
     alloc: Global,
-    cell: Option<Cell>,
+    cell: Option<Address>,
     values: &mut Vec<i64>,
     line: u32,
     graph: &Sdfg,

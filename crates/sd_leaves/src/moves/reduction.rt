@@ -15,13 +15,13 @@ use crate::moves::doing::Doing;
 use crate::moves::todo::Todo;
 use sd_graph::{Link, Sdfg};
 use sd_list::NoMemory;
-use sd_mem::Cell;
+use sd_mem::Address;
 use sd_num::Resolution;
 use sd_scope::{Base, Scope, connector_extents, link_cell, link_cells};
 use std::alloc::Global;
 
 /// A value written to each of the elements.
-fn writes(alloc: Global, value: i64, targets: &[Option<Cell>]) -> Result<Vec<Todo>, NoMemory>
+fn writes(alloc: Global, value: i64, targets: &[Option<Address>]) -> Result<Vec<Todo>, NoMemory>
     ensures { IfOk result (λ todos. all_told todos.items ≡ map (writing value) targets.now) }
 {
     let mut todos = Vec::with_capacity(alloc, targets.len())?;

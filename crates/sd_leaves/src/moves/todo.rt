@@ -8,7 +8,7 @@ ghost use Rattle.sd_leaves.specs.moves.Left.{told};
 ghost use Rattle.sd_leaves.specs.moves.Moved.{IsMoved, end_if};
 
 use sd_list::NoMemory;
-use sd_mem::{Cell, Machine, Station};
+use sd_mem::{Address, Machine, Station};
 use sd_num::Resolution;
 
 /// One thing that is still to do. An element that is not inside is `None`.
@@ -17,13 +17,13 @@ pub enum Todo {
     /// A value is written to an element.
     Write {
         value: i64,
-        to: Option<Cell>,
+        to: Option<Address>,
         by: Option<Resolution>,
     },
     /// An element is read and written to another one.
     Transfer {
-        from: Option<Cell>,
-        to: Option<Cell>,
+        from: Option<Address>,
+        to: Option<Address>,
         by: Option<Resolution>,
     },
     /// A value is pushed into a stream.
@@ -34,7 +34,7 @@ pub enum Todo {
 }
 
 /// Writes a value to an element; `false` where that is not inside.
-fn write(value: i64, to: Option<Cell>, by: Option<Resolution>, machine: &mut Machine) -> bool
+fn write(value: i64, to: Option<Address>, by: Option<Resolution>, machine: &mut Machine) -> bool
     ensures { (place : Place) (left : List Pending) (old : Leaf) → IsMoved (do_move place (write_value value (option_map reference_of to) by) machine.old.memories left) old machine.old (end_if result place) machine.new (doing left) }
 {
     let Some(to) = to else {
@@ -46,8 +46,8 @@ fn write(value: i64, to: Option<Cell>, by: Option<Resolution>, machine: &mut Mac
 
 /// Reads an element and writes it to another one; `false` where one of them is not inside.
 fn transfer(
-    from: Option<Cell>,
-    to: Option<Cell>,
+    from: Option<Address>,
+    to: Option<Address>,
     by: Option<Resolution>,
     machine: &mut Machine,
 ) -> bool

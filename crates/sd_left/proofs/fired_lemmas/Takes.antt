@@ -1,6 +1,6 @@
 -- Takes of values that wait.
 use Rattle.std.proofs.Common.{◌≡◌, ℕ, zero, suc, ℤ, List, [], ◌∷◌, ◌++◌, slice_get, slice_index_or, Option, Some, None, Bool, false, refl, sym, ap, ap₂, ◌∙◌, subst}
-use Rattle.sd_work.specs.Memory.{Contents, array, stream, values_of, waiting}
+use Rattle.sd_work.specs.Memory.{Contents, array, stream, values_of, contents_of, waiting}
 use Rattle.sd_work.specs.Change.{apply, take, without, changed_at, with_values}
 use Rattle.sd_work.specs.Move.{Move}
 use Rattle.sd_work.specs.Residual.{Term, pool, Actives, idle, busy}
@@ -48,9 +48,9 @@ module _ (level container : ℕ) (closed : Bool) (active : List BodyLeft) (kind 
   nothing-out (value ∷ values) zero none = cc
   nothing-out (value ∷ values) (suc position) none = ap (λ (rest : List ℤ). value ∷ rest) (nothing-out values position none)
 
-  nothing-lost : (contents : Contents) → slice_get (values_of contents) position ≡ None → with_values (without position) contents ≡ contents
-  nothing-lost (array elements) none = refl
-  nothing-lost (stream values) none = ap stream (nothing-out values position none)
+  nothing-lost : (contents : Contents) → slice_get (values_of contents) position ≡ None → with_values (λ width. without position) contents ≡ contents
+  nothing-lost (array width elements) none = refl
+  nothing-lost (stream width values) none = ap (stream width) (nothing-out values position none)
 
   kept-at : {A : Type 0} (number : ℕ) (change : A → A) (other : A) (members : List A) → change (slice_index_or members number other) ≡ slice_index_or members number other → changed_at number change members ≡ members
   kept-at number change other [] same = refl
@@ -59,9 +59,9 @@ module _ (level container : ℕ) (closed : Bool) (active : List BodyLeft) (kind 
 
   all-kept : slice_get (waiting level container before.memories) position ≡ None → apply (take level container position) before.memories ≡ before.memories
   all-kept none =
-      kept-at level (changed_at container (with_values (without position))) [] before.memories
-      (kept-at container (with_values (without position)) (stream []) (slice_index_or before.memories level [])
-      (nothing-lost (slice_index_or (slice_index_or before.memories level []) container (stream [])) none))
+      kept-at level (changed_at container (with_values (λ width. without position))) [] before.memories
+      (kept-at container (with_values (λ width. without position)) _ (slice_index_or before.memories level [])
+      (nothing-lost (contents_of level container before.memories) none))
 
   pub nothing-taken : slice_get (waiting level container before.memories) position ≡ None
       → after.memories ≡ apply (take level container position) before.memories → after.turns ≡ before.turns

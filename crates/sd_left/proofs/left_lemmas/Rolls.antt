@@ -5,7 +5,7 @@ use Rattle.sd_work.specs.Residual.{leaf, list, pool, Points}
 use Rattle.sd_graph.specs.PlainTree.{KindTree}
 use Rattle.sd_graph.specs.Context.{Context, place_at}
 use Rattle.sd_graph.specs.Unfold.{order_of_points}
-use Rattle.sd_mem.specs.declared.machine.cell.Station.{Station}
+use Rattle.sd_mem.specs.declared.machine.address.Station.{Station}
 use Rattle.sd_leaves.specs.moves.Left.{doing_left, instance_left}
 use Rattle.sd_leaves.specs.declared.moves.doing.Doing.{Doing}
 use Rattle.sd_leaves.specs.declared.moves.instance.Instance.{Instance}

@@ -3,7 +3,7 @@ use Rattle.std.proofs.Common.{◌≡◌, ℕ, ◌+◌, map, Bool, not, cond, Ok,
 use Rattle.std.specs.declared.alloc.Global.{Global}
 use Rattle.sd_work.specs.Leaf.{is_done}
 use Rattle.sd_moves.specs.numbered.Counts.{one_if}
-use Rattle.sd_mem.specs.declared.machine.cell.Station.{Station}
+use Rattle.sd_mem.specs.declared.machine.address.Station.{Station}
 use Rattle.sd_leaves.specs.moves.Left.{doing_left, instance_left}
 use Rattle.sd_leaves.specs.declared.moves.doing.Doing.{Doing}
 use Rattle.sd_leaves.specs.declared.moves.instance.Instance.{Instance}

@@ -2,7 +2,7 @@
 use Rattle.std.proofs.Common.{◌≡◌, ℕ, ◌∷◌, map, length, Bool, ◌&&◌, ◌||◌, nat_eq, ap, Box}
 use Rattle.std.specs.declared.alloc.Global.{Global}
 use Rattle.sd_work.specs.Memory.{Memories, waiting}
-use Rattle.sd_mem.specs.declared.machine.cell.Station.{Station}
+use Rattle.sd_mem.specs.declared.machine.address.Station.{Station}
 use Rattle.sd_left.specs.declared.left.left.Left as shape
 use Rattle.sd_left.specs.declared.left.left.Left.TheOpen as layer
 use Rattle.sd_left.specs.declared.left.left.Left.TheViews.{out-Bodies, out-Body, out-Run}

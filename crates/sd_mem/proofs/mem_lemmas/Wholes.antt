@@ -31,5 +31,5 @@ sized_more (first ∷ holdings) holding sized last = (sized.0, sized_more holdin
 
 -- the place of an index of an array that is here is below the number of its elements
 pub place_is_here : (shape : List ℕ) (contents : Contents) (index : List ℤ) (place : ℕ) → IsWhole shape contents → Some place ≡ place_in shape index → place < length (elements_of contents)
-place_is_here shape (array elements) index place whole is = omega (arith, whole, place-below shape index place is)
-place_is_here shape (stream values) index place whole is = absurd whole
+place_is_here shape (array width elements) index place whole is = omega (arith, whole, place-below shape index place is)
+place_is_here shape (stream width values) index place whole is = absurd whole

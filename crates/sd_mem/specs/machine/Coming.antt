@@ -5,12 +5,12 @@ use Rattle.sd_range.specs.Points.{points, ranges_of}
 use Rattle.sd_work.specs.Memory.{Memories}
 use Rattle.sd_work.specs.Exit.{Values, first_exit}
 use Rattle.sd_work.specs.Exit as work
-use Rattle.sd_work.specs.Residual.{Term, owning}
+use Rattle.sd_work.specs.Residual.{Term}
 use Rattle.sd_work.specs.BigStep.{Coming, Reached, and_then, big_step, big_states, big_parts}
 use Rattle.sd_graph.specs.PlainTree.{KindTree, ItemTrees, GraphTree, graph, ExitTree}
 use Rattle.sd_graph.specs.TreeParts.{exits_at}
-use Rattle.sd_graph.specs.Context.{Reach, Context, private_memory}
-use Rattle.sd_graph.specs.Unfold.{at_state, at_point, unfold_state, unfold_kind, unfold_items, exit_of, list_of, point_terms}
+use Rattle.sd_graph.specs.Context.{Reach, Context}
+use Rattle.sd_graph.specs.Unfold.{at_state, map_at, unfold_state, unfold_kind, unfold_items, exit_of, list_of, point_terms}
 use Rattle.sd_graph.specs.declared.place.Frame.{Frame}
 use Rattle.sd_graph.specs.declared.place.Place.{Place}
 
@@ -26,9 +26,7 @@ items_coming items context now most = big_parts (unfold_items items context) mos
 
 -- what a map does at a point
 abbrev pub point_term : ItemTrees → (params : List (ℕ × Range)) → (private : List ℕ) → Context → (point : List ℤ) → Term Place
-point_term body params private context point =
-    let inside = at_point context params private point in
-    owning (private_memory context.containers private) (list_of inside body (unfold_items body inside))
+point_term body params private context point = map_at context params private (λ inside. list_of inside body (unfold_items body inside)) point
 
 -- what a map comes to from here, with these points
 abbrev pub points_coming : ItemTrees → (params : List (ℕ × Range)) → (private : List ℕ) → Context → (points : List (List ℤ)) → Reached → (most : ℕ) → Coming Place

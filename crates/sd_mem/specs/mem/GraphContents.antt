@@ -1,6 +1,6 @@
 -- The memories that a graph begins with.
 use Rattle.std.specs.Prelude.{ℕ, suc, ℤ, List, [], ◌∷◌, map, Bool, if◌then◌else◌}
-use Rattle.sd_work.specs.Memory.{Contents, array}
+use Rattle.sd_work.specs.Memory.{Contents, absent}
 use Rattle.sd_graph.specs.PlainTree.{GraphTree}
 use Rattle.sd_graph.specs.TreeParts.{containers_of}
 use Rattle.sd_graph.specs.ContainerParts.{Containers, extents_of, is_stream, opening_contents}
@@ -25,7 +25,7 @@ shapes_from has number (entry ∷ entries) = (if has number entry.1.kind then sh
 
 -- a container with zeros, a stream with nothing; private ones are those of points and elements, and hold nothing here
 abbrev pub zero_contents : Container → Contents
-zero_contents container = if is_private container.kind then array [] else opening_contents container
+zero_contents container = if is_private container.kind then absent else opening_contents container
 
 -- all arrays of a graph with zeros, its arguments too
 abbrev pub zeros_of : GraphTree → Shaped

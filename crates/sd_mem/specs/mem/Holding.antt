@@ -2,8 +2,9 @@
 use Rattle.std.specs.Prelude.{ℕ, ◌<◌, ◌^◌, List, [], map}
 use Rattle.std.specs.List.{AllByRecursion}
 use Rattle.sd_range.specs.Points.{product}
-use Rattle.sd_work.specs.Memory.{Contents, array, stream}
+use Rattle.sd_work.specs.Memory.{Contents}
 use Rattle.sd_mem.specs.mem.Shaped.{Shaped}
+use Rattle.sd_mem.specs.mem.Cells.{array_of, stream_of}
 use Rattle.sd_mem.specs.declared.mem.holding.Holding.{Holding}
 use Rattle.sd_mem.specs.declared.mem.holding.Holding.TheVariants.{Array, Stream}
 use Rattle.sd_mem.specs.declared.mem.memory.Memory.TheInside.{Inside}
@@ -15,8 +16,8 @@ shape_held (Stream values) = []
 
 -- what a container holds
 abbrev pub contents_held : Holding → Contents
-contents_held (Array shape cells) = array cells.items
-contents_held (Stream values) = stream values.items
+contents_held (Array shape cells) = array_of cells
+contents_held (Stream values) = stream_of values
 
 -- the numbers of an array's elements fit 64 bits
 abbrev pub IsSized : Holding → Type 0

@@ -2,7 +2,8 @@
 use Rattle.std.specs.Prelude.{◌≡◌, ℕ, ℤ, List, [], ◌∷◌, length, Option, Some, None, option_map, if◌then◌else◌, slice_index_or, slice_set, ⊤}
 use Rattle.sd_range.specs.Points.{product}
 use Rattle.sd_range.specs.Subset.{inside}
-use Rattle.sd_work.specs.Memory.{Contents, array, stream, Memory, Memories, Reference, contents_of}
+use Rattle.sd_num.specs.declared.width.Width.{Width}
+use Rattle.sd_work.specs.Memory.{Contents, array, stream, Memory, Memories, Reference, contents_of, width_of}
 use Rattle.sd_num.specs.declared.resolution.Resolution.{Resolution}
 use Rattle.sd_work.specs.Change.{Change, write, own_after}
 use Rattle.sd_graph.specs.RowOrder.{row_number}
@@ -20,19 +21,23 @@ shape_at memory container = slice_index_or memory.shapes container []
 abbrev pub contents_at : Shaped → (container : ℕ) → Contents
 contents_at memory container = contents_of 0 container (memory.contents ∷ [])
 
+-- the width of a container
+abbrev pub width_at : Shaped → (container : ℕ) → Width
+width_at memory container = width_of (contents_at memory container)
+
 -- the memory as the one memory of a stack
 abbrev pub alone : Shaped → Memories
 alone memory = memory.contents ∷ []
 
 -- contents are an array
 abbrev pub IsArray : Contents → Type 0
-IsArray (array elements) = ⊤
-IsArray (stream values) = ⊥
+IsArray (array width elements) = ⊤
+IsArray (stream width values) = ⊥
 
 -- contents are an array with an element for each index
 abbrev pub IsWhole : (shape : List ℕ) → Contents → Type 0
-IsWhole shape (array elements) = length elements ≡ product shape
-IsWhole shape (stream values) = ⊥
+IsWhole shape (array width elements) = length elements ≡ product shape
+IsWhole shape (stream width values) = ⊥
 
 -- a container is an array that is here: it holds an element for each index
 abbrev pub IsHere : Shaped → (container : ℕ) → Type 0
@@ -61,7 +66,7 @@ written_at (Some to) by value memory = changed (write to by value) memory
 
 -- a container is an array whose elements were taken out
 abbrev pub IsAway : Shaped → (container : ℕ) → Type 0
-IsAway memory container = contents_at memory container ≡ array []
+IsAway memory container = contents_at memory container ≡ array (width_at memory container) []
 
 -- the memory with other contents in the place of a container's
 abbrev pub with_contents_at : (container : ℕ) → Contents → Shaped → Shaped

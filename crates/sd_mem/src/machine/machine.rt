@@ -1,13 +1,14 @@
 ghost use Rattle.std.specs.Prelude.{◌≡◌, ◌+◌, ◌≤◌, ◌<◌, ◌∷◌, [], zero, suc, drop, length, slice_get, true, IsTrue, IsFalse, IfOk, OnOk, OnErr};
 ghost use Rattle.std.specs.Option.{MatchOption};
-ghost use Rattle.sd_work.specs.Memory.{contents_of, elements_of, look, waiting};
+ghost use Rattle.sd_work.specs.Memory.{contents_of, elements_of, look, waiting, width_of};
 ghost use Rattle.sd_work.specs.Change.{apply, innermost, push, take, write};
+ghost use Rattle.sd_mem.specs.mem.Cells.{array_lent};
 ghost use Rattle.sd_mem.specs.machine.Stack.{reference_of, IsPaid};
 
-use crate::machine::cell::{Cell, Station};
-use crate::mem::Memory;
+use crate::machine::address::{Address, Station};
+use crate::mem::{Elements, Memory};
 use sd_list::NoMemory;
-use sd_num::Resolution;
+use sd_num::{Resolution, Width};
 use std::alloc::Global;
 use std::marker::Model;
 
@@ -114,7 +115,7 @@ impl Machine {
     }
 
     /// The value of an element; 0 where there is no such element.
-    pub fn look(&self, cell: Cell) -> i64
+    pub fn look(&self, cell: Address) -> i64
         ensures { result ≡ look (reference_of cell) self.now.memories }
     {
         match index_of(self.memories.len(), cell.station.level) {
@@ -123,19 +124,30 @@ impl Machine {
         }
     }
 
+    /// The width of a container's elements or values; 64 bits where it is not there.
+    pub fn width(&self, station: Station) -> Width
+        ensures { result ≡ width_of (contents_of station.level station.container self.now.memories) }
+    {
+        match index_of(self.memories.len(), station.level) {
+            Some(i) => self.memories[i].width(station.container),
+            None => Width::W64,
+        }
+    }
+
     /// The elements of an array in row order; none where there is no such array.
-    pub fn cells(&self, station: Station) -> &[i64]
-        ensures { result.now ≡ elements_of (contents_of station.level station.container self.now.memories) }
+    pub fn cells(&self, station: Station) -> Elements
+        ensures elements { elements_of (array_lent result) ≡ elements_of (contents_of station.level station.container self.now.memories) }
+        ensures width { width_of (array_lent result) ≡ width_of (contents_of station.level station.container self.now.memories) }
     {
         match index_of(self.memories.len(), station.level) {
             Some(i) => self.memories[i].cells(station.container),
-            None => &[],
+            None => Elements::none(Width::W64),
         }
     }
 
     /// Writes a value to an element: it replaces the old one, or is resolved with it. Nothing changes where there is no such
     /// element.
-    pub fn write(&mut self, cell: Cell, by: Option<Resolution>, value: i64)
+    pub fn write(&mut self, cell: Address, by: Option<Resolution>, value: i64)
         ensures memories { self.new.memories ≡ apply (write (reference_of cell) by value) self.old.memories }
         ensures turns { self.new.turns ≡ self.old.turns }
     {

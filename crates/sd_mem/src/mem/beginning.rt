@@ -1,17 +1,19 @@
 //! The memories of what begins inside a run: of graphs, of points and of elements of scopes.
 ghost use Rattle.std.specs.Prelude.{◌≡◌, [], ◌∷◌, ◌++◌, map, if◌then◌else◌, IfOk};
 ghost use Rattle.std.specs.List.{AllByRecursion};
-ghost use Rattle.sd_work.specs.Memory.{array};
+ghost use Rattle.sd_work.specs.Memory.{absent};
 ghost use Rattle.sd_work.specs.Change.{changed_at};
 ghost use Rattle.sd_graph.specs.ContainerParts as parts;
-ghost use Rattle.sd_graph.specs.ContainerParts.{opening_contents};
+ghost use Rattle.sd_graph.specs.ContainerParts.{container_at, opening_contents};
 ghost use Rattle.sd_graph.specs.Context.{private_memory};
 ghost use Rattle.sd_graph.specs.TreeFold.{named_container};
-ghost use Rattle.sd_graph.specs.Unfold.{run_memory};
+ghost use Rattle.sd_graph.specs.Unfold.{one_element, run_memory};
 ghost use Rattle.sd_graph.specs.Wiring.{has_number};
+ghost use Rattle.sd_mem.specs.mem.Cells.{array_of};
 ghost use Rattle.sd_mem.specs.mem.GraphContents.{shape_of, shapes_from};
 ghost use Rattle.sd_mem.specs.mem.Holding.{shape_held, contents_held, IsSized};
 
+use crate::mem::cells::{Cells, Values};
 use crate::mem::holding::Holding;
 use crate::mem::memory::Memory;
 use crate::mem::opening::{array_holding, shape_of_array};
@@ -19,8 +21,8 @@ use crate::mem::place::element_count;
 use indexmap::IndexMap;
 use sd_graph::{Container, ContainerKind};
 use sd_list::NoMemory;
+use sd_num::Width;
 use std::alloc::Global;
-use std::collections::VecDeque;
 
 impl Memory {
     /// What a run of a graph inside another begins with: zeros in its transients, and empty streams. Its arguments are
@@ -61,14 +63,24 @@ impl Memory {
         private: &[u32],
         value: i64,
     ) -> Result<Memory, NoMemory>
-        ensures contents { IfOk result (λ memory. memory.contents ≡ changed_at element (λ old. array (value ∷ [])) (private_memory (map named_container containers.now.entries) (element ∷ private.now))) }
+        ensures contents { IfOk result (λ memory. memory.contents ≡ changed_at element (λ old. one_element (container_at (map named_container containers.now.entries) element).width value) (private_memory (map named_container containers.now.entries) (element ∷ private.now))) }
         ensures shapes { IfOk result (λ memory. memory.shapes ≡ shapes_from (λ number kind. has_number (element ∷ private.now) number) 0 (map named_container containers.now.entries)) }
     {
         let holdings = scope_holdings(alloc, containers, &[element], private)?;
-        let cells = vec![in alloc; value]?;
+        let cells = Cells::one(alloc, own_width(containers, element), value)?;
         Ok(Memory {
-            holdings: replaced(holdings, element, cells),
+            holdings: replaced(alloc, holdings, element, cells),
         })
+    }
+}
+
+/// The width of one of the graph's containers.
+fn own_width(containers: &IndexMap<String, Container>, container: u32) -> Width
+    ensures { result ≡ (container_at (map named_container containers.now.entries) container).width }
+{
+    match containers.get_index(container as usize) {
+        Some((_, container)) => container.width,
+        None => Width::W64,
     }
 }
 
@@ -114,23 +126,23 @@ fn is_one_of_both(element: &[u32], private: &[u32], number: usize) -> bool
 /// What a container begins with that the memory has, and one that it does not have.
 fn begun(alloc: Global, container: &Container, has: bool) -> Result<Holding, NoMemory>
     ensures shape { IfOk result (λ holding. shape_held holding ≡ if has then shape_of container.now else []) }
-    ensures contents { IfOk result (λ holding. contents_held holding ≡ if has then opening_contents container.now else array []) }
+    ensures contents { IfOk result (λ holding. contents_held holding ≡ if has then opening_contents container.now else absent) }
     ensures sized { IfOk result IsSized }
 {
     if !has {
         return Ok(Holding::Array {
             shape: Vec::new(alloc),
-            cells: Vec::new(alloc),
+            cells: Cells::none(alloc, Width::W64),
         });
     }
     if is_stream(container.kind) {
         return Ok(Holding::Stream {
-            values: VecDeque::new(alloc),
+            values: Values::none(alloc, container.width),
         });
     }
     let shape = shape_of_array(alloc, container)?;
     let count = element_count(shape.as_slice());
-    let cells = vec![in alloc; 0; count as usize]?;
+    let cells = Cells::zeros(alloc, container.width, count as usize)?;
     array_holding(shape, cells)
 }
 
@@ -171,15 +183,15 @@ fn scope_holdings(
 }
 
 /// The same, but the container of this number has these elements.
-fn replaced(holdings: Vec<Holding>, container: u32, cells: Vec<i64>) -> Vec<Holding>
+fn replaced(alloc: Global, holdings: Vec<Holding>, container: u32, cells: Cells) -> Vec<Holding>
     requires { AllByRecursion IsSized holdings.items }
     ensures shapes { map shape_held result.items ≡ map shape_held holdings.items }
-    ensures contents { map contents_held result.items ≡ changed_at container (λ old. array cells.items) (map contents_held holdings.items) }
+    ensures contents { map contents_held result.items ≡ changed_at container (λ old. array_of cells) (map contents_held holdings.items) }
     ensures sized { AllByRecursion IsSized result.items }
 {
     let mut holdings = holdings;
     if (container as usize) < holdings.len() {
-        holdings[container as usize].hold(cells);
+        holdings[container as usize].hold(alloc, cells);
         return holdings;
     }
     holdings

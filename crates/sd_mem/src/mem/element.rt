@@ -2,22 +2,35 @@
 //! there has no elements, nor has a stream.
 ghost use Rattle.std.specs.Prelude.{◌≡◌};
 ghost use Rattle.sd_range.specs.Subset.{inside};
-ghost use Rattle.sd_work.specs.Memory.{elements_of, look, seen};
+ghost use Rattle.sd_work.specs.Memory.{elements_of, look, seen, width_of};
 ghost use Rattle.sd_work.specs.Change.{write};
-ghost use Rattle.sd_mem.specs.mem.Shaped.{alone, changed, contents_at, element, element_at, place_in, shape_at, written_at};
+ghost use Rattle.sd_mem.specs.mem.Cells.{array_lent};
+ghost use Rattle.sd_mem.specs.mem.Shaped.{alone, changed, contents_at, element, element_at, place_in, shape_at, width_at, written_at};
 
+use crate::mem::cells::Elements;
 use crate::mem::memory::Memory;
 use crate::mem::place::place_of;
-use sd_num::Resolution;
+use sd_num::{Resolution, Width};
 
 impl Memory {
+    /// The width of a container's elements or values; 64 bits where it is not there.
+    pub fn width(&self, container: u32) -> Width
+        ensures { result ≡ width_at self.now container }
+    {
+        match self.holdings.get(container as usize) {
+            Some(holding) => holding.width(),
+            None => Width::W64,
+        }
+    }
+
     /// The elements of an array in row order; none while it is away.
-    pub fn cells(&self, container: u32) -> &[i64]
-        ensures { result.now ≡ elements_of (contents_at self.now container) }
+    pub fn cells(&self, container: u32) -> Elements
+        ensures elements { elements_of (array_lent result) ≡ elements_of (contents_at self.now container) }
+        ensures width { width_of (array_lent result) ≡ width_at self.now container }
     {
         match self.holdings.get(container as usize) {
             Some(holding) => holding.cells(),
-            None => &[],
+            None => Elements::none(Width::W64),
         }
     }
 
@@ -37,7 +50,7 @@ impl Memory {
         ensures { result ≡ look (element container place) (alone self.now) }
     {
         match self.cells(container).get(place as usize) {
-            Some(cell) => *cell,
+            Some(element) => element,
             None => 0,
         }
     }

@@ -1,52 +1,28 @@
 //! What one container holds.
-ghost use Rattle.std.specs.Prelude.{◌≡◌, ◌↔◌, ◌++◌, [], ◌∷◌, length, slice_get, IfOk, OnOk, OnErr, IsTrue};
-ghost use Rattle.sd_work.specs.Memory.{elements_of, values_of, array};
-ghost use Rattle.sd_work.specs.Change.{changed_at, with_elements, with_values, without, written};
-ghost use Rattle.sd_num.specs.Wrapped.{wrapped};
+ghost use Rattle.std.specs.Prelude.{◌≡◌, ◌↔◌, length, slice_get, IfOk, OnOk, OnErr, IsTrue};
+ghost use Rattle.sd_work.specs.Memory.{elements_of, values_of, width_of};
+ghost use Rattle.sd_work.specs.Change.{appended, changed_at, with_elements, with_values, without, written};
+ghost use Rattle.sd_mem.specs.mem.Cells.{array_of, array_lent};
 ghost use Rattle.sd_mem.specs.mem.Shaped.{place_in, IsArray};
 ghost use Rattle.sd_mem.specs.mem.Holding.{shape_held, contents_held, IsSized};
 
+use crate::mem::cells::{Cells, Elements, Values};
 use crate::mem::place::place_of;
 use sd_list::NoMemory;
-use sd_num::{Resolution, resolve};
+use sd_num::{Resolution, Width};
 use std::alloc::Global;
-use std::collections::VecDeque;
 
 /// An array with its elements in row order, none while they are away, or a stream with its values,
 /// the oldest first.
 #[derive(Drop)]
 pub(crate) enum Holding {
-    Array { shape: Vec<u64>, cells: Vec<i64> },
-    Stream { values: VecDeque<i64> },
-}
-
-/// Writes a value to an element.
-fn write_to(cell: &mut i64, by: Option<Resolution>, value: i64)
-    ensures { cell.new ≡ written by value cell.old }
-{
-    *cell = match by {
-        None => value,
-        Some(resolution) => resolve(resolution, *cell, value),
-    };
+    Array { shape: Vec<u64>, cells: Cells },
+    Stream { values: Values },
 }
 
 /// Whether both are the same extents.
 fn are_same_extents(a: &[u64], b: &[u64]) -> bool
     ensures { IsTrue result ↔ (a.now ≡ b.now) }
-{
-    a == b
-}
-
-/// Whether both are the same elements.
-fn are_same_cells(a: &[i64], b: &[i64]) -> bool
-    ensures { IsTrue result ↔ (a.now ≡ b.now) }
-{
-    a == b
-}
-
-/// Whether both are the same values in the same order.
-fn are_same_values(a: &VecDeque<i64>, b: &VecDeque<i64>) -> bool
-    ensures { IsTrue result ↔ (a.now.items ≡ b.now.items) }
 {
     a == b
 }
@@ -60,16 +36,11 @@ impl Holding {
         match self {
             Holding::Array { shape, cells } => Ok(Holding::Array {
                 shape: shape.as_slice().to_vec(alloc)?,
-                cells: cells.as_slice().to_vec(alloc)?,
+                cells: cells.copy_of(alloc)?,
             }),
-            Holding::Stream { values } => {
-                let (older, newer) = values.as_slices();
-                let mut copy = older.to_vec(alloc)?;
-                copy.extend_from_slice(newer)?;
-                Ok(Holding::Stream {
-                    values: VecDeque::from(copy),
-                })
-            }
+            Holding::Stream { values } => Ok(Holding::Stream {
+                values: values.copy_of(alloc)?,
+            }),
         }
     }
 
@@ -84,24 +55,35 @@ impl Holding {
                     shape: other_shape,
                     cells: other_cells,
                 },
-            ) => { are_same_extents(shape, other_shape) && are_same_cells(cells, other_cells) }
+            ) => are_same_extents(shape, other_shape) && cells.same(other_cells),
             (
                 Holding::Stream { values },
                 Holding::Stream {
                     values: other_values,
                 },
-            ) => are_same_values(values, other_values),
+            ) => values.same(other_values),
             _ => false,
         }
     }
 
-    /// The elements of an array; a stream has none.
-    pub(crate) fn cells(&self) -> &[i64]
-        ensures { result.now ≡ elements_of (contents_held self.now) }
+    /// The width of the elements or values.
+    pub(crate) fn width(&self) -> Width
+        ensures { result ≡ width_of (contents_held self.now) }
     {
         match self {
-            Holding::Array { cells, .. } => cells.as_slice(),
-            Holding::Stream { .. } => &[],
+            Holding::Array { cells, .. } => cells.width(),
+            Holding::Stream { values } => values.width(),
+        }
+    }
+
+    /// The elements of an array; a stream has none.
+    pub(crate) fn cells(&self) -> Elements
+        ensures elements { elements_of (array_lent result) ≡ elements_of (contents_held self.now) }
+        ensures width { width_of (array_lent result) ≡ width_of (contents_held self.now) }
+    {
+        match self {
+            Holding::Array { cells, .. } => cells.lent(),
+            Holding::Stream { values } => Elements::none(values.width()),
         }
     }
 
@@ -119,14 +101,10 @@ impl Holding {
     /// Writes a value to an element; nothing changes where there is no such element.
     pub(crate) fn set(&mut self, place: u64, by: Option<Resolution>, value: i64)
         ensures shape { shape_held self.new ≡ shape_held self.old }
-        ensures contents { contents_held self.new ≡ with_elements (changed_at place (written by value)) (contents_held self.old) }
+        ensures contents { contents_held self.new ≡ with_elements (λ width. changed_at place (written width by value)) (contents_held self.old) }
     {
         match self {
-            Holding::Array { cells, .. } => {
-                if (place as usize) < cells.len() {
-                    write_to(&mut cells[place as usize], by, value);
-                }
-            }
+            Holding::Array { cells, .. } => cells.set(place, by, value),
             Holding::Stream { .. } => {}
         }
     }
@@ -134,15 +112,12 @@ impl Holding {
     /// Appends a value to a stream; an array stays as it is.
     pub(crate) fn push(&mut self, value: i64) -> Result<(), NoMemory>
         ensures shape { shape_held self.new ≡ shape_held self.old }
-        ensures ok { OnOk result (contents_held self.new ≡ with_values (λ values. values ++ wrapped value ∷ []) (contents_held self.old)) }
+        ensures ok { OnOk result (contents_held self.new ≡ with_values (appended value) (contents_held self.old)) }
         ensures err { OnErr result (contents_held self.new ≡ contents_held self.old) }
     {
         match self {
             Holding::Array { .. } => Ok(()),
-            Holding::Stream { values } => {
-                values.push_back(value)?;
-                Ok(())
-            }
+            Holding::Stream { values } => values.push(value),
         }
     }
 
@@ -150,11 +125,11 @@ impl Holding {
     pub(crate) fn take(&mut self) -> Option<i64>
         ensures oldest { result ≡ slice_get (values_of (contents_held self.old)) 0 }
         ensures shape { shape_held self.new ≡ shape_held self.old }
-        ensures contents { contents_held self.new ≡ with_values (without 0) (contents_held self.old) }
+        ensures contents { contents_held self.new ≡ with_values (λ width. without 0) (contents_held self.old) }
     {
         match self {
             Holding::Array { .. } => None,
-            Holding::Stream { values } => values.pop_front(),
+            Holding::Stream { values } => values.take(),
         }
     }
 
@@ -162,11 +137,11 @@ impl Holding {
     pub(crate) fn take_at(&mut self, position: usize) -> Option<i64>
         ensures value { result ≡ slice_get (values_of (contents_held self.old)) position }
         ensures shape { shape_held self.new ≡ shape_held self.old }
-        ensures contents { contents_held self.new ≡ with_values (without position) (contents_held self.old) }
+        ensures contents { contents_held self.new ≡ with_values (λ width. without position) (contents_held self.old) }
     {
         match self {
             Holding::Array { .. } => None,
-            Holding::Stream { values } => values.remove(position),
+            Holding::Stream { values } => values.take_at(position),
         }
     }
 
@@ -176,16 +151,15 @@ impl Holding {
     {
         match self {
             Holding::Array { .. } => 0,
-            Holding::Stream { values } => values.len(),
+            Holding::Stream { values } => values.count(),
         }
     }
 
     /// Becomes an array of these elements, with the extents that it has.
-    pub(crate) fn hold(&mut self, cells: Vec<i64>)
+    pub(crate) fn hold(&mut self, alloc: Global, cells: Cells)
         ensures shape { shape_held self.new ≡ shape_held self.old }
-        ensures contents { contents_held self.new ≡ array cells.items }
+        ensures contents { contents_held self.new ≡ array_of cells }
     {
-        let alloc = *cells.allocator();
         match self {
             Holding::Array { cells: held, .. } => *held = cells,
             Holding::Stream { .. } => {
@@ -198,11 +172,11 @@ impl Holding {
     }
 
     /// Puts elements into an array and gives back those that it held.
-    pub(crate) fn swap_cells(&mut self, cells: Vec<i64>) -> Vec<i64>
+    pub(crate) fn swap_cells(&mut self, cells: Cells) -> Cells
         requires { IsArray (contents_held self.old) }
-        ensures taken { result.items ≡ elements_of (contents_held self.old) }
+        ensures taken { array_of result ≡ contents_held self.old }
         ensures shape { shape_held self.new ≡ shape_held self.old }
-        ensures contents { contents_held self.new ≡ array cells.items }
+        ensures contents { contents_held self.new ≡ array_of cells }
     {
         match self {
             Holding::Array { cells: held, .. } => std::mem::replace(held, cells),

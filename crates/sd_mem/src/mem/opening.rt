@@ -1,21 +1,22 @@
 //! The memories that a graph begins with.
 ghost use Rattle.std.specs.Prelude.{◌≡◌, ℕ, ◌<◌, [], map, slice_index_or, IfOk};
 ghost use Rattle.std.specs.List.{AllByRecursion};
-ghost use Rattle.sd_work.specs.Memory.{array};
+ghost use Rattle.sd_mem.specs.mem.Cells.{array_of};
 ghost use Rattle.sd_graph.specs.ContainerParts.{extents_of};
 ghost use Rattle.sd_graph.specs.TreeFold.{graph_tree, named_container};
 ghost use Rattle.sd_graph.specs.Unfold.{opening_of, opening_from};
 ghost use Rattle.sd_mem.specs.mem.GraphContents.{shape_of, shapes_of, zero_contents, zeros_of, opened_with};
 ghost use Rattle.sd_mem.specs.mem.Holding.{shape_held, contents_held, IsSized};
 
+use crate::mem::cells::{Cells, Values};
 use crate::mem::holding::Holding;
 use crate::mem::memory::Memory;
 use crate::mem::place::element_count;
 use indexmap::IndexMap;
 use sd_graph::{Bound, Container, ContainerKind};
 use sd_list::{NoMemory, Sequence};
+use sd_num::Width;
 use std::alloc::Global;
-use std::collections::VecDeque;
 
 impl Memory {
     /// Zeros in each array of the graph, its arguments too, and empty streams.
@@ -28,7 +29,7 @@ impl Memory {
     }
 
     /// What a run of the graph opens with: the arguments with these elements, in row order, one
-    /// list for each; zeros in its transients; empty streams. The lists are moved in.
+    /// list for each; zeros in its transients; empty streams. The lists are moved in; elements of 32 bits are wrapped.
     pub fn opening(
         alloc: Global,
         bound: &Bound,
@@ -55,9 +56,9 @@ pub(crate) fn shape_of_array(alloc: Global, container: &Container) -> Result<Vec
 }
 
 /// An array of this shape with these elements; `NoMemory` where its elements have no numbers.
-pub(crate) fn array_holding(shape: Vec<u64>, cells: Vec<i64>) -> Result<Holding, NoMemory>
+pub(crate) fn array_holding(shape: Vec<u64>, cells: Cells) -> Result<Holding, NoMemory>
     ensures shape { IfOk result (λ holding. shape_held holding ≡ shape.items) }
-    ensures contents { IfOk result (λ holding. contents_held holding ≡ array cells.items) }
+    ensures contents { IfOk result (λ holding. contents_held holding ≡ array_of cells) }
     ensures sized { IfOk result IsSized }
 {
     if element_count(shape.as_slice()) == u64::MAX {
@@ -76,15 +77,18 @@ fn zero_holding(alloc: Global, container: &Container) -> Result<Holding, NoMemor
         ContainerKind::Argument | ContainerKind::Transient => {
             let shape = shape_of_array(alloc, container)?;
             let count = element_count(shape.as_slice());
-            let cells = vec![in alloc; 0; count as usize]?;
+            let cells = Cells::zeros(alloc, container.width, count as usize)?;
             array_holding(shape, cells)
         }
         ContainerKind::Private => {
-            array_holding(shape_of_array(alloc, container)?, Vec::new(alloc))
+            let shape = shape_of_array(alloc, container)?;
+            array_holding(shape, Cells::none(alloc, Width::W64))
         }
-        ContainerKind::PrivateStream => array_holding(Vec::new(alloc), Vec::new(alloc)),
+        ContainerKind::PrivateStream => {
+            array_holding(Vec::new(alloc), Cells::none(alloc, Width::W64))
+        }
         ContainerKind::Stream => Ok(Holding::Stream {
-            values: VecDeque::new(alloc),
+            values: Values::none(alloc, container.width),
         }),
     }
 }
@@ -119,10 +123,9 @@ fn opening_holding(
 {
     match container.kind {
         ContainerKind::Argument => {
-            array_holding(
-                shape_of_array(alloc, container)?,
-                taken(alloc, given, number),
-            )
+            let shape = shape_of_array(alloc, container)?;
+            let values = taken(alloc, given, number);
+            array_holding(shape, Cells::given(alloc, container.width, values)?)
         }
         _ => zero_holding(alloc, container),
     }

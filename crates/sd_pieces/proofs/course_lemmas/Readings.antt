@@ -1,14 +1,15 @@
 -- Memories that agree on what is read still do after the same changes.
 use Rattle.std.proofs.Common.{◌≡◌, ℕ, zero, suc, ℤ, pos, List, [], ◌∷◌, ◌++◌, map, drop, Option, Some, None, slice_get, slice_index_or, Result, Ok, Err, Bool, true, false, refl, sym, ◌∙◌, ap}
 use Rattle.std.specs.Option.{option_and_then}
-use Rattle.sd_work.specs.Memory.{Contents, array, stream, Memory, Memories, Reference, elements_of, values_of, look, seen, waiting}
-use Rattle.sd_work.specs.Change.{Change, nothing, write, push, take, written, changed_at, without, with_elements, with_values, with_contents, apply, outer}
-use Rattle.sd_num.specs.Wrapped.{wrapped}
+use Rattle.sd_num.specs.declared.width.Width.{Width}
+use Rattle.sd_num.specs.declared.width.Width.TheVariants.{W64}
+use Rattle.sd_work.specs.Memory.{Contents, array, stream, Memory, Memories, Reference, width_of, elements_of, values_of, contents_of, look, seen, waiting}
+use Rattle.sd_work.specs.Change.{Change, nothing, write, push, take, written, changed_at, without, with_elements, with_values, appended, with_contents, apply, outer}
 use Rattle.sd_work.specs.Move.{Fault}
 use Rattle.sd_work.specs.Exit.{Guard, Exit, with_value, all_seen, decided, passed, or_later, first_exit}
-use Rattle.sd_pieces.specs.course.Reading.{Reading, reads_element, reads_stream, contents_found, values_if, element_found, stream_found, AgreeAt, AgreeOn, apply_all, outer_element, outer_stream, outer_readings}
+use Rattle.sd_pieces.specs.course.Reading.{Reading, reads_element, reads_stream, contents_found, values_if, element_found, stream_found, container_width, HaveOneWidth, AgreeAt, AgreeOn, apply_all, outer_element, outer_stream, outer_readings}
 use Rattle.sd_pieces.specs.course.Course.{read_at, reads_up_to, guard_reads, unless_passed, exits_read}
-use Rattle.sd_work.proofs.Changes.{apply-own}
+use Rattle.sd_work.proofs.Changes.{width-apply, apply-own}
 
 -- ---- what a change does to one member
 
@@ -41,78 +42,114 @@ found-changed_at (suc i) zero f (x ∷ xs) = refl
 found-changed_at (suc i) (suc j) f (x ∷ xs) = found-changed_at i j f xs ∙ same_found (at i j f) (at (suc i) (suc j) f) (λ y. refl) (slice_get xs j)
 
 -- what is found in a member that was changed, where the change acts on what is found
-where-at : {A B : Type 0} (i j : ℕ) (f : A → A) (q : A → Option B) (g : B → B) → ((x : A) → q (f x) ≡ if_found g (q x)) → (x : A) → q (at i j f x) ≡ if_found (at i j g) (q x)
-where-at zero zero f q g h x = h x ∙ same_found g (at zero zero g) (λ y. refl) (q x)
-where-at zero (suc j) f q g h x = unchanged (at zero (suc j) g) (λ y. refl) (q x)
-where-at (suc i) zero f q g h x = unchanged (at (suc i) zero g) (λ y. refl) (q x)
-where-at (suc i) (suc j) f q g h x = where-at i j f q g h x ∙ same_found (at i j g) (at (suc i) (suc j) g) (λ y. refl) (q x)
+where-at : {A B : Type 0} (i j : ℕ) (f : A → A) (q : A → Option B) (g : B → B) (x : A) → q (f x) ≡ if_found g (q x) → q (at i j f x) ≡ if_found (at i j g) (q x)
+where-at zero zero f q g x h = h ∙ same_found g (at zero zero g) (λ y. refl) (q x)
+where-at zero (suc j) f q g x h = unchanged (at zero (suc j) g) (λ y. refl) (q x)
+where-at (suc i) zero f q g x h = unchanged (at (suc i) zero g) (λ y. refl) (q x)
+where-at (suc i) (suc j) f q g x h = where-at i j f q g x h ∙ same_found (at i j g) (at (suc i) (suc j) g) (λ y. refl) (q x)
 
-where-if_found : {A B : Type 0} (f : A → A) (q : A → Option B) (g : B → B) → ((x : A) → q (f x) ≡ if_found g (q x)) → (o : Option A) → option_and_then q (if_found f o) ≡ if_found g (option_and_then q o)
-where-if_found f q g h None = refl
-where-if_found f q g h (Some x) = h x
+where-if_found : {A B : Type 0} (f : A → A) (q : A → Option B) (g : B → B) (o : Option A) → ((x : A) → o ≡ Some x → q (f x) ≡ if_found g (q x)) → option_and_then q (if_found f o) ≡ if_found g (option_and_then q o)
+where-if_found f q g None h = refl
+where-if_found f q g (Some x) h = h x refl
 
 -- what a container holds after another one, or it, was changed
 pub container-changed : (l c m d : ℕ) (f : Contents → Contents) (s : Memories) → contents_found l c (with_contents m d f s) ≡ if_found (at m l (at d c f)) (contents_found l c s)
 container-changed l c m d f s =
     ap (λ o. option_and_then (λ memory. slice_get memory c) o) (found-changed_at m l (changed_at d f) s)
-    ∙ where-if_found (at m l (changed_at d f)) (λ memory. slice_get memory c) (at m l (at d c f))
-    (where-at m l (changed_at d f) (λ memory. slice_get memory c) (at d c f) (found-changed_at d c f)) (slice_get s l)
+    ∙ where-if_found (at m l (changed_at d f)) (λ memory. slice_get memory c) (at m l (at d c f)) (slice_get s l)
+    (λ memory e. where-at m l (changed_at d f) (λ memory. slice_get memory c) (at d c f) memory (found-changed_at d c f memory))
 
--- what is found in a container after a change
-pub look_changed : {B : Type 0} (l c m d : ℕ) (f : Contents → Contents) (q : Contents → Option B) (g : B → B) → ((k : Contents) → q (f k) ≡ if_found g (q k)) → (s : Memories) →
+-- what is found in a container after a change, where the change acts on what is found there
+look_changed : {B : Type 0} (l c m d : ℕ) (f : Contents → Contents) (q : Contents → Option B) (g : B → B) (s : Memories) → ((k : Contents) → contents_found l c s ≡ Some k → q (f k) ≡ if_found g (q k)) →
     option_and_then q (contents_found l c (with_contents m d f s)) ≡ if_found (at m l (at d c g)) (option_and_then q (contents_found l c s))
-look_changed l c m d f q g h s =
+look_changed l c m d f q g s h =
     ap (λ o. option_and_then q o) (container-changed l c m d f s)
-    ∙ where-if_found (at m l (at d c f)) q (at m l (at d c g)) (where-at m l (at d c f) q (at d c g) (where-at d c f q g h)) (contents_found l c s)
+    ∙ where-if_found (at m l (at d c f)) q (at m l (at d c g)) (contents_found l c s) (λ k e. where-at m l (at d c f) q (at d c g) k (where-at d c f q g k (h k e)))
+
+-- ---- what is found, or something else
+
+abbrev pub or_default : {A : Type 0} → A → Option A → A
+or_default d None = d
+or_default d (Some x) = x
+
+index-found : {A : Type 0} (xs : List A) (i : ℕ) (d : A) → slice_index_or xs i d ≡ or_default d (slice_get xs i)
+index-found [] i d = refl
+index-found (x ∷ xs) zero d = refl
+index-found (x ∷ xs) (suc i) d = index-found xs i d
+
+pub contents-found : (l c : ℕ) (s : Memories) → contents_of l c s ≡ or_default (stream W64 []) (contents_found l c s)
+contents-found l c s = ap (λ memory. slice_index_or memory c (stream W64 [])) (index-found s l []) ∙ in_found (slice_get s l)
+  where
+    in_found : (o : Option Memory) → slice_index_or (or_default [] o) c (stream W64 []) ≡ or_default (stream W64 []) (option_and_then (λ memory. slice_get memory c) o)
+    in_found None = refl
+    in_found (Some memory) = index-found memory c (stream W64 [])
+
+-- ---- the width of a container
+
+width_in : (l c : ℕ) (s : Memories) (k : Contents) → contents_found l c s ≡ Some k → width_of k ≡ container_width l c s
+width_in l c s k e = ap (λ o. width_of (or_default (stream W64 []) o)) (sym e) ∙ ap width_of (sym (contents-found l c s))
+
+-- ---- what a change makes of an element and of a stream
+
+found_in : (e p : ℕ) (f : Width → ℤ → ℤ) (w : Width) (k : Contents) → width_of k ≡ w → slice_get (elements_of (with_elements (λ width. changed_at p (f width)) k)) e ≡ if_found (at p e (f w)) (slice_get (elements_of k) e)
+found_in e p f w (array width elements) h = found-changed_at p e (f width) elements ∙ ap (λ w. if_found (at p e (f w)) (slice_get elements e)) h
+found_in e p f w (stream width values) h = refl
+
+elements_same : (e : ℕ) (f : Width → List ℤ → List ℤ) (k : Contents) → slice_get (elements_of (with_values f k)) e ≡ if_found (λ x. x) (slice_get (elements_of k) e)
+elements_same e f (array width elements) = unchanged (λ x. x) (λ x. refl) (slice_get elements e)
+elements_same e f (stream width values) = refl
+
+values_same : (f : Width → List ℤ → List ℤ) (k : Contents) → values_if (with_elements f k) ≡ if_found (λ x. x) (values_if k)
+values_same f (array width elements) = refl
+values_same f (stream width values) = refl
+
+values_changed : (f : Width → List ℤ → List ℤ) (w : Width) (k : Contents) → width_of k ≡ w → values_if (with_values f k) ≡ if_found (f w) (values_if k)
+values_changed f w (array width elements) h = refl
+values_changed f w (stream width values) h = ap (λ w. Some (f w values)) h
+
+-- what a change makes of an element of a container of a width
+abbrev pub effect_on : Width → (l c e : ℕ) → Change → ℤ → ℤ
+effect_on w l c e nothing x = x
+effect_on w l c e (write to by v) x = at to.level l (at to.container c (at to.element e (written w by v))) x
+effect_on w l c e (push m d v) x = at m l (at d c (λ x. x)) x
+effect_on w l c e (take m d p) x = at m l (at d c (λ x. x)) x
+
+pub element-changed : (l c e : ℕ) (change : Change) (s : Memories) →
+    element_found (record { level = l; container = c; element = e }) (apply change s) ≡ if_found (effect_on (container_width l c s) l c e change) (element_found (record { level = l; container = c; element = e }) s)
+element-changed l c e nothing s = unchanged (λ x. x) (λ x. refl) _
+element-changed l c e (write to by v) s =
+    look_changed l c to.level to.container _ (λ k. slice_get (elements_of k) e) (at to.element e (written (container_width l c s) by v)) s
+    (λ k h. found_in e to.element (λ width. written width by v) (container_width l c s) k (width_in l c s k h))
+element-changed l c e (push m d v) s = look_changed l c m d _ (λ k. slice_get (elements_of k) e) (λ x. x) s (λ k h. elements_same e _ k)
+element-changed l c e (take m d p) s = look_changed l c m d _ (λ k. slice_get (elements_of k) e) (λ x. x) s (λ k h. elements_same e _ k)
+
+-- what a change makes of the values of a stream of a width
+abbrev pub stream_effect : Width → (l c : ℕ) → Change → List ℤ → List ℤ
+stream_effect w l c nothing xs = xs
+stream_effect w l c (write to by v) xs = at to.level l (at to.container c (λ x. x)) xs
+stream_effect w l c (push m d v) xs = at m l (at d c (appended v w)) xs
+stream_effect w l c (take m d p) xs = at m l (at d c (without p)) xs
+
+pub stream-changed : (l c : ℕ) (change : Change) (s : Memories) → stream_found l c (apply change s) ≡ if_found (stream_effect (container_width l c s) l c change) (stream_found l c s)
+stream-changed l c nothing s = unchanged (λ x. x) (λ x. refl) (stream_found l c s)
+stream-changed l c (write to by v) s = look_changed l c to.level to.container _ values_if (λ x. x) s (λ k h. values_same _ k)
+stream-changed l c (push m d v) s = look_changed l c m d _ values_if (appended v (container_width l c s)) s (λ k h. values_changed (appended v) (container_width l c s) k (width_in l c s k h))
+stream-changed l c (take m d p) s = look_changed l c m d _ values_if (without p) s (λ k h. values_changed (λ width. without p) (container_width l c s) k (width_in l c s k h))
 
 -- ---- agreement is kept
 
-pub found_in : (e p : ℕ) (f : ℤ → ℤ) (k : Contents) → slice_get (elements_of (with_elements (changed_at p f) k)) e ≡ if_found (at p e f) (slice_get (elements_of k) e)
-found_in e p f (array elements) = found-changed_at p e f elements
-found_in e p f (stream values) = refl
+width-agrees : (l c : ℕ) (change : Change) (s s' : Memories) → HaveOneWidth l c s s' → HaveOneWidth l c (apply change s) (apply change s')
+width-agrees l c change s s' h = width-apply l c change s ∙ h ∙ sym (width-apply l c change s')
 
-pub elements_same : (e : ℕ) (f : List ℤ → List ℤ) (k : Contents) → slice_get (elements_of (with_values f k)) e ≡ if_found (λ x. x) (slice_get (elements_of k) e)
-elements_same e f (array elements) = unchanged (λ x. x) (λ x. refl) (slice_get elements e)
-elements_same e f (stream values) = refl
-
-pub values_same : (f : List ℤ → List ℤ) (k : Contents) → values_if (with_elements f k) ≡ if_found (λ x. x) (values_if k)
-values_same f (array elements) = refl
-values_same f (stream values) = refl
-
-pub values_changed : (f : List ℤ → List ℤ) (k : Contents) → values_if (with_values f k) ≡ if_found f (values_if k)
-values_changed f (array elements) = refl
-values_changed f (stream values) = refl
-
--- what is found there after a change follows from what was found there
-both_ways : {B : Type 0} (x x' y y' : Option B) (g : B → B) → x' ≡ if_found g x → y' ≡ if_found g y → x ≡ y → x' ≡ y'
-both_ways x x' y y' g a b e = a ∙ ap (if_found g) e ∙ sym b
-
-pub agree-apply : (r : Reading) (c : Change) (s s' : Memories) → AgreeAt r s s' → AgreeAt r (apply c s) (apply c s')
-agree-apply r nothing s s' h = h
-agree-apply (reads_element r) (write to by v) s s' h =
-    let step : (t : Memories) → element_found r (apply (write to by v) t) ≡ if_found (at to.level r.level (at to.container r.container (at to.element r.element (written by v)))) (element_found r t) =
-    look_changed r.level r.container to.level to.container _ (λ k. slice_get (elements_of k) r.element) (at to.element r.element (written by v)) (found_in r.element to.element (written by v)) in
-    both_ways _ _ _ _ _ (step s) (step s') h
-agree-apply (reads_element r) (push m d v) s s' h =
-    let step : (t : Memories) → element_found r (apply (push m d v) t) ≡ if_found (at m r.level (at d r.container (λ x. x))) (element_found r t) =
-    look_changed r.level r.container m d _ (λ k. slice_get (elements_of k) r.element) (λ x. x) (elements_same r.element _) in
-    both_ways _ _ _ _ _ (step s) (step s') h
-agree-apply (reads_element r) (take m d p) s s' h =
-    let step : (t : Memories) → element_found r (apply (take m d p) t) ≡ if_found (at m r.level (at d r.container (λ x. x))) (element_found r t) =
-    look_changed r.level r.container m d _ (λ k. slice_get (elements_of k) r.element) (λ x. x) (elements_same r.element _) in
-    both_ways _ _ _ _ _ (step s) (step s') h
-agree-apply (reads_stream l c) (write to by v) s s' h =
-    let step : (t : Memories) → stream_found l c (apply (write to by v) t) ≡ if_found (at to.level l (at to.container c (λ x. x))) (stream_found l c t) =
-    look_changed l c to.level to.container _ values_if (λ x. x) (values_same _) in
-    both_ways _ _ _ _ _ (step s) (step s') h
-agree-apply (reads_stream l c) (push m d v) s s' h =
-    let step : (t : Memories) → stream_found l c (apply (push m d v) t) ≡ if_found (at m l (at d c (λ values. values ++ wrapped v ∷ []))) (stream_found l c t) =
-    look_changed l c m d _ values_if _ (values_changed _) in
-    both_ways _ _ _ _ _ (step s) (step s') h
-agree-apply (reads_stream l c) (take m d p) s s' h =
-    let step : (t : Memories) → stream_found l c (apply (take m d p) t) ≡ if_found (at m l (at d c (without p))) (stream_found l c t) =
-    look_changed l c m d _ values_if _ (values_changed _) in
-    both_ways _ _ _ _ _ (step s) (step s') h
+pub agree-apply : (r : Reading) (change : Change) (s s' : Memories) → AgreeAt r s s' → AgreeAt r (apply change s) (apply change s')
+agree-apply (reads_element r) change s s' h = (
+  element-changed r.level r.container r.element change s ∙ (λ i. if_found (effect_on (h.1 i) r.level r.container r.element change) (h.0 i)) ∙ sym (element-changed r.level r.container r.element change s'),
+  width-agrees r.level r.container change s s' h.1,
+)
+agree-apply (reads_stream l c) change s s' h = (
+  stream-changed l c change s ∙ (λ i. if_found (stream_effect (h.1 i) l c change) (h.0 i)) ∙ sym (stream-changed l c change s'),
+  width-agrees l c change s s' h.1,
+)
 
 pub agree_on-apply : (rs : List Reading) (c : Change) (s s' : Memories) → AgreeOn rs s s' → AgreeOn rs (apply c s) (apply c s')
 agree_on-apply [] c s s' h = tt
@@ -143,11 +180,11 @@ apply_all-outside (c ∷ cs) own s = ap (λ t. drop 1 (apply_all cs t)) (apply-o
 
 element_inside : (l c p : ℕ) (rs : List Reading) (own : Memory) (s s' : Memories) → AgreeOn (outer_element l c p rs) s s' →
     AgreeAt (reads_element (record { level = l; container = c; element = p })) (own ∷ s) (own ∷ s') × AgreeOn rs s s'
-element_inside zero c p rs own s s' h = (refl, h)
+element_inside zero c p rs own s s' h = ((refl, refl), h)
 element_inside (suc l) c p rs own s s' h = h
 
 stream_inside : (l c : ℕ) (rs : List Reading) (own : Memory) (s s' : Memories) → AgreeOn (outer_stream l c rs) s s' → AgreeAt (reads_stream l c) (own ∷ s) (own ∷ s') × AgreeOn rs s s'
-stream_inside zero c rs own s s' h = (refl, h)
+stream_inside zero c rs own s s' h = ((refl, refl), h)
 stream_inside (suc l) c rs own s s' h = h
 
 -- memories that agree outside on what is read there agree inside
@@ -162,50 +199,27 @@ agree-inside (reads_stream l c ∷ rs) own s s' h =
 
 -- ---- what is seen
 
-abbrev pub or_default : {A : Type 0} → A → Option A → A
-or_default d None = d
-or_default d (Some x) = x
-
-index-found : {A : Type 0} (xs : List A) (i : ℕ) (d : A) → slice_index_or xs i d ≡ or_default d (slice_get xs i)
-index-found [] i d = refl
-index-found (x ∷ xs) zero d = refl
-index-found (x ∷ xs) (suc i) d = index-found xs i d
-
 -- the value of an element is what is found, or 0
 pub look-found : (r : Reference) (s : Memories) → look r s ≡ or_default (pos 0) (element_found r s)
-look-found r s =
-    ap (λ memory. slice_index_or (elements_of (slice_index_or memory r.container (stream []))) r.element (pos 0)) (index-found s r.level [])
-    ∙ ap (λ k. slice_index_or (elements_of k) r.element (pos 0)) (in_found (slice_get s r.level))
-    ∙ in_contents (contents_found r.level r.container s)
+look-found r s = ap (λ k. slice_index_or (elements_of k) r.element (pos 0)) (contents-found r.level r.container s) ∙ in_contents (contents_found r.level r.container s)
   where
-    in_contents : (o : Option Contents) → slice_index_or (elements_of (or_default (stream []) o)) r.element (pos 0) ≡ or_default (pos 0) (option_and_then (λ k. slice_get (elements_of k) r.element) o)
+    in_contents : (o : Option Contents) → slice_index_or (elements_of (or_default (stream W64 []) o)) r.element (pos 0) ≡ or_default (pos 0) (option_and_then (λ k. slice_get (elements_of k) r.element) o)
     in_contents None = refl
     in_contents (Some k) = index-found (elements_of k) r.element (pos 0)
 
-    in_found : (o : Option Memory) → slice_index_or (or_default [] o) r.container (stream []) ≡ or_default (stream []) (option_and_then (λ memory. slice_get memory r.container) o)
-    in_found None = refl
-    in_found (Some memory) = index-found memory r.container (stream [])
-
 pub waiting-found : (l c : ℕ) (s : Memories) → waiting l c s ≡ or_default [] (stream_found l c s)
-waiting-found l c s =
-    ap (λ memory. values_of (slice_index_or memory c (stream []))) (index-found s l [])
-    ∙ ap values_of (in_found (slice_get s l))
-    ∙ in_contents (contents_found l c s)
+waiting-found l c s = ap values_of (contents-found l c s) ∙ in_contents (contents_found l c s)
   where
-    in_contents : (o : Option Contents) → values_of (or_default (stream []) o) ≡ or_default [] (option_and_then values_if o)
+    in_contents : (o : Option Contents) → values_of (or_default (stream W64 []) o) ≡ or_default [] (option_and_then values_if o)
     in_contents None = refl
-    in_contents (Some (array elements)) = refl
-    in_contents (Some (stream values)) = refl
-
-    in_found : (o : Option Memory) → slice_index_or (or_default [] o) c (stream []) ≡ or_default (stream []) (option_and_then (λ memory. slice_get memory c) o)
-    in_found None = refl
-    in_found (Some memory) = index-found memory c (stream [])
+    in_contents (Some (array width elements)) = refl
+    in_contents (Some (stream width values)) = refl
 
 pub look-agrees : (r : Reference) (s s' : Memories) → AgreeAt (reads_element r) s s' → look r s' ≡ look r s
-look-agrees r s s' h = look-found r s' ∙ ap (or_default (pos 0)) (sym h) ∙ sym (look-found r s)
+look-agrees r s s' h = look-found r s' ∙ ap (or_default (pos 0)) (sym h.0) ∙ sym (look-found r s)
 
 pub waiting-agrees : (l c : ℕ) (s s' : Memories) → AgreeAt (reads_stream l c) s s' → waiting l c s' ≡ waiting l c s
-waiting-agrees l c s s' h = waiting-found l c s' ∙ ap (or_default []) (sym h) ∙ sym (waiting-found l c s)
+waiting-agrees l c s s' h = waiting-found l c s' ∙ ap (or_default []) (sym h.0) ∙ sym (waiting-found l c s)
 
 pub seen-agrees : (r : Option Reference) (s s' : Memories) → AgreeOn (read_at r) s s' → seen r s' ≡ seen r s
 seen-agrees None s s' h = refl

@@ -1,12 +1,13 @@
 -- Work keeps the shape of its stack of memories, and what it does not touch.
 use Rattle.std.proofs.Common.{◌≡◌, ℕ, zero, suc, ℤ, List, [], ◌∷◌, map, length, Option, Some, None, refl, sym, ◌∙◌, ap}
+use Rattle.sd_num.specs.declared.width.Width.{Width}
 use Rattle.sd_work.specs.Memory.{Contents, array, stream, Memories}
 use Rattle.sd_work.specs.Change.{Change, nothing, write, push, take, written, changed_at, with_elements, with_values, with_contents, apply}
 use Rattle.sd_work.specs.Residual.{Term}
 use Rattle.sd_work.specs.Step.{Outcome, Done, Faulted, Spent}
 use Rattle.sd_work.specs.BigStep.{Coming, reached, big_step}
 use Rattle.sd_pieces.specs.course.Reading.{apply_all}
-use Rattle.sd_pieces.specs.course.Shape.{array_length, stack_shape}
+use Rattle.sd_pieces.specs.course.Shape.{contents_shape, stack_shape}
 use Rattle.sd_pieces.specs.course.Course.{course, told_end}
 use Rattle.sd_pieces.proofs.course_lemmas.Courses.{told-course}
 
@@ -27,22 +28,22 @@ pub length-map : {A B : Type 0} (f : A → B) (xs : List A) → length (map f xs
 length-map f [] = refl
 length-map f (x ∷ xs) = ap suc (length-map f xs)
 
-elements-length : (i : ℕ) (f : ℤ → ℤ) (k : Contents) → array_length (with_elements (changed_at i f) k) ≡ array_length k
-elements-length i f (array elements) = ap Some (length-changed i f elements)
-elements-length i f (stream values) = refl
+elements-shape : (i : ℕ) (f : Width → ℤ → ℤ) (k : Contents) → contents_shape (with_elements (λ width. changed_at i (f width)) k) ≡ contents_shape k
+elements-shape i f (array width elements) = ap (λ n. (width, Some n)) (length-changed i (f width) elements)
+elements-shape i f (stream width values) = refl
 
-values-length : (f : List ℤ → List ℤ) (k : Contents) → array_length (with_values f k) ≡ array_length k
-values-length f (array elements) = refl
-values-length f (stream values) = refl
+values-shape : (f : Width → List ℤ → List ℤ) (k : Contents) → contents_shape (with_values f k) ≡ contents_shape k
+values-shape f (array width elements) = refl
+values-shape f (stream width values) = refl
 
-contents-shape : (l c : ℕ) (f : Contents → Contents) → ((k : Contents) → array_length (f k) ≡ array_length k) → (s : Memories) → stack_shape (with_contents l c f s) ≡ stack_shape s
-contents-shape l c f h s = map-changed (map array_length) l (changed_at c f) (map-changed array_length c f h) s
+contents-shape : (l c : ℕ) (f : Contents → Contents) → ((k : Contents) → contents_shape (f k) ≡ contents_shape k) → (s : Memories) → stack_shape (with_contents l c f s) ≡ stack_shape s
+contents-shape l c f h s = map-changed (map contents_shape) l (changed_at c f) (map-changed contents_shape c f h) s
 
 shape-change : (change : Change) (s : Memories) → stack_shape (apply change s) ≡ stack_shape s
 shape-change nothing s = refl
-shape-change (write to by v) s = contents-shape to.level to.container _ (elements-length to.element (written by v)) s
-shape-change (push l c v) s = contents-shape l c _ (values-length _) s
-shape-change (take l c p) s = contents-shape l c _ (values-length _) s
+shape-change (write to by v) s = contents-shape to.level to.container _ (elements-shape to.element (λ width. written width by v)) s
+shape-change (push l c v) s = contents-shape l c _ (values-shape _) s
+shape-change (take l c p) s = contents-shape l c _ (values-shape _) s
 
 pub shape-after : (changes : List Change) (s : Memories) → stack_shape (apply_all changes s) ≡ stack_shape s
 shape-after [] s = refl

@@ -1,17 +1,17 @@
 -- What changes do to each element and stream, and what they come to from another memory.
-use Rattle.std.proofs.Common.{◌≡◌, ◌⊎◌, inl, inr, ℕ, zero, suc, ℤ, List, [], ◌∷◌, ◌++◌, Option, Some, None, refl, sym, ◌∙◌, ap, subst, FitsSigned, w64, slice_get, arith}
+use Rattle.std.proofs.Common.{◌≡◌, ◌⊎◌, inl, inr, ℕ, zero, suc, ℤ, List, [], ◌∷◌, ◌++◌, Option, Some, None, refl, sym, ◌∙◌, ap, subst, arith}
 use Rattle.std.specs.Bool.{⊤}
-use Rattle.sd_num.specs.Wrapped.{wrapped}
-use Rattle.sd_num.specs.Resolution.{resolved}
+use Rattle.sd_num.specs.Width.{wrapped_to}
+use Rattle.sd_num.specs.Resolution.{stored}
+use Rattle.sd_num.specs.declared.width.Width.{Width}
 use Rattle.sd_num.specs.declared.resolution.Resolution.{Resolution}
-use Rattle.sd_num.proofs.ResolutionLemmas.{resolved_assoc, FitsSigned-resolved}
-use Rattle.std.proofs.lemmas.Int.{SFits-int_wrap, int_wrap_fits}
-use Rattle.sd_work.proofs.Changes.{FitsSigned-written}
-use Rattle.sd_work.specs.Memory.{Memories, Reference, elements_of}
-use Rattle.sd_work.specs.Change.{Change, nothing, write, push, take, written, without, apply}
-use Rattle.sd_pieces.specs.course.Reading.{values_if, element_found, stream_found, apply_all}
+use Rattle.sd_num.proofs.StoredLemmas.{stored-assoc}
+use Rattle.sd_work.specs.Memory.{Memories, Reference}
+use Rattle.sd_work.specs.Change.{Change, nothing, write, push, take, written, without, appended as with_newest, apply}
+use Rattle.sd_work.proofs.Changes.{width-apply}
+use Rattle.sd_pieces.specs.course.Reading.{element_found, stream_found, container_width, apply_all}
 use Rattle.sd_pieces.specs.course.Touched.{IsChangeBy, AreChangesBy}
-use Rattle.sd_pieces.proofs.course_lemmas.Readings.{at, if_found, unchanged, look_changed, found_in, elements_same, values_same, values_changed}
+use Rattle.sd_pieces.proofs.course_lemmas.Readings.{at, if_found, unchanged, effect_on, element-changed, stream_effect, stream-changed}
 use Rattle.sd_work.specs.Touch.{Touch, writes}
 use Rattle.sd_pieces.specs.cut.Naming.{Naming, names_at, IsTouchNamed}
 use Rattle.sd_pieces.specs.cut.Merged.{Mark, untouched, kept, gathered, StreamMark, unused, drained, appended, Marking, IsMarked}
@@ -19,33 +19,22 @@ use Rattle.sd_pieces.proofs.cut_lemmas.NamedMemories.{same_or_two, at-same, at-o
 
 -- ---- an element
 
--- what a change makes of an element
-abbrev pub effect_on : (l c e : ℕ) → Change → ℤ → ℤ
-effect_on l c e nothing x = x
-effect_on l c e (write to by v) x = at to.level l (at to.container c (at to.element e (written by v))) x
-effect_on l c e (push m d v) x = at m l (at d c (λ x. x)) x
-effect_on l c e (take m d p) x = at m l (at d c (λ x. x)) x
-
-abbrev pub effects_on : (l c e : ℕ) → List Change → ℤ → ℤ
-effects_on l c e [] x = x
-effects_on l c e (change ∷ changes) x = effects_on l c e changes (effect_on l c e change x)
-
-element-changed : (l c e : ℕ) (change : Change) (s : Memories) →
-    element_found (record { level = l; container = c; element = e }) (apply change s) ≡ if_found (effect_on l c e change) (element_found (record { level = l; container = c; element = e }) s)
-element-changed l c e nothing s = unchanged (λ x. x) (λ x. refl) _
-element-changed l c e (write to by v) s = look_changed l c to.level to.container _ (λ k. slice_get (elements_of k) e) (at to.element e (written by v)) (found_in e to.element (written by v)) s
-element-changed l c e (push m d v) s = look_changed l c m d _ (λ k. slice_get (elements_of k) e) (λ x. x) (elements_same e _) s
-element-changed l c e (take m d p) s = look_changed l c m d _ (λ k. slice_get (elements_of k) e) (λ x. x) (elements_same e _) s
+-- what changes make of an element of a container of a width
+abbrev pub effects_on : Width → (l c e : ℕ) → List Change → ℤ → ℤ
+effects_on w l c e [] x = x
+effects_on w l c e (change ∷ changes) x = effects_on w l c e changes (effect_on w l c e change x)
 
 twice : {A : Type 0} (f g : A → A) (o : Option A) → if_found f (if_found g o) ≡ if_found (λ x. f (g x)) o
 twice f g None = refl
 twice f g (Some x) = refl
 
 pub element-after : (l c e : ℕ) (changes : List Change) (s : Memories) →
-    element_found (record { level = l; container = c; element = e }) (apply_all changes s) ≡ if_found (effects_on l c e changes) (element_found (record { level = l; container = c; element = e }) s)
+    element_found (record { level = l; container = c; element = e }) (apply_all changes s) ≡ if_found (effects_on (container_width l c s) l c e changes) (element_found (record { level = l; container = c; element = e }) s)
 element-after l c e [] s = unchanged (λ x. x) (λ x. refl) _
 element-after l c e (change ∷ changes) s =
-    element-after l c e changes (apply change s) ∙ ap (if_found (effects_on l c e changes)) (element-changed l c e change s) ∙ twice (effects_on l c e changes) (effect_on l c e change) _
+    element-after l c e changes (apply change s)
+    ∙ (λ i. if_found (effects_on (width-apply l c change s i) l c e changes) (element-changed l c e change s i))
+    ∙ twice (effects_on (container_width l c s) l c e changes) (effect_on (container_width l c s) l c e change) _
 
 pub at-nothing : {A : Type 0} (i j : ℕ) (x : A) → at i j (λ x. x) x ≡ x
 at-nothing zero zero x = refl
@@ -109,24 +98,24 @@ mark-here : (marking : Marking) (l c e : ℕ) (to : Reference) → IsTo l c e to
 mark-here marking l c e to h = λ i. marking.element (h.1 i) (h.2 i)
 
 -- changes leave an element that none of their touches writes
-spared-after : (By : Touch → Type 0) (c e : ℕ) (changes : List Change) → AreChangesBy By changes →
-    ((to : Reference) (by : Option Resolution) → IsTo 0 c e to → By (writes to by) → ⊥) → (x : ℤ) → effects_on 0 c e changes x ≡ x
-spared-after By c e [] h never x = refl
-spared-after By c e (change ∷ changes) h never x = ap (effects_on 0 c e changes) (on change h.0) ∙ spared-after By c e changes h.1 never x
+spared-after : (By : Touch → Type 0) (w : Width) (c e : ℕ) (changes : List Change) → AreChangesBy By changes →
+    ((to : Reference) (by : Option Resolution) → IsTo 0 c e to → By (writes to by) → ⊥) → (x : ℤ) → effects_on w 0 c e changes x ≡ x
+spared-after By w c e [] h never x = refl
+spared-after By w c e (change ∷ changes) h never x = ap (effects_on w 0 c e changes) (on change h.0) ∙ spared-after By w c e changes h.1 never x
   where
-    on : (change : Change) → IsChangeBy By change → effect_on 0 c e change x ≡ x
+    on : (change : Change) → IsChangeBy By change → effect_on w 0 c e change x ≡ x
     on nothing k = refl
     on (push l d v) k = at-within l 0 (at d c (λ x. x)) (at-nothing d c) x
     on (take l d p) k = at-within l 0 (at d c (λ x. x)) (at-nothing d c) x
-    on (write to by v) k = either (write-effect 0 c e to (written by v))
+    on (write to by v) k = either (write-effect 0 c e to (written w by v))
       where
-        either : WritesSo 0 c e to (written by v) → effect_on 0 c e (write to by v) x ≡ x
+        either : WritesSo 0 c e to (written w by v) → effect_on w 0 c e (write to by v) x ≡ x
         either (inl p) = p x
         either (inr p) = elim (never to by p.0 k) [ ]
 
 -- changes of marked touches leave an element that is not touched
-pub untouched-after : (marking : Marking) (c e : ℕ) (changes : List Change) → AreChangesBy (IsMarked marking) changes → marking.element c e ≡ untouched → (x : ℤ) → effects_on 0 c e changes x ≡ x
-untouched-after marking c e changes h m = spared-after (IsMarked marking) c e changes h never
+pub untouched-after : (marking : Marking) (w : Width) (c e : ℕ) (changes : List Change) → AreChangesBy (IsMarked marking) changes → marking.element c e ≡ untouched → (x : ℤ) → effects_on w 0 c e changes x ≡ x
+untouched-after marking w c e changes h m = spared-after (IsMarked marking) w c e changes h never
   where
     against : (to : Reference) (by : Option Resolution) → IsTo 0 c e to →
         (marking.element to.container to.element ≡ kept) ⊎ ((resolution : Resolution) × (by ≡ Some resolution) × (marking.element to.container to.element ≡ gathered resolution)) → ⊥
@@ -137,8 +126,8 @@ untouched-after marking c e changes h m = spared-after (IsMarked marking) c e ch
     never to by t k = against to by t k.1
 
 -- changes of touches that have numbers leave an element without one
-pub unnumbered-after : (naming : Naming) (c e : ℕ) (changes : List Change) → AreChangesBy (IsTouchNamed naming 0) changes → naming c e ≡ None → (x : ℤ) → effects_on 0 c e changes x ≡ x
-unnumbered-after naming c e changes h n = spared-after (IsTouchNamed naming 0) c e changes h never
+pub unnumbered-after : (naming : Naming) (w : Width) (c e : ℕ) (changes : List Change) → AreChangesBy (IsTouchNamed naming 0) changes → naming c e ≡ None → (x : ℤ) → effects_on w 0 c e changes x ≡ x
+unnumbered-after naming w c e changes h n = spared-after (IsTouchNamed naming 0) w c e changes h never
   where
     at_level : (l : ℕ) (to : Reference) → l ≡ 0 → (number : ℕ) × (names_at naming 0 l to.container to.element ≡ Some number) → (number : ℕ) × (naming to.container to.element ≡ Some number)
     at_level zero to p k = k
@@ -150,67 +139,44 @@ unnumbered-after naming c e changes h n = spared-after (IsTouchNamed naming 0) c
     never : (to : Reference) (by : Option Resolution) → IsTo 0 c e to → IsTouchNamed naming 0 (writes to by) → ⊥
     never to by t k = let r = at_level to.level to t.0 k in let no : None ≡ Some r.0 = sym (here to t) ∙ r.1 in cc
 
--- a value that is resolved with an element
-resolving : (r : Resolution) (v x y : ℤ) → FitsSigned w64 x → FitsSigned w64 y → written (Some r) v (resolved r x y) ≡ resolved r x (written (Some r) v y)
-resolving r v x y fx fy =
-    ap (λ z. resolved r z (wrapped v)) (int_wrap_fits w64 (resolved r x y) (FitsSigned-resolved r x y fx fy))
-    ∙ resolved_assoc r x y (wrapped v) fx fy (SFits-int_wrap w64 v)
-    ∙ ap (λ z. resolved r x (resolved r z (wrapped v))) (sym (int_wrap_fits w64 y fy))
-
--- what is resolved into an element from the identity on, is resolved with the element as a whole
-pub gathered-after : (marking : Marking) (c e : ℕ) (r : Resolution) (changes : List Change) → AreChangesBy (IsMarked marking) changes → marking.element c e ≡ gathered r →
-    (x y : ℤ) → FitsSigned w64 x → FitsSigned w64 y → effects_on 0 c e changes (resolved r x y) ≡ resolved r x (effects_on 0 c e changes y)
-gathered-after marking c e r [] h m x y fx fy = refl
-gathered-after marking c e r (change ∷ changes) h m x y fx fy = on change h.0 (λ y fy. gathered-after marking c e r changes h.1 m x y fx fy)
+-- what is stored in an element from another one on, is stored in it as a whole
+pub gathered-after : (marking : Marking) (w : Width) (c e : ℕ) (r : Resolution) (changes : List Change) → AreChangesBy (IsMarked marking) changes → marking.element c e ≡ gathered r →
+    (x y : ℤ) → effects_on w 0 c e changes (stored w (Some r) x y) ≡ stored w (Some r) x (effects_on w 0 c e changes y)
+gathered-after marking w c e r [] h m x y = refl
+gathered-after marking w c e r (change ∷ changes) h m x y = ap (effects_on w 0 c e changes) (on change h.0) ∙ gathered-after marking w c e r changes h.1 m x (effect_on w 0 c e change y)
   where
-    same : (change : Change) → ((z : ℤ) → effect_on 0 c e change z ≡ z) → (effects_on 0 c e changes (resolved r x y) ≡ resolved r x (effects_on 0 c e changes y)) →
-        effects_on 0 c e changes (effect_on 0 c e change (resolved r x y)) ≡ resolved r x (effects_on 0 c e changes (effect_on 0 c e change y))
-    same change p k = ap (effects_on 0 c e changes) (p (resolved r x y)) ∙ k ∙ ap (λ z. resolved r x (effects_on 0 c e changes z)) (sym (p y))
+    same : (change : Change) → ((z : ℤ) → effect_on w 0 c e change z ≡ z) → effect_on w 0 c e change (stored w (Some r) x y) ≡ stored w (Some r) x (effect_on w 0 c e change y)
+    same change p = p (stored w (Some r) x y) ∙ ap (stored w (Some r) x) (sym (p y))
 
-    on : (change : Change) → IsChangeBy (IsMarked marking) change → ((y : ℤ) → FitsSigned w64 y → effects_on 0 c e changes (resolved r x y) ≡ resolved r x (effects_on 0 c e changes y)) →
-        effects_on 0 c e changes (effect_on 0 c e change (resolved r x y)) ≡ resolved r x (effects_on 0 c e changes (effect_on 0 c e change y))
-    on nothing k go = go y fy
-    on (push l d v) k go = same (push l d v) (at-within l 0 (at d c (λ x. x)) (at-nothing d c)) (go y fy)
-    on (take l d p) k go = same (take l d p) (at-within l 0 (at d c (λ x. x)) (at-nothing d c)) (go y fy)
-    on (write to by v) k go = either (write-effect 0 c e to (written by v))
+    on : (change : Change) → IsChangeBy (IsMarked marking) change → effect_on w 0 c e change (stored w (Some r) x y) ≡ stored w (Some r) x (effect_on w 0 c e change y)
+    on nothing k = refl
+    on (push l d v) k = same (push l d v) (at-within l 0 (at d c (λ x. x)) (at-nothing d c))
+    on (take l d p) k = same (take l d p) (at-within l 0 (at d c (λ x. x)) (at-nothing d c))
+    on (write to by v) k = either (write-effect 0 c e to (written w by v))
       where
         is_by : IsTo 0 c e to → (marking.element to.container to.element ≡ kept) ⊎ ((resolution : Resolution) × (by ≡ Some resolution) × (marking.element to.container to.element ≡ gathered resolution)) → by ≡ Some r
         is_by t (inl q) = elim (are-marks (gathered r) kept (sym m ∙ sym (mark-here marking 0 c e to t) ∙ q)) [ ]
         is_by t (inr q) = q.1 ∙ ap Some (sym (are-marks (gathered r) (gathered q.0) (sym m ∙ sym (mark-here marking 0 c e to t) ∙ q.2)))
 
-        resolves : by ≡ Some r → ((z : ℤ) → effect_on 0 c e (write to by v) z ≡ written by v z) → effects_on 0 c e changes (effect_on 0 c e (write to by v) (resolved r x y)) ≡ resolved r x (effects_on 0 c e changes (effect_on 0 c e (write to by v) y))
-        resolves b p =
-            let by_r : (z : ℤ) → effect_on 0 c e (write to by v) z ≡ written (Some r) v z = λ z. p z ∙ ap (λ b. written b v z) b in
-            ap (effects_on 0 c e changes) (by_r (resolved r x y) ∙ resolving r v x y fx fy)
-            ∙ go (written (Some r) v y) (FitsSigned-written (Some r) v y)
-            ∙ ap (λ z. resolved r x (effects_on 0 c e changes z)) (sym (by_r y))
-
-        either : WritesSo 0 c e to (written by v) → effects_on 0 c e changes (effect_on 0 c e (write to by v) (resolved r x y)) ≡ resolved r x (effects_on 0 c e changes (effect_on 0 c e (write to by v) y))
-        either (inl p) = same (write to by v) p (go y fy)
-        either (inr p) = resolves (is_by p.0 k.1) p.1
+        either : WritesSo 0 c e to (written w by v) → effect_on w 0 c e (write to by v) (stored w (Some r) x y) ≡ stored w (Some r) x (effect_on w 0 c e (write to by v) y)
+        either (inl p) = same (write to by v) p
+        either (inr p) =
+            let by_r : (z : ℤ) → effect_on w 0 c e (write to by v) z ≡ stored w (Some r) z v = λ z. p.1 z ∙ ap (λ b. written w b v z) (is_by p.0 k.1) in
+            by_r (stored w (Some r) x y) ∙ stored-assoc w r x y v ∙ ap (stored w (Some r) x) (sym (by_r y))
 
 -- ---- a stream
 
-abbrev pub stream_effect : (l c : ℕ) → Change → List ℤ → List ℤ
-stream_effect l c nothing xs = xs
-stream_effect l c (write to by v) xs = at to.level l (at to.container c (λ x. x)) xs
-stream_effect l c (push m d v) xs = at m l (at d c (λ values. values ++ wrapped v ∷ [])) xs
-stream_effect l c (take m d p) xs = at m l (at d c (without p)) xs
+-- what changes make of the values of a stream of a width
+abbrev pub stream_effects : Width → (l c : ℕ) → List Change → List ℤ → List ℤ
+stream_effects w l c [] xs = xs
+stream_effects w l c (change ∷ changes) xs = stream_effects w l c changes (stream_effect w l c change xs)
 
-abbrev pub stream_effects : (l c : ℕ) → List Change → List ℤ → List ℤ
-stream_effects l c [] xs = xs
-stream_effects l c (change ∷ changes) xs = stream_effects l c changes (stream_effect l c change xs)
-
-stream-changed : (l c : ℕ) (change : Change) (s : Memories) → stream_found l c (apply change s) ≡ if_found (stream_effect l c change) (stream_found l c s)
-stream-changed l c nothing s = unchanged (λ x. x) (λ x. refl) (stream_found l c s)
-stream-changed l c (write to by v) s = look_changed l c to.level to.container _ values_if (λ x. x) (values_same _) s
-stream-changed l c (push m d v) s = look_changed l c m d _ values_if _ (values_changed _) s
-stream-changed l c (take m d p) s = look_changed l c m d _ values_if _ (values_changed _) s
-
-pub stream-after : (l c : ℕ) (changes : List Change) (s : Memories) → stream_found l c (apply_all changes s) ≡ if_found (stream_effects l c changes) (stream_found l c s)
+pub stream-after : (l c : ℕ) (changes : List Change) (s : Memories) → stream_found l c (apply_all changes s) ≡ if_found (stream_effects (container_width l c s) l c changes) (stream_found l c s)
 stream-after l c [] s = unchanged (λ x. x) (λ x. refl) (stream_found l c s)
 stream-after l c (change ∷ changes) s =
-    stream-after l c changes (apply change s) ∙ ap (if_found (stream_effects l c changes)) (stream-changed l c change s) ∙ twice (stream_effects l c changes) (stream_effect l c change) (stream_found l c s)
+    stream-after l c changes (apply change s)
+    ∙ (λ i. if_found (stream_effects (width-apply l c change s i) l c changes) (stream-changed l c change s i))
+    ∙ twice (stream_effects (container_width l c s) l c changes) (stream_effect (container_width l c s) l c change) (stream_found l c s)
 
 abbrev IsStreamMark : StreamMark → StreamMark → Type 0
 IsStreamMark unused unused = ⊤
@@ -246,9 +212,9 @@ acts l c m d f = by_level (same_or_two m l)
     by_level (inl p) = by_container p (same_or_two d c)
     by_level (inr n) = inl (λ x. at-other m l n (at d c f) x)
 
-pub unused-after : (marking : Marking) (c : ℕ) (changes : List Change) → AreChangesBy (IsMarked marking) changes → marking.stream c ≡ unused → (xs : List ℤ) → stream_effects 0 c changes xs ≡ xs
-unused-after marking c [] h m xs = refl
-unused-after marking c (change ∷ changes) h m xs = ap (stream_effects 0 c changes) (on change h.0) ∙ unused-after marking c changes h.1 m xs
+pub unused-after : (marking : Marking) (w : Width) (c : ℕ) (changes : List Change) → AreChangesBy (IsMarked marking) changes → marking.stream c ≡ unused → (xs : List ℤ) → stream_effects w 0 c changes xs ≡ xs
+unused-after marking w c [] h m xs = refl
+unused-after marking w c (change ∷ changes) h m xs = ap (stream_effects w 0 c changes) (on change h.0) ∙ unused-after marking w c changes h.1 m xs
   where
     here : (d : ℕ) → d ≡ c → marking.stream d ≡ unused
     here d q = ap marking.stream q ∙ m
@@ -261,10 +227,10 @@ unused-after marking c (change ∷ changes) h m xs = ap (stream_effects 0 c chan
     either l d f n (inl p) = p xs
     either l d f n (inr p) = elim (n p.0) [ ]
 
-    on : (change : Change) → IsChangeBy (IsMarked marking) change → stream_effect 0 c change xs ≡ xs
+    on : (change : Change) → IsChangeBy (IsMarked marking) change → stream_effect w 0 c change xs ≡ xs
     on nothing k = refl
     on (write to by v) k = at-within to.level 0 (at to.container c (λ x. x)) (at-nothing to.container c) xs
-    on (push l d v) k = either l d _ (λ q. pushed d q k.1) (acts 0 c l d (λ values. values ++ wrapped v ∷ []))
+    on (push l d v) k = either l d _ (λ q. pushed d q k.1) (acts 0 c l d (with_newest v w))
     on (take l d p) k = either l d _ (λ q. are-stream-marks unused drained (sym (here d q) ∙ k.1)) (acts 0 c l d (without p))
 
 append-again : (xs ys zs : List ℤ) → (xs ++ ys) ++ zs ≡ xs ++ (ys ++ zs)
@@ -272,11 +238,11 @@ append-again [] ys zs = refl
 append-again (x ∷ xs) ys zs = ap (λ l. x ∷ l) (append-again xs ys zs)
 
 -- what is appended to an empty stream is appended to the values of another as a whole
-pub appended-after : (marking : Marking) (c : ℕ) (changes : List Change) → AreChangesBy (IsMarked marking) changes → marking.stream c ≡ appended → (xs ys : List ℤ) →
-    stream_effects 0 c changes (xs ++ ys) ≡ xs ++ stream_effects 0 c changes ys
-appended-after marking c [] h m xs ys = refl
-appended-after marking c (change ∷ changes) h m xs ys =
-    ap (stream_effects 0 c changes) (on change h.0) ∙ appended-after marking c changes h.1 m xs (stream_effect 0 c change ys)
+pub appended-after : (marking : Marking) (w : Width) (c : ℕ) (changes : List Change) → AreChangesBy (IsMarked marking) changes → marking.stream c ≡ appended → (xs ys : List ℤ) →
+    stream_effects w 0 c changes (xs ++ ys) ≡ xs ++ stream_effects w 0 c changes ys
+appended-after marking w c [] h m xs ys = refl
+appended-after marking w c (change ∷ changes) h m xs ys =
+    ap (stream_effects w 0 c changes) (on change h.0) ∙ appended-after marking w c changes h.1 m xs (stream_effect w 0 c change ys)
   where
     same : (f : List ℤ → List ℤ) → ((x : List ℤ) → f x ≡ x) → f (xs ++ ys) ≡ xs ++ f ys
     same f p = p (xs ++ ys) ∙ ap (λ l. xs ++ l) (sym (p ys))
@@ -285,13 +251,13 @@ appended-after marking c (change ∷ changes) h m xs ys =
     taken l d p k (inl q) = same (at l 0 (at d c (without p))) q
     taken l d p k (inr q) = elim (are-stream-marks appended drained (sym (ap marking.stream q.0 ∙ m) ∙ k)) [ ]
 
-    pushed : (l d : ℕ) (v : ℤ) → ActsSo 0 c l d (λ values. values ++ wrapped v ∷ []) →
-        at l 0 (at d c (λ values. values ++ wrapped v ∷ [])) (xs ++ ys) ≡ xs ++ at l 0 (at d c (λ values. values ++ wrapped v ∷ [])) ys
-    pushed l d v (inl q) = same (at l 0 (at d c (λ values. values ++ wrapped v ∷ []))) q
-    pushed l d v (inr q) = q.1 (xs ++ ys) ∙ append-again xs ys (wrapped v ∷ []) ∙ ap (λ l. xs ++ l) (sym (q.1 ys))
+    pushed : (l d : ℕ) (v : ℤ) → ActsSo 0 c l d (with_newest v w) →
+        at l 0 (at d c (with_newest v w)) (xs ++ ys) ≡ xs ++ at l 0 (at d c (with_newest v w)) ys
+    pushed l d v (inl q) = same (at l 0 (at d c (with_newest v w))) q
+    pushed l d v (inr q) = q.1 (xs ++ ys) ∙ append-again xs ys (wrapped_to w v ∷ []) ∙ ap (λ l. xs ++ l) (sym (q.1 ys))
 
-    on : (change : Change) → IsChangeBy (IsMarked marking) change → stream_effect 0 c change (xs ++ ys) ≡ xs ++ stream_effect 0 c change ys
+    on : (change : Change) → IsChangeBy (IsMarked marking) change → stream_effect w 0 c change (xs ++ ys) ≡ xs ++ stream_effect w 0 c change ys
     on nothing k = refl
     on (write to by v) k = same (at to.level 0 (at to.container c (λ x. x))) (at-within to.level 0 (at to.container c (λ x. x)) (at-nothing to.container c))
-    on (push l d v) k = pushed l d v (acts 0 c l d (λ values. values ++ wrapped v ∷ []))
+    on (push l d v) k = pushed l d v (acts 0 c l d (with_newest v w))
     on (take l d p) k = taken l d p k.1 (acts 0 c l d (without p))

@@ -1,11 +1,11 @@
 -- Memories by other numbers stay so by the same changes, and the same is seen in them.
-use Rattle.std.proofs.Common.{◌≡◌, ◌⊎◌, inl, inr, ℕ, zero, suc, ℤ, pos, List, [], ◌∷◌, ◌++◌, drop, Option, Some, None, slice_get, refl, sym, ◌∙◌, ap, subst}
+use Rattle.std.proofs.Common.{◌≡◌, ◌⊎◌, inl, inr, ℕ, zero, suc, ℤ, pos, List, [], ◌∷◌, drop, Option, Some, None, slice_get, refl, sym, ◌∙◌, ap, subst}
 use Rattle.std.specs.Bool.{⊤}
 use Rattle.std.specs.Option.{option_and_then}
-use Rattle.sd_num.specs.Wrapped.{wrapped}
+use Rattle.sd_num.specs.declared.width.Width.{Width}
 use Rattle.sd_num.specs.declared.resolution.Resolution.{Resolution}
 use Rattle.sd_work.specs.Memory.{Contents, array, stream, Memory, Memories, elements_of, look, waiting}
-use Rattle.sd_work.specs.Change.{write, push, take, written, changed_at, without, with_elements, with_values, with_contents, apply}
+use Rattle.sd_work.specs.Change.{write, push, take, written, changed_at, without, with_elements, with_values, appended, with_contents, apply}
 use Rattle.sd_pieces.specs.course.Reading.{contents_found, values_if}
 use Rattle.sd_pieces.proofs.course_lemmas.Readings.{at, if_found, or_default, found-changed_at, container-changed, look-found, waiting-found}
 use Rattle.sd_pieces.specs.cut.Naming.{Naming, IsOneToOne, names_at, AreContentsNamed, AreFoundNamed, AreMemoriesNamed}
@@ -83,44 +83,44 @@ contents-named naming d m k f g h s t r l c =
     (contents_found l c s) (contents_found l c t) (r l c)))
 
 -- an element changed in both
-elements-named : (names : ℕ → Option ℕ) → ((e f k : ℕ) → names e ≡ Some k → names f ≡ Some k → e ≡ f) → (e k : ℕ) → names e ≡ Some k → (change : ℤ → ℤ) →
-    (a b : Contents) → AreContentsNamed names a b → AreContentsNamed names (with_elements (changed_at e change) a) (with_elements (changed_at k change) b)
-elements-named names one e k p change (array xs) (array ys) r = λ f j q.
-    found-changed_at e f change xs ∙ on f j q (same_or_two e f) ∙ sym (found-changed_at k j change ys)
+elements-named : (names : ℕ → Option ℕ) → ((e f k : ℕ) → names e ≡ Some k → names f ≡ Some k → e ≡ f) → (e k : ℕ) → names e ≡ Some k → (change : Width → ℤ → ℤ) →
+    (a b : Contents) → AreContentsNamed names a b → AreContentsNamed names (with_elements (λ width. changed_at e (change width)) a) (with_elements (λ width. changed_at k (change width)) b)
+elements-named names one e k p change (array width xs) (array other ys) r = (r.0, λ f j q. found-changed_at e f (change width) xs ∙ on f j q (same_or_two e f) ∙ sym (found-changed_at k j (change other) ys))
   where
     changed : {A : Type 0} (g h : A → A) (o o' : Option A) → ((x : A) → g x ≡ h x) → o ≡ o' → if_found g o ≡ if_found h o'
     changed g h None o' k e = ap (if_found h) e
     changed g h (Some x) o' k e = ap Some (k x) ∙ ap (if_found h) e
 
-    on : (f j : ℕ) → names f ≡ Some j → (e ≡ f) ⊎ (e ≡ f → ⊥) → if_found (at e f change) (slice_get xs f) ≡ if_found (at k j change) (slice_get ys j)
+    on : (f j : ℕ) → names f ≡ Some j → (e ≡ f) ⊎ (e ≡ f → ⊥) → if_found (at e f (change width)) (slice_get xs f) ≡ if_found (at k j (change other)) (slice_get ys j)
     on f j q (inl same) =
-        changed (at e f change) (at k j change) _ _ (λ x. at-same e f same change x ∙ sym (at-same k j (some-same k j (sym p ∙ ap names same ∙ q)) change x)) (r f j q)
+        changed (at e f (change width)) (at k j (change other)) _ _
+        (λ x. at-same e f same (change width) x ∙ ap (λ w. change w x) r.0 ∙ sym (at-same k j (some-same k j (sym p ∙ ap names same ∙ q)) (change other) x)) (r.1 f j q)
     on f j q (inr two) =
-        changed (at e f change) (at k j change) _ _ (λ x. at-other e f two change x ∙ sym (at-other k j (λ same. two (one e f k p (q ∙ ap Some (sym same)))) change x)) (r f j q)
-elements-named names one e k p change (array xs) (stream ys) r = r
-elements-named names one e k p change (stream xs) (array ys) r = r
-elements-named names one e k p change (stream xs) (stream ys) r = r
+        changed (at e f (change width)) (at k j (change other)) _ _
+        (λ x. at-other e f two (change width) x ∙ sym (at-other k j (λ same. two (one e f k p (q ∙ ap Some (sym same)))) (change other) x)) (r.1 f j q)
+elements-named names one e k p change (array width xs) (stream other ys) r = r
+elements-named names one e k p change (stream width xs) (array other ys) r = r
+elements-named names one e k p change (stream width xs) (stream other ys) r = r
 
-values-named : (names : ℕ → Option ℕ) (change : List ℤ → List ℤ) (a b : Contents) → AreContentsNamed names a b → AreContentsNamed names (with_values change a) (with_values change b)
-values-named names change (array xs) (array ys) r = r
-values-named names change (array xs) (stream ys) r = r
-values-named names change (stream xs) (array ys) r = r
-values-named names change (stream xs) (stream ys) r = ap change r
+values-named : (names : ℕ → Option ℕ) (change : Width → List ℤ → List ℤ) (a b : Contents) → AreContentsNamed names a b → AreContentsNamed names (with_values change a) (with_values change b)
+values-named names change (array width xs) (array other ys) r = r
+values-named names change (array width xs) (stream other ys) r = r
+values-named names change (stream width xs) (array other ys) r = r
+values-named names change (stream width xs) (stream other ys) r = (r.0, λ i. change (r.0 i) (r.1 i))
 
 -- ---- changes
 
 pub write-named : (naming : Naming) → IsOneToOne naming → (d l c e k : ℕ) (by : Option Resolution) (v : ℤ) (s t : Memories) → names_at naming d l c e ≡ Some k → AreMemoriesNamed naming d s t →
     AreMemoriesNamed naming d (apply (write (record { level = l; container = c; element = e }) by v) s) (apply (write (record { level = l; container = c; element = k }) by v) t)
 write-named naming one d l c e k by v s t p r =
-    contents-named naming d l c _ _ (elements-named (names_at naming d l c) (one-names naming one d l c) e k p (written by v)) s t r
+    contents-named naming d l c _ _ (elements-named (names_at naming d l c) (one-names naming one d l c) e k p (λ width. written width by v)) s t r
 
 pub push-named : (naming : Naming) (d l c : ℕ) (v : ℤ) (s t : Memories) → AreMemoriesNamed naming d s t → AreMemoriesNamed naming d (apply (push l c v) s) (apply (push l c v) t)
-push-named naming d l c v s t r =
-    let change : List ℤ → List ℤ = λ values. values ++ wrapped v ∷ [] in
-    contents-named naming d l c (with_values change) (with_values change) (values-named (names_at naming d l c) change) s t r
+push-named naming d l c v s t r = contents-named naming d l c (with_values (appended v)) (with_values (appended v)) (values-named (names_at naming d l c) (appended v)) s t r
 
 pub take-named : (naming : Naming) (d l c p : ℕ) (s t : Memories) → AreMemoriesNamed naming d s t → AreMemoriesNamed naming d (apply (take l c p) s) (apply (take l c p) t)
-take-named naming d l c p s t r = contents-named naming d l c (with_values (without p)) (with_values (without p)) (values-named (names_at naming d l c) (without p)) s t r
+take-named naming d l c p s t r =
+    contents-named naming d l c (with_values (λ width. without p)) (with_values (λ width. without p)) (values-named (names_at naming d l c) (λ width. without p)) s t r
 
 -- ---- what is seen
 
@@ -129,19 +129,19 @@ pub element-named : (names : ℕ → Option ℕ) (e k : ℕ) → names e ≡ Som
 element-named names e k p None None h = refl
 element-named names e k p None (Some b) h = elim h [ ]
 element-named names e k p (Some a) None h = elim h [ ]
-element-named names e k p (Some (array xs)) (Some (array ys)) h = h e k p
-element-named names e k p (Some (array xs)) (Some (stream ys)) h = elim h [ ]
-element-named names e k p (Some (stream xs)) (Some (array ys)) h = elim h [ ]
-element-named names e k p (Some (stream xs)) (Some (stream ys)) h = refl
+element-named names e k p (Some (array width xs)) (Some (array other ys)) h = h.1 e k p
+element-named names e k p (Some (array width xs)) (Some (stream other ys)) h = elim h [ ]
+element-named names e k p (Some (stream width xs)) (Some (array other ys)) h = elim h [ ]
+element-named names e k p (Some (stream width xs)) (Some (stream other ys)) h = refl
 
 pub stream-named : (names : ℕ → Option ℕ) → (o q : Option Contents) → AreFoundNamed names o q → option_and_then values_if o ≡ option_and_then values_if q
 stream-named names None None h = refl
 stream-named names None (Some b) h = elim h [ ]
 stream-named names (Some a) None h = elim h [ ]
-stream-named names (Some (array xs)) (Some (array ys)) h = refl
-stream-named names (Some (array xs)) (Some (stream ys)) h = elim h [ ]
-stream-named names (Some (stream xs)) (Some (array ys)) h = elim h [ ]
-stream-named names (Some (stream xs)) (Some (stream ys)) h = ap Some h
+stream-named names (Some (array width xs)) (Some (array other ys)) h = refl
+stream-named names (Some (array width xs)) (Some (stream other ys)) h = elim h [ ]
+stream-named names (Some (stream width xs)) (Some (array other ys)) h = elim h [ ]
+stream-named names (Some (stream width xs)) (Some (stream other ys)) h = ap Some h.1
 
 pub look-named : (naming : Naming) (d l c e k : ℕ) (s t : Memories) → names_at naming d l c e ≡ Some k → AreMemoriesNamed naming d s t →
     look (record { level = l; container = c; element = e }) s ≡ look (record { level = l; container = c; element = k }) t
@@ -158,8 +158,8 @@ waiting-named naming d l c s t r =
 
 itself-named : (o : Option Contents) → AreFoundNamed Some o o
 itself-named None = tt
-itself-named (Some (array xs)) = λ e k p. ap (slice_get xs) (some-same e k p)
-itself-named (Some (stream xs)) = refl
+itself-named (Some (array width xs)) = (refl, λ e k p. ap (slice_get xs) (some-same e k p))
+itself-named (Some (stream width xs)) = (refl, refl)
 
 pub inside-named : (naming : Naming) (d : ℕ) (own : Memory) (s t : Memories) → AreMemoriesNamed naming d s t → AreMemoriesNamed naming (suc d) (own ∷ s) (own ∷ t)
 inside-named naming d own s t r zero c = itself-named (slice_get own c)

@@ -1,15 +1,16 @@
 -- Work on a cut of a memory, merged into another one, is the work from that one.
 use Rattle.std.proofs.Common.{◌≡◌, ℕ, zero, suc, ℤ, List, [], ◌∷◌, ◌++◌, drop, Option, Some, None, refl, sym, ◌∙◌, ap, subst, arith}
 use Rattle.std.specs.Prelude.{option_map}
-use Rattle.sd_num.specs.Resolution.{resolved}
-use Rattle.sd_num.proofs.ResolutionLemmas.{resolved-identity, FitsSigned-identity}
+use Rattle.sd_num.specs.Resolution.{stored, identity_of}
+use Rattle.sd_num.specs.declared.width.Width.{Width}
+use Rattle.sd_num.proofs.StoredLemmas.{stored-partial}
 use Rattle.sd_work.specs.Memory.{Contents, Memories}
 use Rattle.sd_work.specs.Change.{Change, nothing, write, push, take, with_contents, apply}
 use Rattle.sd_work.specs.Residual.{Term}
 use Rattle.sd_work.specs.Step.{Outcome, Done, Faulted, Spent}
 use Rattle.sd_work.specs.BigStep.{Coming, reached, big_step}
 use Rattle.sd_work.specs.Touch.{Touch, takes, Touches}
-use Rattle.sd_pieces.specs.course.Reading.{Reading, reads_element, reads_stream, contents_found, element_found, stream_found, AgreeOn, apply_all}
+use Rattle.sd_pieces.specs.course.Reading.{Reading, reads_element, reads_stream, contents_found, element_found, stream_found, container_width, AgreeAt, AgreeOn, apply_all}
 use Rattle.sd_pieces.specs.course.Course.{Course, course, told_end, told}
 use Rattle.sd_pieces.specs.course.Touched.{IsChangeBy, AreChangesBy, AreReadingsBy, IsCourseBy}
 use Rattle.sd_pieces.proofs.course_lemmas.Readings.{if_found, unchanged}
@@ -25,12 +26,11 @@ use Rattle.sd_pieces.proofs.cut_lemmas.Merging.{effects_on, stream_effects, elem
 -- ---- agreement on what is read
 
 element-agrees : (marking : Marking) (s t : Memories) → IsPrepared marking s t → (l c e : ℕ) → (l ≡ 0) × (marking.element c e ≡ kept) →
-    element_found (record { level = l; container = c; element = e }) s ≡ element_found (record { level = l; container = c; element = e }) t
-element-agrees marking s t p l c e h =
-    subst (λ l. element_found (record { level = l; container = c; element = e }) s ≡ element_found (record { level = l; container = c; element = e }) t) (sym h.0) (p.kept_so c e h.1)
+    AgreeAt (reads_element (record { level = l; container = c; element = e })) s t
+element-agrees marking s t p l c e h = subst (λ l. AgreeAt (reads_element (record { level = l; container = c; element = e })) s t) (sym h.0) (p.kept_so c e h.1)
 
-stream-agrees : (marking : Marking) (s t : Memories) → IsPrepared marking s t → (l c : ℕ) → IsMarked marking (takes l c) → stream_found l c s ≡ stream_found l c t
-stream-agrees marking s t p l c h = subst (λ l. stream_found l c s ≡ stream_found l c t) (sym h.0) (p.drained_so c h.1)
+stream-agrees : (marking : Marking) (s t : Memories) → IsPrepared marking s t → (l c : ℕ) → IsMarked marking (takes l c) → AgreeAt (reads_stream l c) s t
+stream-agrees marking s t p l c h = subst (λ l. AgreeAt (reads_stream l c) s t) (sym h.0) (p.drained_so c h.1)
 
 readings-agree : (marking : Marking) (s t : Memories) → IsPrepared marking s t → (rs : List Reading) → AreReadingsBy (IsMarked marking) rs → AgreeOn rs s t
 readings-agree marking s t p [] h = tt
@@ -64,36 +64,46 @@ merged : (naming : Naming) (marking : Marking) (s t others : Memories) (changes 
 merged naming marking s t others changes p h o n = record {
   shape_so = shape-after changes t;
   deeper_so = deeper-after marking changes h t;
-  untouched_so = λ c e m. element-after 0 c e changes t ∙ sym (unchanged (effects_on 0 c e changes) (untouched-after marking c e changes h m) (element_found (outermost c e) t));
-  unused_so = λ c m. stream-after 0 c changes t ∙ sym (unchanged (stream_effects 0 c changes) (unused-after marking c changes h m) (stream_found 0 c t));
-  unnumbered_so = λ c e m. element-after 0 c e changes t ∙ sym (unchanged (effects_on 0 c e changes) (unnumbered-after naming c e changes o m) (element_found (outermost c e) t));
+  untouched_so = λ c e m.
+      let w : Width = container_width 0 c t in
+      element-after 0 c e changes t ∙ sym (unchanged (effects_on w 0 c e changes) (untouched-after marking w c e changes h m) (element_found (outermost c e) t));
+  unused_so = λ c m.
+      let w : Width = container_width 0 c t in
+      stream-after 0 c changes t ∙ sym (unchanged (stream_effects w 0 c changes) (unused-after marking w c changes h m) (stream_found 0 c t));
+  unnumbered_so = λ c e m.
+      let w : Width = container_width 0 c t in
+      element-after 0 c e changes t ∙ sym (unchanged (effects_on w 0 c e changes) (unnumbered-after naming w c e changes o m) (element_found (outermost c e) t));
   kept_so = λ c e k m q.
-      element-after 0 c e changes t ∙ ap (if_found (effects_on 0 c e changes)) (sym (p.kept_so c e m)) ∙ sym (element-after 0 c e changes s)
-      ∙ element-named (naming c) e k q (contents_found 0 c (apply_all changes s)) (contents_found 0 c others) (n 0 c);
+      let same = p.kept_so c e m in
+      element-after 0 c e changes t ∙ (λ i. if_found (effects_on (sym same.1 i) 0 c e changes) (sym same.0 i)) ∙ sym (element-after 0 c e changes s) ∙ element_left c e k q;
   drained_so = λ c m.
-      stream-after 0 c changes t ∙ ap (if_found (stream_effects 0 c changes)) (sym (p.drained_so c m)) ∙ sym (stream-after 0 c changes s)
-      ∙ stream-named (naming c) (contents_found 0 c (apply_all changes s)) (contents_found 0 c others) (n 0 c);
+      let same = p.drained_so c m in
+      stream-after 0 c changes t ∙ (λ i. if_found (stream_effects (sym same.1 i) 0 c changes) (sym same.0 i)) ∙ sym (stream-after 0 c changes s) ∙ stream_left c;
   gathered_so = λ c e k r old m q fits before.
-      let i = p.gathered_so c e r m in
-      let fit = FitsSigned-identity r i.0 i.1 in
-      let is_left : Some (effects_on 0 c e changes i.0) ≡ element_found (outermost c k) others =
-      sym (element-after 0 c e changes s ∙ ap (if_found (effects_on 0 c e changes)) i.2) ∙ element-named (naming c) e k q (contents_found 0 c (apply_all changes s)) (contents_found 0 c others) (n 0 c) in
-      element-after 0 c e changes t ∙ ap (if_found (effects_on 0 c e changes)) before
-      ∙ ap Some (
-      ap (effects_on 0 c e changes) (sym (resolved-identity r i.0 old i.1 fits))
-      ∙ gathered-after marking c e r changes h m old i.0 fits fit
-      )
-      ∙ ap (option_map (resolved r old)) is_left;
+      let w : Width = container_width 0 c t in
+      let same = p.gathered_so c e r m in
+      let identity : ℤ = same.1.0 in
+      let is_left : Some (effects_on w 0 c e changes identity) ≡ element_found (outermost c k) others =
+      (λ i. if_found (effects_on (sym same.0 i) 0 c e changes) (sym same.1.2 i)) ∙ sym (element-after 0 c e changes s) ∙ element_left c e k q in
+      let is_old : stored w (Some r) old identity ≡ old = stored-partial w r identity old [] (ap (identity_of r) (sym same.0) ∙ same.1.1) fits in
+      element-after 0 c e changes t ∙ ap (if_found (effects_on w 0 c e changes)) before
+      ∙ ap Some (ap (effects_on w 0 c e changes) (sym is_old) ∙ gathered-after marking w c e r changes h m old identity)
+      ∙ ap (option_map (stored w (Some r) old)) is_left;
   appended_so = λ c values m before.
-      let is_left : Some (stream_effects 0 c changes []) ≡ stream_found 0 c others =
-      sym (stream-after 0 c changes s ∙ ap (if_found (stream_effects 0 c changes)) (p.appended_so c m)) ∙ stream-named (naming c) (contents_found 0 c (apply_all changes s)) (contents_found 0 c others) (n 0 c) in
-      stream-after 0 c changes t ∙ ap (if_found (stream_effects 0 c changes)) before
-      ∙ ap Some (
-      ap (stream_effects 0 c changes) (sym (append-nothing values))
-      ∙ appended-after marking c changes h m values []
-      )
+      let w : Width = container_width 0 c t in
+      let same = p.appended_so c m in
+      let is_left : Some (stream_effects w 0 c changes []) ≡ stream_found 0 c others =
+      (λ i. if_found (stream_effects (sym same.0 i) 0 c changes) (sym same.1 i)) ∙ sym (stream-after 0 c changes s) ∙ stream_left c in
+      stream-after 0 c changes t ∙ ap (if_found (stream_effects w 0 c changes)) before
+      ∙ ap Some (ap (stream_effects w 0 c changes) (sym (append-nothing values)) ∙ appended-after marking w c changes h m values [])
       ∙ ap (option_map (λ os. values ++ os)) is_left;
 }
+  where
+    element_left : (c e k : ℕ) → naming c e ≡ Some k → element_found (outermost c e) (apply_all changes s) ≡ element_found (outermost c k) others
+    element_left c e k q = element-named (naming c) e k q (contents_found 0 c (apply_all changes s)) (contents_found 0 c others) (n 0 c)
+
+    stream_left : (c : ℕ) → stream_found 0 c (apply_all changes s) ≡ stream_found 0 c others
+    stream_left c = stream-named (naming c) (contents_found 0 c (apply_all changes s)) (contents_found 0 c others) (n 0 c)
 
 -- ---- work
 

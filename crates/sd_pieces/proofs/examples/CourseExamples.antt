@@ -1,6 +1,7 @@
 -- What some work reads and changes.
 use Rattle.std.proofs.Common.{◌≡◌, ℕ, zero, suc, pos, List, [], ◌∷◌, Some, None, Ok, true, false, refl}
 use Rattle.sd_num.specs.declared.resolution.Resolution.TheVariants.{Sum}
+use Rattle.sd_num.specs.declared.width.Width.TheVariants.{W32, W64}
 use Rattle.sd_work.specs.Memory.{array, stream, Memories}
 use Rattle.sd_work.specs.Change.{nothing, write, take}
 use Rattle.sd_work.specs.Leaf.{write_value}
@@ -9,11 +10,12 @@ use Rattle.sd_work.specs.Residual.{Items, Term, list, owning, begun, pool, none,
 use Rattle.sd_work.specs.Step.{Done, Spent}
 use Rattle.sd_work.proofs.examples.ExampleParts.{cell, value_of, task, unordered}
 use Rattle.sd_confluence.proofs.examples.TouchExamples.{at}
-use Rattle.sd_pieces.specs.course.Reading.{reads_element, reads_stream}
+use Rattle.sd_pieces.specs.course.Reading.{reads_element, reads_stream, AgreeAt}
+use Rattle.sd_pieces.specs.course.Shape.{stack_shape}
 use Rattle.sd_pieces.specs.course.Course.{course}
 
 abbrev here : Memories
-here = (array (pos 4 ∷ pos 9 ∷ []) ∷ stream (pos 3 ∷ []) ∷ []) ∷ []
+here = (array W64 (pos 4 ∷ pos 9 ∷ []) ∷ stream W64 (pos 3 ∷ []) ∷ []) ∷ []
 
 -- element 0 is read, and element 1 added to
 abbrev adds_on : Term ℕ
@@ -43,7 +45,7 @@ nothing_is_read_behind_a_fault = refl
 
 -- what an owner has is read and changed inside; element 0 outside is read from there
 abbrev owns : Term ℕ
-owns = owning (array (pos 7 ∷ []) ∷ []) (task 1 (cell 0 0 0 ∷ cell 1 0 0 ∷ []) (λ values. write_value (value_of values 1) (cell 0 0 0) None ∷ []))
+owns = owning (array W64 (pos 7 ∷ []) ∷ []) (task 1 (cell 0 0 0 ∷ cell 1 0 0 ∷ []) (λ values. write_value (value_of values 1) (cell 0 0 0) None ∷ []))
 
 work_inside_an_owner_is_seen_from_outside : (course owns 1 here 1).readings ≡ reads_element (at 0) ∷ []
 work_inside_an_owner_is_seen_from_outside = refl
@@ -79,3 +81,14 @@ two_ways = begun (λ state values. list Items unordered none) (λ state values. 
 
 later_conditions_are_not_read : (course two_ways 2 here 0).readings ≡ reads_element (at 0) ∷ []
 later_conditions_are_not_read = refl
+
+-- ---- widths
+
+an_element_of_another_width_is_not_the_same : AgreeAt (reads_element (at 0)) ((array W32 (pos 4 ∷ []) ∷ []) ∷ []) ((array W64 (pos 4 ∷ []) ∷ []) ∷ []) → ⊥
+an_element_of_another_width_is_not_the_same agree = let clash : W32 ≡ W64 = agree.1 in cc
+
+a_stream_of_another_width_is_not_the_same : AgreeAt (reads_stream 0 0) ((stream W32 [] ∷ []) ∷ []) ((stream W64 [] ∷ []) ∷ []) → ⊥
+a_stream_of_another_width_is_not_the_same agree = let clash : W32 ≡ W64 = agree.1 in cc
+
+a_shape_has_widths : stack_shape ((array W32 (pos 4 ∷ pos 9 ∷ []) ∷ stream W64 (pos 3 ∷ []) ∷ []) ∷ []) ≡ ((W32, Some 2) ∷ (W64, None) ∷ []) ∷ []
+a_shape_has_widths = refl

@@ -1,9 +1,11 @@
--- Work on two elements of an array of four: one is read, and added to the other.
-use Rattle.std.proofs.Common.{◌≡◌, ◌⊎◌, ℕ, zero, suc, ◌+◌, ℤ, pos, [], ◌∷◌, Some, None, FitsSigned, slice_get, refl, sym, ◌∙◌, ap, subst, inl, inr, arith, rules}
-use Rattle.std.specs.Int.{int_wrap, w64}
+-- Work on two elements of an array of four, of either width: one is read, and added to the other.
+use Rattle.std.proofs.Common.{◌≡◌, ◌⊎◌, ℕ, zero, suc, ◌+◌, ◌<◌, ◌-◌, ◌^◌, ℤ, pos, negsuc, [], ◌∷◌, Some, None, slice_get, refl, sym, ◌∙◌, ap, subst, inl, inr, arith, rules}
+use Rattle.std.specs.Int.{int_wrap}
 use Rattle.sd_num.specs.declared.resolution.Resolution.{Resolution}
 use Rattle.sd_num.specs.declared.resolution.Resolution.TheVariants.{Sum}
-use Rattle.sd_num.specs.declared.width.Width.TheVariants.{W64}
+use Rattle.sd_num.specs.declared.width.Width.{Width}
+use Rattle.sd_num.specs.declared.width.Width.TheVariants.{W32, W64}
+use Rattle.sd_num.specs.Width.{IsElement}
 use Rattle.sd_num.specs.Resolution.{identity_of}
 use Rattle.sd_work.specs.Memory.{Memories, array}
 use Rattle.sd_work.specs.Leaf.{write_value}
@@ -12,9 +14,9 @@ use Rattle.sd_work.specs.BigStep.{reached, big_step}
 use Rattle.sd_work.specs.Touch.{Touch, reads, writes, Touches}
 use Rattle.sd_work.proofs.examples.ExampleParts.{cell, value_of, task}
 use Rattle.sd_confluence.proofs.examples.TouchExamples.{at, task_does}
-use Rattle.sd_pieces.specs.course.Reading.{element_found}
+use Rattle.sd_pieces.specs.course.Reading.{reads_element, container_width, HaveOneWidth, AgreeAt, element_found}
 use Rattle.sd_pieces.specs.cut.Naming.{Naming, IsOneToOne, term_named, IsTouchNamed, AreMemoriesNamed}
-use Rattle.sd_pieces.specs.cut.Merged.{Mark, untouched, kept, gathered, unused, Marking, outermost, IsMarked, IsPrepared, IsMerged, AreElementsWide, MergesTo}
+use Rattle.sd_pieces.specs.cut.Merged.{Mark, untouched, kept, gathered, unused, Marking, outermost, IsMarked, IsPrepared, IsMerged, AreElementsOfWidth, MergesTo}
 use Rattle.sd_pieces.proofs.cut_lemmas.OnCut.{on-cut}
 use Rattle.sd_pieces.proofs.cut_lemmas.OneMerged.{one-merged}
 use Rattle.sd_pieces.proofs.history_lemmas.Doing.{memories_in}
@@ -44,30 +46,37 @@ marks (suc container) element = untouched
 abbrev marking : Marking
 marking = record { element = marks; stream = λ container. unused }
 
-abbrev opening : Memories
-opening = (array (pos 1 ∷ pos 1 ∷ pos 10 ∷ pos 4 ∷ []) ∷ []) ∷ []
+-- element 2 is the greatest one of 32 bits
+abbrev opening : Width → Memories
+opening width = (array width (pos 1 ∷ pos 1 ∷ pos (2 ^ 31 - 1) ∷ pos 4 ∷ []) ∷ []) ∷ []
 
 -- the same, with the element that is added to at the identity
-abbrev prepared : Memories
-prepared = (array (pos 1 ∷ pos 1 ∷ pos 0 ∷ pos 4 ∷ []) ∷ []) ∷ []
+abbrev prepared : Width → Memories
+prepared width = (array width (pos 1 ∷ pos 1 ∷ pos 0 ∷ pos 4 ∷ []) ∷ []) ∷ []
 
-abbrev cut : Memories
-cut = (array (pos 0 ∷ pos 4 ∷ []) ∷ []) ∷ []
+abbrev cut : Width → Memories
+cut width = (array width (pos 0 ∷ pos 4 ∷ []) ∷ []) ∷ []
 
--- what it leaves on the cut, and what that comes to in the array of four
-abbrev left_there : Memories
-left_there = (array (pos 4 ∷ pos 4 ∷ []) ∷ []) ∷ []
+-- what it leaves on the cut, and what that comes to in the array of four: at 32 bits the sum is wrapped
+abbrev left_there : Width → Memories
+left_there width = (array width (pos 4 ∷ pos 4 ∷ []) ∷ []) ∷ []
 
-abbrev merged_there : Memories
-merged_there = (array (pos 1 ∷ pos 1 ∷ pos 14 ∷ pos 4 ∷ []) ∷ []) ∷ []
+abbrev sum_of : Width → ℤ
+sum_of W32 = negsuc (2 ^ 31 - 4)
+sum_of W64 = pos (2 ^ 31 + 3)
 
-on_the_cut_it_adds_to_the_identity : big_step (term_named numbers 0 adds_on) 1 cut 1 ≡ reached left_there 0
+abbrev merged_there : Width → Memories
+merged_there width = (array width (pos 1 ∷ pos 1 ∷ sum_of width ∷ pos 4 ∷ []) ∷ []) ∷ []
+
+on_the_cut_it_adds_to_the_identity : (width : Width) → big_step (term_named numbers 0 adds_on) 1 (cut width) 1 ≡ reached (left_there width) 0
 unfolding int_wrap
-on_the_cut_it_adds_to_the_identity = refl
+on_the_cut_it_adds_to_the_identity W32 = refl
+on_the_cut_it_adds_to_the_identity W64 = refl
 
-what_is_left_is_merged : big_step adds_on 1 opening 1 ≡ reached merged_there 0
+what_is_left_is_merged : (width : Width) → big_step adds_on 1 (opening width) 1 ≡ reached (merged_there width) 0
 unfolding int_wrap
-what_is_left_is_merged = refl
+what_is_left_is_merged W32 = refl
+what_is_left_is_merged W64 = refl
 
 -- ---- all that the law asks for
 
@@ -101,28 +110,33 @@ touches_are_marked touch h = on (touches touch h)
     on (inl e) = subst (IsMarked marking) (sym e) (refl, refl)
     on (inr e) = subst (IsMarked marking) (sym e) (refl, inr (Sum, refl, refl))
 
-it_is_prepared : IsPrepared marking prepared opening
-it_is_prepared = record { kept_so = kept_ones; drained_so = λ container e. cc; gathered_so = gathered_ones; appended_so = λ container e. cc }
+it_is_prepared : (width : Width) → IsPrepared marking (prepared width) (opening width)
+it_is_prepared width = record { kept_so = kept_ones; drained_so = λ container e. cc; gathered_so = gathered_ones; appended_so = λ container e. cc }
   where
-    kept_ones : (container element : ℕ) → marks container element ≡ kept → element_found (outermost container element) prepared ≡ element_found (outermost container element) opening
-    kept_ones zero zero e = refl
-    kept_ones zero (suc zero) e = refl
+    one_width : (container : ℕ) → HaveOneWidth 0 container (prepared width) (opening width)
+    one_width zero = refl
+    one_width (suc container) = refl
+
+    kept_ones : (container element : ℕ) → marks container element ≡ kept → AgreeAt (reads_element (outermost container element)) (prepared width) (opening width)
+    kept_ones zero zero e = (refl, refl)
+    kept_ones zero (suc zero) e = (refl, refl)
     kept_ones zero (suc (suc zero)) e = cc
-    kept_ones zero (suc (suc (suc zero))) e = refl
-    kept_ones zero (suc (suc (suc (suc element)))) e = refl
-    kept_ones (suc container) element e = refl
+    kept_ones zero (suc (suc (suc zero))) e = (refl, refl)
+    kept_ones zero (suc (suc (suc (suc element)))) e = (refl, refl)
+    kept_ones (suc container) element e = (refl, refl)
 
     gathered_ones : (container element : ℕ) (by : Resolution) → marks container element ≡ gathered by →
-        (identity : ℤ) × (identity_of by W64 ≡ Some identity) × (element_found (outermost container element) prepared ≡ Some identity)
+        HaveOneWidth 0 container (prepared width) (opening width)
+        × ((identity : ℤ) × (identity_of by (container_width 0 container (prepared width)) ≡ Some identity) × (element_found (outermost container element) (prepared width) ≡ Some identity))
     gathered_ones zero zero by e = cc
     gathered_ones zero (suc zero) by e = cc
-    gathered_ones zero (suc (suc zero)) by e = let same : Sum ≡ by = cc in (pos 0, subst (λ r. identity_of r W64 ≡ Some (pos 0)) same refl, refl)
+    gathered_ones zero (suc (suc zero)) by e = let same : Sum ≡ by = cc in (refl, (pos 0, subst (λ r. identity_of r width ≡ Some (pos 0)) same refl, refl))
     gathered_ones zero (suc (suc (suc zero))) by e = cc
     gathered_ones zero (suc (suc (suc (suc element)))) by e = cc
     gathered_ones (suc container) element by e = cc
 
-the_cut_has_them : AreMemoriesNamed numbers 0 prepared cut
-the_cut_has_them zero zero = elements
+the_cut_has_them : (width : Width) → AreMemoriesNamed numbers 0 (prepared width) (cut width)
+the_cut_has_them width zero zero = (refl, elements)
   where
     elements : (element number : ℕ) → numbers zero element ≡ Some number → slice_get (pos 1 ∷ pos 1 ∷ pos 0 ∷ pos 4 ∷ []) element ≡ slice_get (pos 0 ∷ pos 4 ∷ []) number
     elements zero number e = cc
@@ -130,25 +144,36 @@ the_cut_has_them zero zero = elements
     elements (suc (suc zero)) number e = let is : 0 ≡ number = cc in subst (λ n. Some (pos 0) ≡ slice_get (pos 0 ∷ pos 4 ∷ []) n) is refl
     elements (suc (suc (suc zero))) number e = let is : 1 ≡ number = cc in subst (λ n. Some (pos 4) ≡ slice_get (pos 0 ∷ pos 4 ∷ []) n) is refl
     elements (suc (suc (suc (suc element)))) number e = cc
-the_cut_has_them zero (suc container) = tt
-the_cut_has_them (suc level) container = tt
+the_cut_has_them width zero (suc container) = tt
+the_cut_has_them width (suc level) container = tt
 
-it_merges : MergesTo numbers marking opening (big_step (term_named numbers 0 adds_on) 1 cut 1) (big_step adds_on 1 opening 1)
-it_merges = on-cut numbers marking adds_on 1 prepared cut opening 1 numbers_are_one_to_one touches_have_numbers touches_are_marked it_is_prepared the_cut_has_them
+it_merges : (width : Width) → MergesTo numbers marking (opening width) (big_step (term_named numbers 0 adds_on) 1 (cut width) 1) (big_step adds_on 1 (opening width) 1)
+it_merges width =
+    on-cut numbers marking adds_on 1 (prepared width) (cut width) (opening width) 1 numbers_are_one_to_one touches_have_numbers touches_are_marked (it_is_prepared width) (the_cut_has_them width)
+
+-- a cut has to have the width of the memory
+a_cut_of_another_width_does_not_have_them : AreMemoriesNamed numbers 0 (prepared W64) (cut W32) → ⊥
+a_cut_of_another_width_does_not_have_them named = let clash : W64 ≡ W32 = (named 0 0).0 in cc
+
+a_memory_of_another_width_is_not_prepared : IsPrepared marking (prepared W64) (opening W32) → ⊥
+a_memory_of_another_width_is_not_prepared is = let clash : W64 ≡ W32 = (is.gathered_so 0 2 Sum refl).0 in cc
 
 -- and nothing else is what is merged there
 
-elements_are_wide : AreElementsWide opening
-elements_are_wide zero zero value e = let is : pos 1 ≡ value = cc in subst (FitsSigned w64) is search rules
-elements_are_wide zero (suc zero) value e = let is : pos 1 ≡ value = cc in subst (FitsSigned w64) is search rules
-elements_are_wide zero (suc (suc zero)) value e = let is : pos 10 ≡ value = cc in subst (FitsSigned w64) is search rules
-elements_are_wide zero (suc (suc (suc zero))) value e = let is : pos 4 ≡ value = cc in subst (FitsSigned w64) is search rules
-elements_are_wide zero (suc (suc (suc (suc element)))) value e = cc
-elements_are_wide (suc container) element value e = cc
+is_element : (width : Width) (n : ℕ) → n < 2 ^ 31 → IsElement width (pos n)
+is_element W32 n below = search rules
+is_element W64 n below = search rules
 
-it_merges_to_one_stack : (after : Memories) → IsMerged numbers marking left_there opening after → after ≡ merged_there
-unfolding int_wrap
-it_merges_to_one_stack after merged =
-    let coming = it_merges in
-    let is_merged = subst (IsMerged numbers marking left_there opening) (ap (memories_in opening) (sym coming.1 ∙ what_is_left_is_merged)) coming.2 in
-    one-merged numbers marking left_there opening after merged_there elements_are_wide merged is_merged
+elements_are_of_their_width : (width : Width) → AreElementsOfWidth (opening width)
+elements_are_of_their_width width zero zero value e = let is : pos 1 ≡ value = cc in subst (IsElement width) is (is_element width 1 (omega arith))
+elements_are_of_their_width width zero (suc zero) value e = let is : pos 1 ≡ value = cc in subst (IsElement width) is (is_element width 1 (omega arith))
+elements_are_of_their_width width zero (suc (suc zero)) value e = let is : pos (2 ^ 31 - 1) ≡ value = cc in subst (IsElement width) is (is_element width (2 ^ 31 - 1) (omega arith))
+elements_are_of_their_width width zero (suc (suc (suc zero))) value e = let is : pos 4 ≡ value = cc in subst (IsElement width) is (is_element width 4 (omega arith))
+elements_are_of_their_width width zero (suc (suc (suc (suc element)))) value e = cc
+elements_are_of_their_width width (suc container) element value e = cc
+
+it_merges_to_one_stack : (width : Width) (after : Memories) → IsMerged numbers marking (left_there width) (opening width) after → after ≡ merged_there width
+it_merges_to_one_stack width after merged =
+    let coming = subst (λ c. MergesTo numbers marking (opening width) c (big_step adds_on 1 (opening width) 1)) (on_the_cut_it_adds_to_the_identity width) (it_merges width) in
+    let is_merged = subst (IsMerged numbers marking (left_there width) (opening width)) (ap (memories_in (opening width)) (sym coming.1 ∙ what_is_left_is_merged width)) coming.2 in
+    one-merged numbers marking (left_there width) (opening width) after (merged_there width) (elements_are_of_their_width width) merged is_merged

@@ -1,6 +1,7 @@
 -- A map of two points and an item behind it, in three pieces, of which the second is done first.
 use Rattle.std.proofs.Common.{◌≡◌, ℕ, zero, suc, ◌<◌, ℤ, pos, List, [], ◌∷◌, Some, None, slice_get, true, false, refl, sym, subst, inl, inr, arith}
 use Rattle.std.specs.Int.{int_wrap}
+use Rattle.sd_num.specs.declared.width.Width.TheVariants.{W64}
 use Rattle.sd_work.specs.Memory.{Memory, array}
 use Rattle.sd_work.specs.Residual.{Items, Points, Term, list, Terms, none, also, part_at, IsOrder}
 use Rattle.sd_work.specs.Step.{Done}
@@ -39,10 +40,10 @@ a_map_is_cut_at_its_points : IsCut 0 items work.pieces
 a_map_is_cut_at_its_points = in_pieces unordered (also first_point none ∷ also second_point none ∷ []) (λ from to. refl) (as_it_is behind no_items)
 
 abbrev zeros : Memory
-zeros = array (pos 0 ∷ pos 0 ∷ pos 0 ∷ []) ∷ []
+zeros = array W64 (pos 0 ∷ pos 0 ∷ pos 0 ∷ []) ∷ []
 
 abbrev left_there : Memory
-left_there = array (pos 5 ∷ pos 6 ∷ pos 7 ∷ []) ∷ []
+left_there = array W64 (pos 5 ∷ pos 6 ∷ pos 7 ∷ []) ∷ []
 
 -- ---- what may follow
 
@@ -83,8 +84,8 @@ the_later_point_first : History work 1 (zeros ∷ []) (1 ∷ 0 ∷ 2 ∷ []) (le
 unfolding int_wrap
 the_later_point_first =
     and_piece 2 (record { item = 1; term = behind }) 1 (left_there ∷ [])
-    (and_piece 0 (record { item = 0; term = points (also first_point none) }) 1 ((array (pos 5 ∷ pos 6 ∷ pos 0 ∷ []) ∷ []) ∷ [])
-    (and_piece 1 (record { item = 0; term = points (also second_point none) }) 1 ((array (pos 0 ∷ pos 6 ∷ pos 0 ∷ []) ∷ []) ∷ []) nothing_done second_may_begin refl)
+    (and_piece 0 (record { item = 0; term = points (also first_point none) }) 1 ((array W64 (pos 5 ∷ pos 6 ∷ pos 0 ∷ []) ∷ []) ∷ [])
+    (and_piece 1 (record { item = 0; term = points (also second_point none) }) 1 ((array W64 (pos 0 ∷ pos 6 ∷ pos 0 ∷ []) ∷ []) ∷ []) nothing_done second_may_begin refl)
     first_may_follow refl)
     behind_may_follow refl
 

@@ -1,6 +1,7 @@
 -- What is read of the memories, and when two of them agree on it.
 use Rattle.std.specs.Prelude.{◌≡◌, ℕ, zero, suc, ℤ, List, [], ◌∷◌, Option, Some, None, option_and_then, slice_get, ⊤}
-use Rattle.sd_work.specs.Memory.{Contents, array, stream, Memories, Reference, elements_of}
+use Rattle.sd_num.specs.declared.width.Width.{Width}
+use Rattle.sd_work.specs.Memory.{Contents, array, stream, Memories, Reference, elements_of, width_of, contents_of}
 use Rattle.sd_work.specs.Change.{Change, apply}
 
 -- an element that is read, or a stream that is asked for its oldest value
@@ -14,8 +15,8 @@ contents_found level container memories = option_and_then (λ memory. slice_get 
 
 -- the values of a stream; an array is none
 abbrev pub values_if : Contents → Option (List ℤ)
-values_if (array elements) = None
-values_if (stream values) = Some values
+values_if (array width elements) = None
+values_if (stream width values) = Some values
 
 -- the value of an element, where there is one
 abbrev pub element_found : Reference → Memories → Option ℤ
@@ -25,10 +26,18 @@ element_found from memories = option_and_then (λ contents. slice_get (elements_
 abbrev pub stream_found : (level container : ℕ) → Memories → Option (List ℤ)
 stream_found level container memories = option_and_then values_if (contents_found level container memories)
 
--- two stacks of memories have the same there
+-- the width of a container; 64 bits where there is none
+abbrev pub container_width : (level container : ℕ) → Memories → Width
+container_width level container memories = width_of (contents_of level container memories)
+
+-- a container has one width in two stacks of memories
+abbrev pub HaveOneWidth : (level container : ℕ) → (memories others : Memories) → Type 0
+HaveOneWidth level container memories others = container_width level container memories ≡ container_width level container others
+
+-- two stacks of memories have the same there, in containers of one width
 abbrev pub AgreeAt : Reading → (memories others : Memories) → Type 0
-AgreeAt (reads_element from) memories others = element_found from memories ≡ element_found from others
-AgreeAt (reads_stream level container) memories others = stream_found level container memories ≡ stream_found level container others
+AgreeAt (reads_element from) memories others = (element_found from memories ≡ element_found from others) × HaveOneWidth from.level from.container memories others
+AgreeAt (reads_stream level container) memories others = (stream_found level container memories ≡ stream_found level container others) × HaveOneWidth level container memories others
 
 -- and at all of these
 abbrev pub AgreeOn : List Reading → (memories others : Memories) → Type 0

@@ -1,14 +1,13 @@
 -- What work on a cut of a memory comes to, merged into another memory.
-use Rattle.std.specs.Prelude.{◌≡◌, ◌⊎◌, ℕ, ℤ, List, [], ◌++◌, drop, Some, None, option_map, FitsSigned}
-use Rattle.std.specs.Int.{w64}
-use Rattle.sd_num.specs.Resolution.{resolved, identity_of}
-use Rattle.sd_num.specs.declared.width.Width.TheVariants.{W64}
+use Rattle.std.specs.Prelude.{◌≡◌, ◌⊎◌, ℕ, ℤ, List, [], ◌++◌, drop, Some, None, option_map}
+use Rattle.sd_num.specs.Width.{IsElement}
+use Rattle.sd_num.specs.Resolution.{stored, identity_of}
 use Rattle.sd_num.specs.declared.resolution.Resolution.{Resolution}
 use Rattle.sd_work.specs.Memory.{Memories, Reference}
 use Rattle.sd_work.specs.Step.{Done, Faulted, Spent}
 use Rattle.sd_work.specs.BigStep.{Coming, reached}
 use Rattle.sd_work.specs.Touch.{Touch, reads, writes, pushes, takes}
-use Rattle.sd_pieces.specs.course.Reading.{element_found, stream_found}
+use Rattle.sd_pieces.specs.course.Reading.{reads_element, reads_stream, element_found, stream_found, container_width, HaveOneWidth, AgreeAt}
 use Rattle.sd_pieces.specs.course.Shape.{stack_shape}
 use Rattle.sd_pieces.specs.cut.Naming.{Naming}
 
@@ -41,16 +40,18 @@ IsMarked marking (writes to by) =
 IsMarked marking (pushes level container) = (level ≡ 0) × ((marking.stream container ≡ drained) ⊎ (marking.stream container ≡ appended))
 IsMarked marking (takes level container) = (level ≡ 0) × (marking.stream container ≡ drained)
 
--- a memory in which gathered elements begin at the identity of their resolution, and streams that are appended to are empty; by these the others are as in another memory
+-- A memory that is prepared for another one: what is touched has the width that it has there, and what is kept or drained is as it is there.
+-- Gathered elements begin at the identity of their resolution, and streams that are appended to are empty
 pub record IsPrepared (marking : Marking) (memories others : Memories) : Type 0 where
-  pub kept_so : (container element : ℕ) → marking.element container element ≡ kept → element_found (outermost container element) memories ≡ element_found (outermost container element) others
-  pub drained_so : (container : ℕ) → marking.stream container ≡ drained → stream_found 0 container memories ≡ stream_found 0 container others
+  pub kept_so : (container element : ℕ) → marking.element container element ≡ kept → AgreeAt (reads_element (outermost container element)) memories others
+  pub drained_so : (container : ℕ) → marking.stream container ≡ drained → AgreeAt (reads_stream 0 container) memories others
   pub gathered_so : (container element : ℕ) (by : Resolution) → marking.element container element ≡ gathered by
-      → (identity : ℤ) × (identity_of by W64 ≡ Some identity) × (element_found (outermost container element) memories ≡ Some identity)
-  pub appended_so : (container : ℕ) → marking.stream container ≡ appended → stream_found 0 container memories ≡ Some []
+      → HaveOneWidth 0 container memories others
+      × ((identity : ℤ) × (identity_of by (container_width 0 container memories) ≡ Some identity) × (element_found (outermost container element) memories ≡ Some identity))
+  pub appended_so : (container : ℕ) → marking.stream container ≡ appended → HaveOneWidth 0 container memories others × (stream_found 0 container memories ≡ Some [])
 
 -- what was there, with what the work on the cut left there. The stack keeps its shape, and each memory deeper in it stays. In the outermost memory all that is untouched, unused or without a number stays.
--- What is kept or drained is as it was left. What was left is resolved with what is gathered, and follows on what is appended
+-- What is kept or drained is as it was left. What was left is stored in what is gathered, by its resolution, and follows on what is appended
 pub record IsMerged (naming : Naming) (marking : Marking) (left before after : Memories) : Type 0 where
   pub shape_so : stack_shape after ≡ stack_shape before
   pub deeper_so : drop 1 after ≡ drop 1 before
@@ -61,14 +62,14 @@ pub record IsMerged (naming : Naming) (marking : Marking) (left before after : M
       → element_found (outermost container element) after ≡ element_found (outermost container number) left
   pub drained_so : (container : ℕ) → marking.stream container ≡ drained → stream_found 0 container after ≡ stream_found 0 container left
   pub gathered_so : (container element number : ℕ) (by : Resolution) (old : ℤ) → marking.element container element ≡ gathered by → naming container element ≡ Some number
-      → FitsSigned w64 old → element_found (outermost container element) before ≡ Some old
-      → element_found (outermost container element) after ≡ option_map (resolved by old) (element_found (outermost container number) left)
+      → IsElement (container_width 0 container before) old → element_found (outermost container element) before ≡ Some old
+      → element_found (outermost container element) after ≡ option_map (stored (container_width 0 container before) (Some by) old) (element_found (outermost container number) left)
   pub appended_so : (container : ℕ) (values : List ℤ) → marking.stream container ≡ appended → stream_found 0 container before ≡ Some values
       → stream_found 0 container after ≡ option_map (λ others. values ++ others) (stream_found 0 container left)
 
--- each element of the outermost memory is one of 64 bits
-abbrev pub AreElementsWide : Memories → Type 0
-AreElementsWide memories = (container element : ℕ) (value : ℤ) → element_found (outermost container element) memories ≡ Some value → FitsSigned w64 value
+-- each element of the outermost memory is one of its container's width
+abbrev pub AreElementsOfWidth : Memories → Type 0
+AreElementsOfWidth memories = (container element : ℕ) (value : ℤ) → element_found (outermost container element) memories ≡ Some value → IsElement (container_width 0 container memories) value
 
 -- how work ends from a memory, by how it ends on the cut: with the same turns and the merged memory, the same fault or want of turns
 abbrev pub MergesTo : {P : Type 0} → Naming → Marking → (before : Memories) → (on_cut : Coming P) → Coming P → Type 0

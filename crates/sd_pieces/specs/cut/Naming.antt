@@ -93,12 +93,12 @@ IsTouchNamed naming depth (takes level container) = ⊤
 
 -- ---- memories
 
--- what a container holds, and the same by the other numbers: arrays have the same at each element that has one, streams are the same
+-- what a container holds, and the same by the other numbers: both are of one width, arrays have the same at each element that has one, streams are the same
 abbrev pub AreContentsNamed : (ℕ → Option ℕ) → Contents → Contents → Type 0
-AreContentsNamed names (array elements) (array others) = (element number : ℕ) → names element ≡ Some number → slice_get elements element ≡ slice_get others number
-AreContentsNamed names (array elements) (stream others) = ⊥
-AreContentsNamed names (stream values) (array others) = ⊥
-AreContentsNamed names (stream values) (stream others) = values ≡ others
+AreContentsNamed names (array width elements) (array other others) = (width ≡ other) × ((element number : ℕ) → names element ≡ Some number → slice_get elements element ≡ slice_get others number)
+AreContentsNamed names (array width elements) (stream other others) = ⊥
+AreContentsNamed names (stream width values) (array other others) = ⊥
+AreContentsNamed names (stream width values) (stream other others) = (width ≡ other) × (values ≡ others)
 
 -- where there are such containers
 abbrev pub AreFoundNamed : (ℕ → Option ℕ) → Option Contents → Option Contents → Type 0

@@ -10,7 +10,7 @@ ghost use Rattle.sd_pieces.specs.course.Shape.{stack_shape};
 ghost use Rattle.sd_pieces.specs.course.Course.{course, told, spare, with_left, HasTurns};
 
 /// What work comes to from left to right is told by its course: the memories after its changes, made in order, and
-/// its end. From memories that agree on what it reads its course is the same: the same readings, changes and end.
+/// its end. From memories that agree on what it reads, and on its width, its course is the same: the same readings, changes and end.
 /// With more turns it is the same too, and leaves more, where the turns were enough; and it wants just so many, whatever is left.
 pub fn work_that_reads_the_same_is_the_same<P>()
     ensures course { (term : Term P) (most : ℕ) (memories : Memories) (turns : ℕ)
@@ -38,8 +38,8 @@ pub fn a_course_is_of_what_its_work_touches<P>()
         → IsCourseBy (Touches term) (course term most memories turns) }
 {}
 
-/// Work keeps the shape of its stack of memories: there are as many, each with as many containers, of which the same ones are streams,
-/// and the others are arrays with as many elements.
+/// Work keeps the shape of its stack of memories: there are as many, each with as many containers of the same widths, of which the same
+/// ones are streams, and the others are arrays with as many elements.
 pub fn work_keeps_the_shape_of_its_memories<P>()
     ensures { (term : Term P) (most : ℕ) (memories : Memories) (turns : ℕ) (after : Memories) (left : ℕ)
         → big_step term most memories turns ≡ reached after left → stack_shape after ≡ stack_shape memories }

@@ -3,7 +3,7 @@ ghost use Rattle.sd_work.specs.Memory.{Memories};
 ghost use Rattle.sd_work.specs.Residual.{Term};
 ghost use Rattle.sd_work.specs.Touch.{Touch, Touches};
 ghost use Rattle.sd_work.specs.BigStep.{big_step};
-ghost use Rattle.sd_pieces.specs.cut.Merged.{Marking, IsMarked, IsPrepared, IsMerged, AreElementsWide, MergesTo};
+ghost use Rattle.sd_pieces.specs.cut.Merged.{Marking, IsMarked, IsPrepared, IsMerged, AreElementsOfWidth, MergesTo};
 ghost use Rattle.sd_pieces.specs.cut.Naming.{Naming, IsOneToOne, term_named, IsTouchNamed, AreMemoriesNamed, ComesToNamed};
 
 /// Work that names elements by other numbers comes to the same over memories that have the same elements by these numbers, where
@@ -26,9 +26,9 @@ pub fn work_on_a_cut_is_the_work<P>()
         → MergesTo naming marking others (big_step (term_named naming 0 term) most cut turns) (big_step term most others turns) }
 {}
 
-/// What the work left on a cut, merged into a stack of memories, is one stack: where elements of the outermost memory are ones of 64 bits, the
-/// naming, the marking, what was left and what was there before leave nothing of it open.
+/// What the work left on a cut, merged into a stack of memories, is one stack: where elements of the outermost memory are ones of their
+/// containers' widths, the naming, the marking, what was left and what was there before leave nothing of it open.
 pub fn what_is_merged_is_one_stack()
     ensures { (naming : Naming) (marking : Marking) (left before after others : Memories)
-        → AreElementsWide before → IsMerged naming marking left before after → IsMerged naming marking left before others → after ≡ others }
+        → AreElementsOfWidth before → IsMerged naming marking left before after → IsMerged naming marking left before others → after ≡ others }
 {}

@@ -13,7 +13,7 @@ ghost use Rattle.sd_confluence.specs.Alike.{AreAlike};
 ghost use Rattle.sd_pieces.specs.course.Reading.{AgreeOn, apply_all};
 ghost use Rattle.sd_pieces.specs.course.Shape.{stack_shape};
 ghost use Rattle.sd_pieces.specs.course.Course.{course};
-ghost use Rattle.sd_pieces.specs.cut.Merged.{Marking, IsMarked, IsPrepared, IsMerged, AreElementsWide};
+ghost use Rattle.sd_pieces.specs.cut.Merged.{Marking, IsMarked, IsPrepared, IsMerged, AreElementsOfWidth};
 ghost use Rattle.sd_pieces.specs.cut.Naming.{Naming, IsOneToOne, term_named, IsTouchNamed, AreMemoriesNamed};
 ghost use Rattle.sd_pieces.specs.history.Pieces.{Piece, Work, and_parts, IsCut, graph_of_items, graph_of_pieces};
 ghost use Rattle.sd_pieces.specs.history.History.{MayFollow, History, HasAll};
@@ -28,14 +28,14 @@ pub fn a_history_has_one_end<P>()
 {}
 
 /// A history keeps the shape of the stack of memories that it opens with, and so has as many memories. Where the elements of the
-/// outermost one are ones of 64 bits, they stay so.
+/// outermost one are ones of their containers' widths, they stay so.
 pub fn a_history_keeps_its_memories<P>()
     ensures shape { (work : Work P) (most : ℕ) (opening : Memories) (history : List ℕ) (memories : Memories) (turns : ℕ)
         → History work most opening history memories turns → stack_shape memories ≡ stack_shape opening }
     ensures count { (work : Work P) (most : ℕ) (opening : Memories) (history : List ℕ) (memories : Memories) (turns : ℕ)
         → History work most opening history memories turns → length memories ≡ length opening }
-    ensures wide { (work : Work P) (most : ℕ) (opening : Memories) (history : List ℕ) (memories : Memories) (turns : ℕ)
-        → History work most opening history memories turns → AreElementsWide opening → AreElementsWide memories }
+    ensures elements { (work : Work P) (most : ℕ) (opening : Memories) (history : List ℕ) (memories : Memories) (turns : ℕ)
+        → History work most opening history memories turns → AreElementsOfWidth opening → AreElementsOfWidth memories }
 {}
 
 /// A piece that was done from an earlier memory, and that may follow on a history, makes it longer where the memory of

@@ -12,8 +12,8 @@ use Rattle.sd_report.specs.same_end.Told.{TellsEnd, IsTold, EndAlike}
 -- ---- what ends as it ends ends the same
 
 contents_alike : (contents : Contents) → AreContentsAlike contents contents
-contents_alike (array elements) = refl
-contents_alike (stream values) = λ value. refl
+contents_alike (array width elements) = (refl, refl)
+contents_alike (stream width values) = (refl, λ value. refl)
 
 memory_alike : (memory : Memory) → AreAlike memory memory
 memory_alike [] = tt

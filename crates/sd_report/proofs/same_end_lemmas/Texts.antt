@@ -1,6 +1,7 @@
 -- Memories that are alike have the same text.
 use Rattle.std.proofs.Common.{◌≡◌, ℕ, zero, suc, List, [], ◌∷◌, refl, slice_index_or}
 use Rattle.std.specs.List.{flat_map, range_with_len}
+use Rattle.sd_num.specs.declared.width.Width.TheVariants.{W64}
 use Rattle.sd_work.specs.Memory.{Contents, array, stream, Memory, elements_of}
 use Rattle.sd_confluence.specs.Alike.{AreContentsAlike, AreAlike}
 use Rattle.sd_graph.specs.PlainTree.{GraphTree}
@@ -9,13 +10,13 @@ use Rattle.sd_mem.specs.mem.Shaped.{Shaped}
 use Rattle.sd_json.specs.AnswerText.{container_line, text_of_arrays}
 
 contents_same : (contents others : Contents) → AreContentsAlike contents others → elements_of contents ≡ elements_of others
-contents_same (array elements) (array others) alike = alike
-contents_same (stream values) (stream others) alike = refl
-contents_same (array elements) (stream others) alike = absurd alike
-contents_same (stream values) (array others) alike = absurd alike
+contents_same (array width elements) (array other others) alike = alike.1
+contents_same (stream width values) (stream other others) alike = refl
+contents_same (array width elements) (stream other others) alike = absurd alike
+contents_same (stream width values) (array other others) alike = absurd alike
 
 elements_same : (memory other : Memory) (container : ℕ) → AreAlike memory other →
-    elements_of (slice_index_or memory container (stream [])) ≡ elements_of (slice_index_or other container (stream []))
+    elements_of (slice_index_or memory container (stream W64 [])) ≡ elements_of (slice_index_or other container (stream W64 []))
 elements_same [] [] container alike = refl
 elements_same [] (contents ∷ other) container alike = absurd alike
 elements_same (contents ∷ memory) [] container alike = absurd alike

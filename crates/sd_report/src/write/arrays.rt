@@ -2,7 +2,9 @@
 ghost use Rattle.std.specs.Prelude.{◌≡◌, ◌≤◌, ◌++◌, IfOk, OnOk, OnErr, IsErrOf};
 ghost use Rattle.sd_io.specs.Count.{HasRisen};
 ghost use Rattle.sd_io.specs.Sink.{Appends, AppendsPrefix};
+ghost use Rattle.sd_work.specs.Memory.{elements_of};
 ghost use Rattle.sd_graph.specs.TreeFold.{graph_tree};
+ghost use Rattle.sd_mem.specs.mem.Cells.{array_lent};
 ghost use Rattle.sd_json.specs.AnswerText as lines;
 ghost use Rattle.sd_report.specs.write.Pieces.{AppendsAllBut};
 ghost use Rattle.sd_report.specs.write.RunText.{done_text};
@@ -11,21 +13,22 @@ use crate::write::output;
 use sd_graph::Bound;
 use sd_io::{Sink, SinkError};
 use sd_json::{elements_text, line_head};
-use sd_mem::Memory;
+use sd_mem::{Elements, Memory};
+use sd_num::Cell;
 use std::alloc::Global;
 
 /// How many elements are made into text at a time.
 const PART: usize = 64;
 
-/// Adds elements to a line, each after a space, and writes the pieces of it that are whole.
-fn write_part<K: Sink>(
+/// Adds the elements of cells to a line, each after a space, and writes the pieces of it that are whole.
+fn write_part<K: Sink, T: Cell>(
     alloc: Global,
     out: &mut K,
     line: Vec<u8>,
-    part: &[i64],
+    part: &[T],
 ) -> Result<Vec<u8>, SinkError>
-    ensures ok { IfOk result (λ rest. AppendsAllBut (K.taken out.old) (K.taken out.new) (line.items ++ lines.elements_text part.now) rest.items) }
-    ensures err { OnErr result (AppendsPrefix (K.taken out.old) (K.taken out.new) (line.items ++ lines.elements_text part.now)) }
+    ensures ok { IfOk result (λ rest. AppendsAllBut (K.taken out.old) (K.taken out.new) (line.items ++ lines.cells_text T.element part.now) rest.items) }
+    ensures err { OnErr result (AppendsPrefix (K.taken out.old) (K.taken out.new) (line.items ++ lines.cells_text T.element part.now)) }
     ensures failed { IsErrOf result SinkError.Failed → HasRisen (K.faults out.old) (K.faults out.new) }
     ensures faults_never_fall { K.faults out.old ≤ K.faults out.new }
 {
@@ -39,26 +42,44 @@ fn write_part<K: Sink>(
     output::write_pieces(out, line)
 }
 
-/// The same of many elements, of which only a part is text at a time.
-fn write_elements<K: Sink>(
+/// The same of many cells, of which only a part is text at a time.
+fn write_cells<K: Sink, T: Cell>(
     alloc: Global,
     out: &mut K,
     line: Vec<u8>,
-    elements: &[i64],
+    cells: &[T],
 ) -> Result<Vec<u8>, SinkError>
-    ensures ok { IfOk result (λ rest. AppendsAllBut (K.taken out.old) (K.taken out.new) (line.items ++ lines.elements_text elements.now) rest.items) }
-    ensures err { OnErr result (AppendsPrefix (K.taken out.old) (K.taken out.new) (line.items ++ lines.elements_text elements.now)) }
+    ensures ok { IfOk result (λ rest. AppendsAllBut (K.taken out.old) (K.taken out.new) (line.items ++ lines.cells_text T.element cells.now) rest.items) }
+    ensures err { OnErr result (AppendsPrefix (K.taken out.old) (K.taken out.new) (line.items ++ lines.cells_text T.element cells.now)) }
     ensures failed { IsErrOf result SinkError.Failed → HasRisen (K.faults out.old) (K.faults out.new) }
     ensures faults_never_fall { K.faults out.old ≤ K.faults out.new }
 {
     let mut line = line;
-    let mut rest = elements;
+    let mut rest = cells;
     while !rest.is_empty() {
         let (part, others) = rest.split_at(rest.len().min(PART));
         line = write_part(alloc, out, line, part)?;
         rest = others;
     }
     Ok(line)
+}
+
+/// The same of elements of either width.
+fn write_elements<K: Sink>(
+    alloc: Global,
+    out: &mut K,
+    line: Vec<u8>,
+    elements: Elements,
+) -> Result<Vec<u8>, SinkError>
+    ensures ok { IfOk result (λ rest. AppendsAllBut (K.taken out.old) (K.taken out.new) (line.items ++ lines.elements_text (elements_of (array_lent elements.entry))) rest.items) }
+    ensures err { OnErr result (AppendsPrefix (K.taken out.old) (K.taken out.new) (line.items ++ lines.elements_text (elements_of (array_lent elements.entry)))) }
+    ensures failed { IsErrOf result SinkError.Failed → HasRisen (K.faults out.old) (K.faults out.new) }
+    ensures faults_never_fall { K.faults out.old ≤ K.faults out.new }
+{
+    match elements {
+        Elements::W32(cells) => write_cells(alloc, out, line, cells),
+        Elements::W64(cells) => write_cells(alloc, out, line, cells),
+    }
 }
 
 /// Writes the line of an argument. Little of it is kept at a time, however many elements it has.

@@ -1,11 +1,10 @@
 -- Effects that go to no container of the innermost memory leave it as it is.
-use Rattle.std.proofs.Common.{◌≡◌, ℕ, zero, suc, ◌-◌, ◌<◌, ℤ, List, [], ◌∷◌, ◌++◌, map, length, drop, Option, Some, None, Bool, true, false, nat_lt, option_map, if◌then◌else◌, slice_get, refl, sym, ap, ◌∙◌, subst, arith}
+use Rattle.std.proofs.Common.{◌≡◌, ℕ, zero, suc, ◌-◌, ◌<◌, ℤ, List, [], ◌∷◌, map, length, drop, Option, Some, None, Bool, true, false, nat_lt, option_map, if◌then◌else◌, slice_get, refl, sym, ap, ◌∙◌, subst, arith}
 use Rattle.std.specs.List.{AllByRecursion}
 use Rattle.std.specs.Bool.{⊤}
 use Rattle.sd_num.specs.declared.resolution.Resolution.{Resolution}
-use Rattle.sd_num.specs.Wrapped.{wrapped}
 use Rattle.sd_work.specs.Memory.{Contents, Memory, Memories}
-use Rattle.sd_work.specs.Change.{changed_at, with_elements, with_values, with_contents, written, write, push, apply}
+use Rattle.sd_work.specs.Change.{appended, changed_at, with_elements, with_values, with_contents, written, write, push, apply}
 use Rattle.sd_work.specs.Leaf.{Pending, write_value, transfer, push_to}
 use Rattle.sd_work.specs.Step.{Done}
 use Rattle.sd_work.specs.BigStep.{Reached, reached, big_doing}
@@ -48,10 +47,10 @@ over_own own place [] memories turns after over all is =
     done_same now after is = cc
 over_own own place (write_value value None by ∷ todo) memories turns after over all is = cc
 over_own own place (write_value value (Some to) by ∷ todo) memories turns after over all is =
-    over_own own place todo (apply (write to by value) memories) turns after (changed_above own memories to.level to.container (with_elements (changed_at to.element (written by value))) all.0 over) all.1 is
+    over_own own place todo (apply (write to by value) memories) turns after (changed_above own memories to.level to.container (with_elements (λ width. changed_at to.element (written width by value))) all.0 over) all.1 is
 over_own own place (transfer from to by ∷ todo) memories turns after over all is = absurd all.0
 over_own own place (push_to level container value ∷ todo) memories turns after over all is =
-    over_own own place todo (apply (push level container value) memories) turns after (changed_above own memories level container (with_values (λ values. values ++ wrapped value ∷ [])) all.0 over) all.1 is
+    over_own own place todo (apply (push level container value) memories) turns after (changed_above own memories level container (with_values (appended value)) all.0 over) all.1 is
 
 pub stays_over : (own : Memory) (todo : List Pending) (before after : Reached) → AllByRecursion IsOutward todo → IsDone (performing todo) before None after → IsOver own before → IsOver own after
 stays_over own todo before after all done over =

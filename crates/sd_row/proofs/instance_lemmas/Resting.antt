@@ -10,7 +10,7 @@ use Rattle.sd_graph.specs.TaskletMeaning.{Effect}
 use Rattle.sd_graph.specs.Context.{Context, link_element}
 use Rattle.sd_graph.specs.Unfold.{pending_through}
 use Rattle.sd_graph.specs.declared.link.Link.{Link}
-use Rattle.sd_mem.specs.declared.machine.cell.Station.{Station}
+use Rattle.sd_mem.specs.declared.machine.address.Station.{Station}
 use Rattle.sd_scope.specs.even.Even.{is_scalar, spaced}
 use Rattle.sd_scope.proofs.even_lemmas.Distances.{spaced_still}
 use Rattle.sd_row.specs.declared.row.track.Track.{Track}

@@ -5,11 +5,13 @@ use Rattle.std.proofs.Math.ListN.{drop_of_length-le}
 use Rattle.std.proofs.lemmas.Bool.{eqb-true, eqb-false, eq-eqb}
 use Rattle.std.proofs.lemmas.List.{drop_more}
 use Rattle.sd_num.specs.declared.resolution.Resolution.{Resolution}
+use Rattle.sd_num.specs.declared.width.Width.{Width}
+use Rattle.sd_num.specs.declared.width.Width.TheVariants.{W64}
 use Rattle.sd_work.specs.Memory.{Memory, Memories, Reference, look, elements_of, stream}
 use Rattle.sd_work.specs.Change.{apply, write, changed_at, with_elements, written}
 use Rattle.sd_work.specs.Step.{Done}
 use Rattle.sd_graph.specs.declared.place.Place.{Place}
-use Rattle.sd_mem.specs.declared.machine.cell.Station.{Station}
+use Rattle.sd_mem.specs.declared.machine.address.Station.{Station}
 use Rattle.sd_leaves.specs.leaves.Done.{IsDone, performing}
 use Rattle.sd_row.specs.declared.row.track.Track.{Track}
 use Rattle.sd_row.specs.declared.row.row.Write.{Write}
@@ -32,7 +34,7 @@ this_changes number change [] d none = sym none
 this_changes zero change (member ∷ members) d none = refl
 this_changes (suc number) change (member ∷ members) d none = this_changes number change members d none
 
-none_there : (container : ℕ) (change : List ℤ → List ℤ) → changed_at container (with_elements change) [] ≡ []
+none_there : (container : ℕ) (change : Width → List ℤ → List ℤ) → changed_at container (with_elements change) [] ≡ []
 none_there container change = refl
 
 -- what stands in one container is not changed by a write to another one
@@ -41,18 +43,18 @@ look_apart : (read to : Reference) (by : Option Resolution) (value : ℤ) (memor
 look_apart read to by value memories apart = by_level (nat_eq read.level to.level) refl
   where
     inside : Memory → Memory
-    inside memory = changed_at to.container (with_elements (changed_at to.element (written by value))) memory
+    inside memory = changed_at to.container (with_elements (λ width. changed_at to.element (written width by value))) memory
 
     in_memory : Memory → ℤ
-    in_memory memory = slice_index_or (elements_of (slice_index_or memory read.container (stream []))) read.element (pos 0)
+    in_memory memory = slice_index_or (elements_of (slice_index_or memory read.container (stream W64 []))) read.element (pos 0)
 
     by_level : (same : Bool) → nat_eq read.level to.level ≡ same → look read (apply (write to by value) memories) ≡ look read memories
     by_level true e =
         let level : read.level ≡ to.level = eqb-true read.level to.level e in
         ap (λ level. in_memory (slice_index_or (changed_at level inside memories) read.level [])) (sym level)
-        ∙ ap in_memory (this_changes read.level inside memories [] (none_there to.container (changed_at to.element (written by value))))
+        ∙ ap in_memory (this_changes read.level inside memories [] (none_there to.container (λ width. changed_at to.element (written width by value))))
         ∙ ap (λ contents. slice_index_or (elements_of contents) read.element (pos 0))
-        (other_stays to.container read.container (with_elements (changed_at to.element (written by value))) (slice_index_or memories read.level []) (stream []) (apart level))
+        (other_stays to.container read.container (with_elements (λ width. changed_at to.element (written width by value))) (slice_index_or memories read.level []) (stream W64 []) (apart level))
     by_level false e = ap in_memory (other_stays to.level read.level inside memories [] (eqb-false read.level to.level e))
 
 same_station : (a b : Station) → a.level ≡ b.level → a.container ≡ b.container → a ≡ b
@@ -107,7 +109,7 @@ writes_length : (value : ℕ → ℤ) (k : ℕ) (writes : List Write) (memories 
 writes_length value k [] memories = refl
 writes_length value k (next ∷ writes) memories =
     writes_length value k writes (apply (write (reference_on next.to k) next.by (value next.connector)) memories)
-    ∙ changed_length next.to.station.level (changed_at next.to.station.container (with_elements (changed_at (reference_on next.to k).element (written next.by (value next.connector))))) memories
+    ∙ changed_length next.to.station.level (changed_at next.to.station.container (with_elements (λ width. changed_at (reference_on next.to k).element (written width next.by (value next.connector))))) memories
 
 pub point_done : (value : ℕ → ℤ) (k : ℕ) (writes : List Write) (memories : Memories) (turns : ℕ) →
     IsDone (performing (map (write_on value k) writes)) (record { memories = memories; turns = turns }) None (record { memories = after_writes value k writes memories; turns = turns })

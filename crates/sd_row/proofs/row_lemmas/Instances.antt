@@ -1,6 +1,8 @@
 -- What code is given at a point of a row, and what it comes to.
 use Rattle.std.proofs.Common.{◌≡◌, ℕ, zero, suc, ℤ, List, [], ◌∷◌, ◌++◌, length, map, replicate, drop, Option, Some, None, Ok, Err, refl, sym, ap, ◌∙◌, subst}
 use Rattle.sd_num.specs.declared.resolution.Resolution.{Resolution}
+use Rattle.sd_num.specs.declared.width.Width.{Width}
+use Rattle.sd_num.specs.declared.width.Width.TheVariants.{W64}
 use Rattle.sd_work.specs.declared.fault.FaultKind.{FaultKind}
 use Rattle.sd_work.specs.Memory.{Contents, array, Memory, Memories, Reference}
 use Rattle.sd_work.specs.Change.{write, apply, changed_at, with_elements, with_contents, written}
@@ -74,16 +76,16 @@ module _ (tree : TaskletTree) (ins outs : List Link) (row : Row) (k : ℕ) (cont
 none_changed : (element : ℕ) (change : ℤ → ℤ) → changed_at element change [] ≡ []
 none_changed element change = refl
 
-bare_changed : (container : ℕ) (change : List ℤ → List ℤ) (memory : Memory) → change [] ≡ [] → IsBare memory → changed_at container (with_elements change) memory ≡ memory
+bare_changed : (container : ℕ) (change : Width → List ℤ → List ℤ) (memory : Memory) → change W64 [] ≡ [] → IsBare memory → changed_at container (with_elements change) memory ≡ memory
 bare_changed container change [] none bare = refl
 bare_changed zero change (contents ∷ memory) none bare =
-    ap (λ (first : Contents). first ∷ memory) (ap (with_elements change) bare.0 ∙ ap array none ∙ sym bare.0)
+    ap (λ (first : Contents). first ∷ memory) (ap (with_elements change) bare.0 ∙ ap (array W64) none ∙ sym bare.0)
 bare_changed (suc container) change (contents ∷ memory) none bare = ap (λ (rest : Memory). contents ∷ rest) (bare_changed container change memory none bare.1)
 
 write_stays : (own : Memory) (memories : Memories) (level container element : ℕ) (by : Option Resolution) (value : ℤ) → IsBare own →
-    with_contents level container (with_elements (changed_at element (written by value))) (own ∷ memories) ≡ own ∷ drop 1 (with_contents level container (with_elements (changed_at element (written by value))) (own ∷ memories))
+    with_contents level container (with_elements (λ width. changed_at element (written width by value))) (own ∷ memories) ≡ own ∷ drop 1 (with_contents level container (with_elements (λ width. changed_at element (written width by value))) (own ∷ memories))
 write_stays own memories zero container element by value bare =
-    ap (λ (first : Memory). first ∷ memories) (bare_changed container (changed_at element (written by value)) own refl bare)
+    ap (λ (first : Memory). first ∷ memories) (bare_changed container (λ width. changed_at element (written width by value)) own refl bare)
 write_stays own memories (suc level) container element by value bare = refl
 
 -- a write changes nothing in a memory that holds nothing

@@ -1,11 +1,14 @@
 -- Products of two reads that are added to one element.
-use Rattle.std.proofs.Common.{◌≡◌, ℕ, zero, suc, ◌+◌, ◌-◌, ◌<◌, ℤ, pos, ◌+ℤ◌, ◌*ℤ◌, List, [], ◌∷◌, ◌++◌, map, length, take, replicate, get_or, slice_index_or, slice_set, Some, None, Ok, FitsSigned, w64, sym, ap, ◌∙◌, arith}
+use Rattle.std.proofs.Common.{◌≡◌, ℕ, zero, suc, ◌+◌, ◌-◌, ◌<◌, ℤ, pos, ◌+ℤ◌, ◌*ℤ◌, List, [], ◌∷◌, ◌++◌, map, length, take, replicate, get_or, slice_index_or, slice_set, Option, Some, None, Ok, FitsSigned, w64, sym, ap, ◌∙◌, arith}
+use Rattle.std.specs.Option.{MatchOption}
+use Rattle.std.specs.Bool.{⊤}
 use Rattle.std.proofs.Math.Seq.{take-append_seam}
 use Rattle.std.proofs.lemmas.Int.{SFits-int_wrap}
-use Rattle.std.proofs.lemmas.List.{length-map, length-append, length-replicate, get_or-map, get_or_append_left, get_or-set_same}
+use Rattle.std.proofs.lemmas.List.{map-id, length-map, length-append, length-replicate, get_or-map, get_or_append_left, get_or-set_same}
 use Rattle.sd_num.specs.Wrapped.{wrapped}
 use Rattle.sd_num.specs.declared.resolution.Resolution.TheVariants.{Sum}
-use Rattle.sd_work.specs.Memory.{Memories, look}
+use Rattle.sd_num.specs.declared.width.Width.TheVariants.{W64}
+use Rattle.sd_work.specs.Memory.{Memories, look, elements_of, contents_of}
 use Rattle.sd_work.specs.Change.{apply, became, write}
 use Rattle.sd_tcode.specs.declared.op.op.Op.{Op}
 use Rattle.sd_tcode.specs.declared.op.op.Op.TheVariants.{Mul}
@@ -17,12 +20,13 @@ use Rattle.sd_tcode.specs.tcode.Outputs.{output_effects}
 use Rattle.sd_tcode.proofs.tcode_lemmas.Linked.{Fits, plain_means}
 use Rattle.sd_tcode.specs.declared.columns.spacing.Spaced.{Spaced}
 use Rattle.sd_tcode.specs.columns.Columns.{value_on}
-use Rattle.sd_tcode.specs.columns.Products.{added}
+use Rattle.sd_tcode.specs.columns.Products.{added, element_on}
+use Rattle.sd_tcode.proofs.columns_lemmas.Sides.{same_added}
 use Rattle.sd_row.specs.declared.row.track.Track.{Track}
 use Rattle.sd_row.specs.declared.row.row.Write.{Write}
 use Rattle.sd_row.specs.declared.row.row.Row.{Row}
 use Rattle.sd_row.specs.row.Row.{reference_on, order_of}
-use Rattle.sd_row.specs.row.Point.{seen_on}
+use Rattle.sd_row.specs.row.Point.{seen_on, width_on}
 use Rattle.sd_row.specs.row.Setting.{Setting}
 use Rattle.sd_row.specs.row.Block.{after_points}
 use Rattle.sd_row.proofs.row_lemmas.Folds.{nothing_new, fold_on}
@@ -106,6 +110,20 @@ module _ (row : Row) (compiled : Compiled) (memories : Memories) (k : ℕ) where
         ∙ get_or-set_same registers_at to (product_at left right) (pos 0) (omega (arith, many, room))
         ∙ (λ i. wrapped (register_seen left first left_within first_is i *ℤ register_seen right second right_within second_is i))
 
+-- ---- what is read
+
+-- the elements that stand in a track's container are what the track reads
+pub elements_seen : (track : Track) (memories : Memories) (cells : List ℤ) → cells ≡ elements_of (contents_of track.station.level track.station.container memories) → (k : ℕ) →
+    element_on (map (λ cell. cell) cells) track.elements k ≡ seen_on k memories track
+elements_seen track memories cells is k = ap (λ elements. element_on elements track.elements k) (map-id cells ∙ is)
+
+-- the same values come to the same sum, where there is one
+pub same_sums : (value other : ℕ → ℤ) (start number : ℤ) (count : ℕ) (result : Option ℤ) → ((run : ℕ) → value run ≡ other run) → start ≡ number →
+    MatchOption result ⊤ (λ sum. sum ≡ added value start count) → MatchOption result ⊤ (λ sum. sum ≡ added other number count)
+same_sums value other start number count None same is told = tt
+same_sums value other start number count (Some sum) same is told =
+    told ∙ ap (λ number. added value number count) is ∙ same_added value other number count (λ run below. same run)
+
 -- ---- what is added up
 
 -- a number to which values are added is an element
@@ -113,15 +131,15 @@ pub added_fits : (value : ℕ → ℤ) (number : ℤ) (count : ℕ) → FitsSign
 added_fits value number zero fits = fits
 added_fits value number (suc count) fits = SFits-int_wrap w64 (added value number count +ℤ value count)
 
-module _ (value : (run connector : ℕ) → ℤ) (to : Write) (from : ℕ) (memories : Memories) (held : ℤ) (sum : to.by ≡ Some Sum) (still : to.to.elements.step ≡ pos 0)
+module _ (value : (run connector : ℕ) → ℤ) (to : Write) (from : ℕ) (memories : Memories) (held : ℤ) (sum : to.by ≡ Some Sum) (still : to.to.elements.step ≡ pos 0) (wide : width_on memories to.to ≡ W64)
     (held_is : held ≡ look (reference_on to.to from) memories) (held_fits : FitsSigned w64 held) (fits : (run : ℕ) → FitsSigned w64 (value run to.connector)) where
   -- the sum is what the writes of the points come to
   pub sum_written : (count : ℕ) → apply (write (reference_on to.to from) None (added (λ run. value run to.connector) held count)) memories ≡ after_points value (to ∷ []) from count memories
-  sum_written zero = nothing_new (reference_on to.to from) held memories held_is held_fits
+  sum_written zero = nothing_new (reference_on to.to from) held memories wide held_is held_fits
   sum_written (suc count) =
       let old = added (λ run. value run to.connector) held count in
       let new = added (λ run. value run to.connector) held (suc count) in
       let next : count + 1 ≡ suc count = omega arith in
-      fold_on value to from count memories old new still (added_fits (λ run. value run to.connector) held count held_fits) (fits count) (added_fits (λ run. value run to.connector) held (suc count) held_fits)
+      fold_on value to from count memories old new still wide (added_fits (λ run. value run to.connector) held count held_fits) (fits count) (added_fits (λ run. value run to.connector) held (suc count) held_fits)
       (ap (λ by. became by old (value count to.connector)) (sym sum)) (sum_written count)
       ∙ ap (λ count. after_points value (to ∷ []) from count memories) next

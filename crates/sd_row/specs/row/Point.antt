@@ -1,7 +1,8 @@
 -- What flat code is given at a point of a row, and the memories beside it.
 use Rattle.std.specs.Prelude.{◌≡◌, ℕ, ◌<◌, ◌^◌, ℤ, [], ◌∷◌, length, drop, replicate}
 use Rattle.std.specs.List.{AllByRecursion}
-use Rattle.sd_work.specs.Memory.{array, Memory, Memories, look}
+use Rattle.sd_num.specs.declared.width.Width.{Width}
+use Rattle.sd_work.specs.Memory.{absent, Memory, Memories, look, width_of, contents_of}
 use Rattle.sd_work.specs.BigStep.{Reached}
 use Rattle.sd_graph.specs.TaskletMeaning.{Inputs}
 use Rattle.sd_row.specs.declared.row.track.Track.{Track}
@@ -11,6 +12,10 @@ use Rattle.sd_row.specs.row.Row.{reference_on}
 -- the value of a track's element at a point of a row
 abbrev pub seen_on : (k : ℕ) → Memories → Track → ℤ
 seen_on k memories track = look (reference_on track k) memories
+
+-- the width of its elements
+abbrev pub width_on : Memories → Track → Width
+width_on memories track = width_of (contents_of track.station.level track.station.container memories)
 
 -- what is given has one element for each read of a row, as many variables as the row has, and scalars as connectors
 pub record HasScalars (row : Row) (connectors : ℕ) (inputs : Inputs) : Type 0 where
@@ -23,7 +28,7 @@ pub record HasScalars (row : Row) (connectors : ℕ) (inputs : Inputs) : Type 0 
 
 -- no container of a memory holds anything
 abbrev pub IsBare : Memory → Type 0
-IsBare memory = AllByRecursion (λ contents. contents ≡ array []) memory
+IsBare memory = AllByRecursion (λ contents. contents ≡ absent) memory
 
 -- the innermost memory is this one
 abbrev pub IsOver : Memory → Reached → Type 0

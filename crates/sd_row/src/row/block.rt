@@ -1,5 +1,5 @@
 //! Many points of a row at once.
-ghost use Rattle.std.specs.Prelude.{◌≡◌, ℕ, ◌+◌, ◌-◌, ◌<◌, ◌≤◌, ◌^◌, List, [], ◌++◌, length, map, take, replicate, Some, IsTrue, IsFalse};
+ghost use Rattle.std.specs.Prelude.{◌≡◌, ℕ, ◌+◌, ◌-◌, ◌<◌, ◌≤◌, ◌^◌, List, [], ◌++◌, length, map, take, replicate, slice_set, Some, IsTrue, IsFalse};
 ghost use Rattle.std.specs.List.{AllByRecursion};
 ghost use Rattle.sd_tcode.specs.declared.op.array.Array.{Array};
 ghost use Rattle.sd_tcode.specs.tcode.Compiled.{IsSafe};
@@ -14,7 +14,7 @@ ghost use Rattle.sd_row.specs.row.Block.{IsApart, AreApart};
 use crate::row::row::{Row, Write};
 use crate::row::track::Track;
 use crate::row::writing::write_runs;
-use sd_mem::Machine;
+use sd_mem::{Elements, Machine};
 use sd_tcode::{Code, Columns, Spaced};
 
 /// Whether no write goes to a container that is read.
@@ -41,6 +41,28 @@ fn is_apart(read: &Track, writes: &[Write]) -> bool
     true
 }
 
+/// Gives a register what is read at so many points, from one on.
+fn gather_read(
+    columns: &mut Columns,
+    register: usize,
+    read: &Track,
+    from: u32,
+    count: u32,
+    machine: &Machine,
+)
+    requires wide { AreWide columns.old }
+    requires register { register < register_count columns.old }
+    requires runs { count ≤ run_count columns.old }
+    requires few { from + count < 2 ^ 32 }
+    ensures kept { AreKept columns.old columns.new }
+    ensures set { (run : ℕ) → run < count → registers_of columns.new run ≡ slice_set (registers_of columns.old run) register (seen_on (from + run) machine.now.memories read.now) }
+{
+    match machine.cells(read.station) {
+        Elements::W32(cells) => columns.gather(register, cells, &read.elements, from, count),
+        Elements::W64(cells) => columns.gather(register, cells, &read.elements, from, count),
+    }
+}
+
 /// Gives the first registers what is read at so many points, from one on.
 fn gather_reads(columns: &mut Columns, reads: &[Track], from: u32, count: u32, machine: &Machine)
     requires wide { AreWide columns.old }
@@ -51,9 +73,7 @@ fn gather_reads(columns: &mut Columns, reads: &[Track], from: u32, count: u32, m
     ensures read { (run : ℕ) → run < count → take (length reads.now) (registers_of columns.new run) ≡ map (seen_on (from + run) machine.now.memories) reads.now }
 {
     for number in 0..reads.len() {
-        let read = &reads[number];
-        let cells = machine.cells(read.station);
-        columns.gather(number, cells, &read.elements, from, count);
+        gather_read(columns, number, &reads[number], from, count, machine);
     }
 }
 

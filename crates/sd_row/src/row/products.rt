@@ -8,7 +8,7 @@ ghost use Rattle.sd_tcode.specs.declared.op.array.Array.{Array};
 ghost use Rattle.sd_tcode.specs.declared.op.op.Op.TheVariants as ops;
 ghost use Rattle.sd_mem.specs.machine.ComesTo.{IsEnd};
 ghost use Rattle.sd_mem.specs.declared.machine.end.End.TheVariants as ends;
-ghost use Rattle.sd_tcode.specs.columns.Products.{added};
+ghost use Rattle.sd_tcode.specs.columns.Products.{added, element_on};
 ghost use Rattle.sd_row.specs.row.Row.{order_of};
 ghost use Rattle.sd_row.specs.row.Point.{seen_on, IsOver, below};
 ghost use Rattle.sd_row.specs.row.Setting.{Setting, IsSetting, row_coming};
@@ -18,9 +18,9 @@ use crate::row::block::is_for;
 use crate::row::row::{Row, Write};
 use crate::row::track::Track;
 use crate::row::writing::still;
-use sd_mem::Machine;
-use sd_num::Resolution;
-use sd_tcode::{Code, Op, add_products};
+use sd_mem::{Elements, Machine};
+use sd_num::{Cell, Resolution};
+use sd_tcode::{Code, Op, Spaced, add_products};
 
 /// The registers of an instruction that multiplies.
 #[derive(Clone, Copy)]
@@ -57,6 +57,42 @@ fn sum_of(writes: &[Write]) -> Option<&Write>
     }
 }
 
+/// A number, and the products of elements and of a read at so many points added to it, from one on; `None` where one of them is not
+/// there.
+fn add_elements<L: Cell>(
+    number: i64,
+    left: &[L],
+    lefts: &Spaced,
+    right: &Track,
+    from: u32,
+    count: u32,
+    machine: &Machine,
+) -> Option<i64>
+    requires few { from + count < 2 ^ 32 }
+    ensures { MatchOption result ⊤ (λ sum. sum ≡ added (λ run. wrapped (element_on (map L.element left.now) lefts.now (from + run) *ℤ seen_on (from + run) machine.now.memories right.now)) number count) }
+{
+    match machine.cells(right.station) {
+        Elements::W32(cells) => add_products(
+            number,
+            left,
+            lefts,
+            cells,
+            &right.elements,
+            from,
+            count,
+        ),
+        Elements::W64(cells) => add_products(
+            number,
+            left,
+            lefts,
+            cells,
+            &right.elements,
+            from,
+            count,
+        ),
+    }
+}
+
 /// A number, and the products of two reads at so many points added to it, from one on; `None` where one of the elements is not there.
 fn add_reads(
     number: i64,
@@ -69,19 +105,15 @@ fn add_reads(
     requires few { from + count < 2 ^ 32 }
     ensures { MatchOption result ⊤ (λ sum. sum ≡ added (λ run. wrapped (seen_on (from + run) machine.now.memories left.now *ℤ seen_on (from + run) machine.now.memories right.now)) number count) }
 {
-    add_products(
-        number,
-        machine.cells(left.station),
-        &left.elements,
-        machine.cells(right.station),
-        &right.elements,
-        from,
-        count,
-    )
+    let lefts = &left.elements;
+    match machine.cells(left.station) {
+        Elements::W32(cells) => add_elements(number, cells, lefts, right, from, count, machine),
+        Elements::W64(cells) => add_elements(number, cells, lefts, right, from, count, machine),
+    }
 }
 
 /// Runs the code at the points from one on and below another one, where it multiplies two reads and adds the product to one element
-/// that is none of those; `false` where that is not done, and then nothing has changed.
+/// of 64 bits that is none of those; `false` where that is not done, and then nothing has changed.
 pub(crate) fn run_products(
     row: &Row,
     code: &Code,
@@ -110,6 +142,9 @@ pub(crate) fn run_products(
         return false;
     }
     if row.variables.len() + write.connector as usize != factors.to as usize {
+        return false;
+    }
+    if !write.to.is_wide(machine) {
         return false;
     }
     let cell = write.to.cell(from);

@@ -2,9 +2,11 @@
 ghost use Rattle.std.specs.Prelude.{◌≡◌, ◌+◌, ◌<◌, ◌≤◌, ◌^◌, pos, List, [], ◌∷◌, map};
 ghost use Rattle.std.specs.Option.{MatchOption};
 ghost use Rattle.std.specs.Bool.{⊤};
+ghost use Rattle.sd_num.specs.declared.width.Width.TheVariants.{W64};
 ghost use Rattle.sd_work.specs.Change.{became};
 ghost use Rattle.std.specs.List.{AllByRecursion};
 ghost use Rattle.sd_tcode.specs.columns.Columns.{AreWide, register_count, run_count};
+ghost use Rattle.sd_row.specs.row.Point.{width_on};
 ghost use Rattle.sd_row.specs.row.Block.{after_points, after_writes, column_value};
 
 use crate::row::row::Write;
@@ -55,7 +57,7 @@ fn write_each(
     }
 }
 
-/// What stands in an element after a value is written there.
+/// What stands in an element of 64 bits after a value is written there.
 #[inline(always)]
 fn written(by: Option<Resolution>, old: i64, value: i64) -> i64
     ensures { result ≡ became by old value }
@@ -66,7 +68,7 @@ fn written(by: Option<Resolution>, old: i64, value: i64) -> i64
     }
 }
 
-/// Writes an output of runs to one element, the same for each point.
+/// Writes an output of runs to one element of 64 bits, the same for each point.
 fn write_one(
     columns: &Columns,
     first: usize,
@@ -79,6 +81,7 @@ fn write_one(
     requires runs { count ≤ run_count columns.now }
     requires output { first + write.now.connector < register_count columns.now }
     requires still { write.now.to.elements.step ≡ pos 0 }
+    requires bits { width_on machine.old.memories write.now.to ≡ W64 }
     ensures memories { machine.new.memories ≡ after_points (column_value first columns.now) (write.now ∷ []) from count machine.old.memories }
     ensures turns { machine.new.turns ≡ machine.old.turns }
 {
@@ -120,7 +123,9 @@ pub(crate) fn write_runs(
     ensures turns { machine.new.turns ≡ machine.old.turns }
 {
     match still(writes) {
-        Some(write) => write_one(columns, first, write, from, count, machine),
-        None => write_each(columns, first, writes, from, count, machine),
+        Some(write) if write.to.is_wide(machine) => {
+            write_one(columns, first, write, from, count, machine);
+        }
+        _ => write_each(columns, first, writes, from, count, machine),
     }
 }

@@ -1,11 +1,10 @@
 -- What outward effects do, and what inputs see, over another innermost memory.
-use Rattle.std.proofs.Common.{◌≡◌, ℕ, zero, suc, ◌<◌, ℤ, pos, List, [], ◌∷◌, ◌++◌, map, length, drop, Option, Some, None, slice_index_or, refl, sym, ap, ◌∙◌, arith}
+use Rattle.std.proofs.Common.{◌≡◌, ℕ, zero, suc, ◌<◌, ℤ, pos, List, [], ◌∷◌, map, length, drop, Option, Some, None, slice_index_or, refl, sym, ap, ◌∙◌, arith}
 use Rattle.std.specs.List.{AllByRecursion, AllZip}
-use Rattle.sd_num.specs.Wrapped.{wrapped}
 use Rattle.sd_work.specs.declared.fault.FaultKind.{FaultKind}
 use Rattle.sd_work.specs.declared.fault.FaultKind.TheVariants.{Subscript}
 use Rattle.sd_work.specs.Memory.{Contents, elements_of, contents_of, Memory, Memories, Reference, look}
-use Rattle.sd_work.specs.Change.{changed_at, with_contents, with_elements, with_values, written}
+use Rattle.sd_work.specs.Change.{appended, changed_at, with_contents, with_elements, with_values, written}
 use Rattle.sd_work.specs.Leaf.{Pending, write_value, transfer, push_to}
 use Rattle.sd_work.specs.Move.{fault_at}
 use Rattle.sd_work.specs.Step.{Done}
@@ -47,11 +46,11 @@ module _ (place : Place) (own stale : Memory) (fault : Option FaultKind) (after 
   exchanged (write_value value None by ∷ todo) turns rest all is = failed place own fault after is
   exchanged (write_value value (Some to) by ∷ todo) turns rest all is =
       above (λ before behind. big_doing place todo before turns ≡ Some (outcome_at place fault after) → big_doing place todo behind turns ≡ Some (outcome_at place fault (with_own own after)))
-      own stale rest to.level to.container (with_elements (changed_at to.element (written by value))) all.0 (λ other. exchanged todo turns other all.1) is
+      own stale rest to.level to.container (with_elements (λ width. changed_at to.element (written width by value))) all.0 (λ other. exchanged todo turns other all.1) is
   exchanged (transfer from to by ∷ todo) turns rest all is = absurd all.0
   exchanged (push_to level container value ∷ todo) turns rest all is =
       above (λ before behind. big_doing place todo before turns ≡ Some (outcome_at place fault after) → big_doing place todo behind turns ≡ Some (outcome_at place fault (with_own own after)))
-      own stale rest level container (with_values (λ values. values ++ wrapped value ∷ [])) all.0 (λ other. exchanged todo turns other all.1) is
+      own stale rest level container (with_values (appended value)) all.0 (λ other. exchanged todo turns other all.1) is
 
 pub done_over : (own stale : Memory) (todo : List Pending) (before after : Reached) (fault : Option FaultKind) → AllByRecursion IsOutward todo → IsOver stale before → IsDone (performing todo) before fault after →
     IsDone (performing todo) (with_own own before) fault (with_own own after)
@@ -77,7 +76,7 @@ contents_above own stale rest (suc level) container out = refl
 module _ (element : ℕ) (own stale : Memory) (value : ℤ) (rest : Memories) (holds : HasValue own element value) where
   source_seen : (track : Track) (source : Source) → IsSource element track source → seen_from value (stale ∷ rest) source ≡ seen_on 0 (own ∷ rest) track
   source_seen track Own is =
-      sym (ap (λ (to : Reference). look to (own ∷ rest)) is ∙ ap (λ (contents : Contents). slice_index_or (elements_of contents) 0 (pos 0)) holds)
+      sym (ap (λ (to : Reference). look to (own ∷ rest)) is ∙ ap (λ elements. slice_index_or elements 0 (pos 0)) holds)
   source_seen track (Outside cell) is =
       ap (λ (contents : Contents). slice_index_or (elements_of contents) cell.element (pos 0)) (contents_above own stale rest cell.station.level cell.station.container is.0)
       ∙ ap (λ (to : Reference). look to (own ∷ rest)) is.1

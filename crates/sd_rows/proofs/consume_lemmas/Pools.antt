@@ -3,17 +3,20 @@ use Rattle.std.proofs.Common.{◌≡◌, ℕ, zero, suc, ◌<◌, ℤ, List, [],
 use Rattle.std.specs.List.{AllByRecursion}
 use Rattle.std.proofs.lemmas.Bool.Decides.{nat_tests}
 use Rattle.sd_work.specs.declared.fault.FaultKind.{FaultKind}
-use Rattle.sd_work.specs.Memory.{array, stream, Memories, waiting}
+use Rattle.sd_num.specs.Width.{wrapped_to}
+use Rattle.sd_num.specs.declared.width.Width.TheVariants.{W64}
+use Rattle.sd_work.specs.Memory.{stream, Memories, elements_of, width_of, waiting}
 use Rattle.sd_work.specs.Change.{changed_at, take, apply}
 use Rattle.sd_work.specs.BigStep.{Reached, big_step}
 use Rattle.sd_graph.specs.ContainerParts.{Containers}
 use Rattle.sd_graph.specs.Context.{Context, Reach, own_reach, memory_from, private_memory, place_at}
 use Rattle.sd_graph.specs.TaskletMeaning.{Inputs}
+use Rattle.sd_graph.specs.Unfold.{one_element}
 use Rattle.sd_graph.specs.Wiring.{has_number}
 use Rattle.sd_graph.specs.declared.container.ContainerKind.{ContainerKind}
 use Rattle.sd_graph.specs.declared.link.Link.{Link}
 use Rattle.sd_tcode.specs.tcode.Compiled.{Compiled}
-use Rattle.sd_mem.specs.declared.machine.cell.Station.{Station}
+use Rattle.sd_mem.specs.declared.machine.address.Station.{Station}
 use Rattle.sd_mem.specs.machine.ComesTo.{IsEnd}
 use Rattle.sd_mem.specs.declared.machine.end.End.{End}
 use Rattle.sd_mem.specs.declared.machine.end.End.TheVariants.{Finished, Fault, OutOfTurns}
@@ -27,7 +30,7 @@ use Rattle.sd_row.specs.instance.Known.{AreOutward}
 use Rattle.sd_rows.specs.consume.Own.{with_own, HasValue}
 use Rattle.sd_rows.specs.consume.Taking.{takes_coming}
 use Rattle.sd_rows.specs.declared.consume.source.Source.{Source}
-use Rattle.sd_rows.specs.consume.Pool.{Pool, IsPool, body_of, inside, pool_memory, pool_coming}
+use Rattle.sd_rows.specs.consume.Pool.{Pool, IsPool, body_of, inside, element_width, pool_memory, pool_coming}
 use Rattle.sd_rows.proofs.consume_lemmas.Takes.{takes_end, element_more, element_stop}
 
 -- the same sources
@@ -46,13 +49,21 @@ memory_length : (has : ℕ → ContainerKind → Bool) (number : ℕ) (container
 memory_length has number [] = refl
 memory_length has number (entry ∷ entries) = ap suc (memory_length has (suc number) entries)
 
--- it has the value
-pub value_held : (pool : Pool) (element : ℕ) (value : ℤ) → element ≡ pool.element → pool.element < length pool.context.containers → HasValue (pool_memory pool value) element value
-value_held pool element value same there =
+-- it has one element
+one_held : (pool : Pool) (element : ℕ) (value : ℤ) → element ≡ pool.element → pool.element < length pool.context.containers →
+    slice_index_or (pool_memory pool value) element (stream W64 []) ≡ one_element (element_width pool) value
+one_held pool element value same there =
     let numbers = pool.element ∷ pool.private in
     let own = private_memory pool.context.containers numbers in
     let within : pool.element < length own = subst (λ many. pool.element < many) (sym (memory_length (λ number kind. has_number numbers number) 0 pool.context.containers)) there in
-    ap (λ number. slice_index_or (pool_memory pool value) number (stream [])) same ∙ at_changed pool.element (λ old. array (value ∷ [])) own (stream []) within
+    ap (λ number. slice_index_or (pool_memory pool value) number (stream W64 [])) same ∙ at_changed pool.element (λ old. one_element (element_width pool) value) own (stream W64 []) within
+
+-- it shows the value
+pub value_held : (pool : Pool) (element : ℕ) (value : ℤ) → element ≡ pool.element → pool.element < length pool.context.containers → HasValue (pool_memory pool value) element (wrapped_to (element_width pool) value)
+value_held pool element value same there = ap elements_of (one_held pool element value same there)
+
+pub width_held : (pool : Pool) (element : ℕ) (value : ℤ) → element ≡ pool.element → pool.element < length pool.context.containers → width_of (slice_index_or (pool_memory pool value) element (stream W64 [])) ≡ element_width pool
+width_held pool element value same there = ap width_of (one_held pool element value same there)
 
 -- ---- containers outside
 

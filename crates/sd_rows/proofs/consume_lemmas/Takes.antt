@@ -1,14 +1,15 @@
 -- Steps through the values of a stream.
 use Rattle.std.proofs.Common.{◌≡◌, ℕ, zero, suc, ℤ, List, [], ◌∷◌, Option, Some, None, refl, sym, subst, ap, ◌∙◌, arith, length, drop, slice_get, slice_index_or}
+use Rattle.sd_num.specs.declared.width.Width.TheVariants.{W64}
 use Rattle.sd_work.specs.Memory.{Contents, array, stream, Memory, Memories, contents_of, values_of, waiting}
 use Rattle.sd_work.specs.Change.{changed_at, with_values, without, take, apply}
 use Rattle.sd_work.specs.Step.{Outcome, Done}
 use Rattle.sd_work.specs.BigStep.{Reached, Coming, and_then, after_oldest, big_step, big_takes}
 use Rattle.sd_graph.specs.declared.place.Place.{Place}
 use Rattle.sd_graph.specs.PlainTree.{ItemTrees}
-use Rattle.sd_graph.specs.ContainerParts.{Containers}
+use Rattle.sd_graph.specs.ContainerParts.{Containers, container_at}
 use Rattle.sd_graph.specs.Context.{Context, private_memory}
-use Rattle.sd_graph.specs.Unfold.{at_element, element_memory}
+use Rattle.sd_graph.specs.Unfold.{at_element, one_element, element_memory}
 use Rattle.sd_mem.specs.machine.ComesTo.{ComesTo, outcome_of, IsEnd}
 use Rattle.sd_mem.specs.machine.Coming.{items_coming}
 use Rattle.sd_mem.specs.declared.machine.end.End.{End}
@@ -35,15 +36,15 @@ first_none : (values : List ℤ) → slice_get values 0 ≡ None → values ≡ 
 first_none [] is = refl
 first_none (value ∷ values) is = cc
 
-none_taken : (contents : Contents) → values_of contents ≡ [] → with_values (without 0) contents ≡ contents
-none_taken (array elements) empty = refl
-none_taken (stream values) empty = ap (λ (v : List ℤ). stream (without 0 v)) empty ∙ ap stream (sym empty)
+none_taken : (contents : Contents) → values_of contents ≡ [] → with_values (λ width. without 0) contents ≡ contents
+none_taken (array width elements) empty = refl
+none_taken (stream width values) empty = ap (λ (v : List ℤ). stream width (without 0 v)) empty ∙ ap (stream width) (sym empty)
 
 -- nothing is taken where nothing waits
 pub take_of_none : (level container : ℕ) (memories : Memories) → slice_get (waiting level container memories) 0 ≡ None → apply (take level container 0) memories ≡ memories
 take_of_none level container memories empty =
-    same_changed level (changed_at container (with_values (without 0))) [] memories
-    (same_changed container (with_values (without 0)) (stream []) (slice_index_or memories level [])
+    same_changed level (changed_at container (with_values (λ width. without 0))) [] memories
+    (same_changed container (with_values (λ width. without 0)) (stream W64 []) (slice_index_or memories level [])
     (none_taken (contents_of level container memories) (first_none (waiting level container memories) empty)))
 
 -- the same of a stream that stands at equal numbers
@@ -80,7 +81,7 @@ module _ (body : ItemTrees) (number element : ℕ) (private : List ℕ) (context
   run most value = big_step (element_term body element private context value) most
 
   as_many : length taken.memories ≡ length middle.memories
-  as_many = ap length same_memories ∙ changed_length (context.reach number).level (changed_at (context.reach number).container (with_values (without 0))) middle.memories
+  as_many = ap length same_memories ∙ changed_length (context.reach number).level (changed_at (context.reach number).container (with_values (λ width. without 0))) middle.memories
 
   -- no value waits
   pub takes_end : slice_get (waiting (context.reach number).level (context.reach number).container middle.memories) 0 ≡ None → IsEnd whole before Finished taken
@@ -102,15 +103,15 @@ module _ (body : ItemTrees) (number element : ℕ) (private : List ℕ) (context
   module _ (value : ℤ) (oldest : slice_get (waiting (context.reach number).level (context.reach number).container middle.memories) 0 ≡ Some value) (now : Reached) where
     -- an element comes to what its body comes to inside its memory
     pub element_ends : (told : ℤ) (all : Containers) (inside : Context) (own : Memory) (entered after : Reached) (end : End) →
-        told ≡ value → all ≡ context.containers → own ≡ changed_at element (λ old. array (told ∷ [])) (private_memory all (element ∷ private)) → inside ≡ at_element context element private told →
+        told ≡ value → all ≡ context.containers → own ≡ changed_at element (λ old. one_element (container_at all element).width told) (private_memory all (element ∷ private)) → inside ≡ at_element context element private told →
         entered.memories ≡ own ∷ taken.memories → entered.turns ≡ taken.turns →
         IsEnd (items_coming body inside entered) entered end after →
         now.memories ≡ drop 1 after.memories → now.turns ≡ after.turns →
         IsEnd (λ most. run most value taken.memories taken.turns) taken end now
     element_ends told all inside own entered after end same_value same_containers same_own same_context deeper kept_turns ends dropped kept =
         let memory : own ≡ element_memory context element private value = same_own
-        ∙ ap (λ (v : ℤ). changed_at element (λ old. array (v ∷ [])) (private_memory all (element ∷ private))) same_value
-        ∙ ap (λ (a : Containers). changed_at element (λ old. array (value ∷ [])) (private_memory a (element ∷ private))) same_containers in
+        ∙ ap (λ (v : ℤ). changed_at element (λ old. one_element (container_at all element).width v) (private_memory all (element ∷ private))) same_value
+        ∙ ap (λ (a : Containers). changed_at element (λ old. one_element (container_at a element).width value) (private_memory a (element ∷ private))) same_containers in
         owned_ends (items_coming body (at_element context element private value)) (element_memory context element private value) taken entered after now end
         (deeper ∙ ap (λ (own : Memory). own ∷ taken.memories) memory) kept_turns
         (subst (λ (c : Context). IsEnd (items_coming body c entered) entered end after) (same_context ∙ ap (at_element context element private) same_value) ends)

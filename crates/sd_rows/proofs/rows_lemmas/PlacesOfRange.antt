@@ -15,7 +15,7 @@ use Rattle.sd_graph.specs.Context.{Context, Reach, index_at, link_element}
 use Rattle.sd_graph.specs.Unfold.{pending_through}
 use Rattle.sd_graph.specs.declared.link.Link.{Link}
 use Rattle.sd_mem.specs.machine.Stack.{reference_of}
-use Rattle.sd_mem.specs.declared.machine.cell.Cell.{Cell}
+use Rattle.sd_mem.specs.declared.machine.address.Address.{Address}
 use Rattle.sd_scope.specs.even.Even.{spaced, IsEven}
 use Rattle.sd_scope.proofs.even_lemmas.Row.{referred, to_element}
 use Rattle.sd_tcode.specs.declared.columns.spacing.Spaced.{Spaced}
@@ -66,7 +66,7 @@ counted k = grind (arith, ints)
 
 -- ---- elements
 
-module _ (here : Context) (link : Link) (gaps : ℕ) (even : IsEven (here.reach link.memlet.container).find) (begin end : Cell)
+module _ (here : Context) (link : Link) (gaps : ℕ) (even : IsEven (here.reach link.memlet.container).find) (begin end : Address)
     (begins : Some (reference_of begin) ≡ link_element here link (pos 0 ∷ [])) (ends : Some (reference_of end) ≡ link_element here link (pos gaps ∷ [])) where
   abbrev reach : Reach
   reach = here.reach link.memlet.container

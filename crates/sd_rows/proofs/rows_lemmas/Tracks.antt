@@ -14,7 +14,7 @@ use Rattle.sd_graph.specs.Context.{Context, Reach, reference_at, link_element, i
 use Rattle.sd_graph.specs.Unfold.{assigned, pending_of, pending_by}
 use Rattle.sd_graph.specs.declared.link.Link.{Link}
 use Rattle.sd_mem.specs.machine.Stack.{reference_of}
-use Rattle.sd_mem.specs.declared.machine.cell.Cell.{Cell}
+use Rattle.sd_mem.specs.declared.machine.address.Address.{Address}
 use Rattle.sd_scope.specs.scope.Standing.{context_of}
 use Rattle.sd_scope.specs.declared.scope.base.Base.{Base}
 use Rattle.sd_scope.specs.declared.scope.scope.Scope.{Scope}
@@ -62,7 +62,7 @@ module _ (steps : Steps) (gaps : ℕ) (first last : Context) (values : List ℤ)
       ap (λ (reach : ℕ → Reach). reference_at (reach link.memlet.container) (index_at link.memlet.subset.dims (context k).values [])) (way.along.reach k)
       ∙ ap (λ here. reference_at ((context 0).reach link.memlet.container) (index_at link.memlet.subset.dims here [])) (way.along.values k)
 
-  module _ (link : Link) (begin end : Cell) (begins : Some (reference_of begin) ≡ link_element first link []) (ends : Some (reference_of end) ≡ link_element last link []) where
+  module _ (link : Link) (begin end : Address) (begins : Some (reference_of begin) ≡ link_element first link []) (ends : Some (reference_of end) ≡ link_element last link []) where
     abbrev reach : Reach
     reach = (context 0).reach link.memlet.container
 

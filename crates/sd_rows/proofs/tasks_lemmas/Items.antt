@@ -1,15 +1,13 @@
 -- Steps through the items of a list.
-use Rattle.std.proofs.Common.{◌≡◌, ℕ, zero, suc, ◌+◌, ◌<◌, List, [], ◌∷◌, sym, subst, ap, ◌∙◌, arith, length, drop, get_or}
+use Rattle.std.proofs.Common.{◌≡◌, ℕ, ◌+◌, ◌<◌, List, ◌∷◌, sym, subst, ap, ◌∙◌, length, drop, get_or}
 use Rattle.std.proofs.lemmas.List.{drop_more}
 use Rattle.sd_work.specs.BigStep.{Reached, Coming}
 use Rattle.sd_graph.specs.declared.place.Place.{Place}
-use Rattle.sd_graph.specs.PlainTree.{KindTree, ItemTrees, and_item, GraphTree}
+use Rattle.sd_graph.specs.PlainTree.{ItemTrees, and_item}
 use Rattle.sd_graph.specs.Context.{Context}
 use Rattle.sd_graph.specs.Unfold.{unfold_kind, unfold_items}
-use Rattle.sd_graph.specs.TreeFold.{PlainItem, PlainState, kind_step, item_step, graph_step, state_step, kind_tree, item_tree, item_trees}
+use Rattle.sd_graph.specs.TreeFold.{item_tree, item_trees}
 use Rattle.sd_graph.specs.declared.graph.Item.{Item}
-use Rattle.sd_graph.specs.declared.graph.ItemKind.TheViews.{out-Item}
-use Rattle.sd_graph.specs.declared.graph.ItemKind.TheFolds.{fold_out-Item}
 use Rattle.sd_mem.specs.machine.ComesTo.{IsEnd}
 use Rattle.sd_mem.specs.machine.Coming.{kind_coming, items_coming}
 use Rattle.sd_mem.specs.declared.machine.end.End.{End}

@@ -1,16 +1,18 @@
 -- A consume scope whose body is one tasklet.
 use Rattle.std.specs.Prelude.{◌≡◌, ℕ, suc, ◌<◌, ℤ, List, length}
 use Rattle.std.specs.List.{AllZip}
+use Rattle.sd_num.specs.declared.width.Width.{Width}
 use Rattle.sd_work.specs.Memory.{Memory}
 use Rattle.sd_work.specs.BigStep.{Reached, Coming}
 use Rattle.sd_graph.specs.PlainTree.{TaskletTree, task, no_item, and_item, ItemTrees}
+use Rattle.sd_graph.specs.ContainerParts.{container_at}
 use Rattle.sd_graph.specs.TaskletMeaning.{Inputs}
 use Rattle.sd_graph.specs.Context.{Context, place_at}
 use Rattle.sd_graph.specs.Unfold.{at_element, element_memory}
 use Rattle.sd_graph.specs.declared.link.Link.{Link}
 use Rattle.sd_graph.specs.declared.place.Place.{Place}
 use Rattle.sd_tcode.specs.tcode.Compiled.{Compiled}
-use Rattle.sd_mem.specs.declared.machine.cell.Station.{Station}
+use Rattle.sd_mem.specs.declared.machine.address.Station.{Station}
 use Rattle.sd_mem.specs.declared.machine.end.End.{End}
 use Rattle.sd_mem.specs.declared.machine.end.End.TheVariants as ends
 use Rattle.sd_row.specs.declared.instance.accesses.Accesses.{Accesses}
@@ -49,6 +51,10 @@ inside pool value = at_element pool.context pool.element pool.private value
 -- the memory of the element of a value
 abbrev pub pool_memory : Pool → (value : ℤ) → Memory
 pool_memory pool value = element_memory pool.context pool.element pool.private value
+
+-- the width of what shows the value of an element
+abbrev pub element_width : Pool → Width
+element_width pool = (container_at pool.context.containers pool.element).width
 
 -- what the scope comes to from here
 abbrev pub pool_coming : Pool → Reached → (most : ℕ) → Coming Place

@@ -23,7 +23,7 @@ use sd_scope::{Base, Scope};
 use sd_tcode::{Code, Frame, run};
 use std::alloc::Global;
 
-/// What the tasklet does for the element of a value once its turn is spent: it reads, evaluates and performs its effects, which go
+/// What the tasklet does for an element that shows a value once its turn is spent: it reads, evaluates and performs its effects, which go
 /// outward. The code has the values of its variables. The innermost memory is one that an element has, of whatever value.
 #[inline(always)]
 pub(crate) fn run_element(

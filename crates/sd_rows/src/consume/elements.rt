@@ -13,7 +13,7 @@ use crate::consume::setup::Setup;
 use crate::consume::taking::{TakingEnd, take_values};
 use sd_graph::{Item, ItemKind, Link, Sdfg, Tasklet};
 use sd_list::NoMemory;
-use sd_mem::{End, Machine, Memory};
+use sd_mem::{End, Machine, Memory, Station};
 use sd_scope::{Base, Scope, place_of};
 use std::alloc::Global;
 
@@ -115,12 +115,17 @@ fn run_set_up(
 {
     let own = Memory::of_element(alloc, &graph.containers, element, private, 0)?;
     machine.enter(own)?;
+    let width = machine.width(Station {
+        level: 0,
+        container: element,
+    });
     let end = take_values(
         alloc,
         &setup.accesses,
         &setup.sources,
         &mut setup.runner,
         setup.from,
+        width,
         outs,
         graph,
         base,

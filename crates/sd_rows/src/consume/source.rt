@@ -8,7 +8,7 @@ ghost use Rattle.sd_tcode.specs.tcode.Held.{IsReady, given};
 ghost use Rattle.sd_rows.specs.consume.Own.{IsSource, seen_from};
 
 use sd_list::NoMemory;
-use sd_mem::{Cell, Machine};
+use sd_mem::{Address, Machine};
 use sd_row::Track;
 use sd_tcode::Frame;
 use std::alloc::Global;
@@ -16,10 +16,10 @@ use std::alloc::Global;
 /// Where an input of an element comes from.
 #[derive(Clone, Copy)]
 pub(crate) enum Source {
-    /// The value that was taken.
+    /// The value that was taken, as the element shows it.
     Own,
     /// An element of a memory further out.
-    Outside(Cell),
+    Outside(Address),
 }
 
 /// That of an input which leads here; `None` where it is another element of the innermost memory.
@@ -54,7 +54,7 @@ pub(crate) fn sources_of(
     Ok(Some(sources))
 }
 
-/// What an input sees, for an element with this value.
+/// What an input sees, for an element that shows this value.
 #[inline(always)]
 fn seen(source: &Source, value: i64, machine: &Machine) -> i64
     ensures { result ≡ seen_from value machine.now.memories source.now }
@@ -65,7 +65,7 @@ fn seen(source: &Source, value: i64, machine: &Machine) -> i64
     }
 }
 
-/// Gives code with scalar inputs what they see, for an element with this value.
+/// Gives code with scalar inputs what they see, for an element that shows this value.
 #[inline(always)]
 pub(crate) fn load_element(frame: &mut Frame, sources: &[Source], value: i64, machine: &Machine)
     requires singles { AllByRecursion (λ values. length values ≡ 1) (given frame.old).values }

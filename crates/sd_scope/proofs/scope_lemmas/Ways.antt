@@ -5,7 +5,7 @@ use Rattle.std.proofs.lemmas.List.{length_push, length-map, length-drop, get_or_
 use Rattle.std.proofs.lemmas.Bool.{cases_lt}
 use Rattle.std.specs.declared.alloc.Global.{Global}
 use Rattle.sd_list.specs.declared.list.memory.NoMemory.{NoMemory}
-use Rattle.sd_mem.specs.declared.machine.cell.Station.{Station}
+use Rattle.sd_mem.specs.declared.machine.address.Station.{Station}
 use Rattle.sd_range.specs.declared.subset.Subset.{Subset}
 use Rattle.sd_range.specs.Subset.{inside}
 use Rattle.sd_graph.specs.declared.container.Container.{Container}

@@ -15,7 +15,7 @@ use crate::scope::scope::Scope;
 use indexmap::IndexMap;
 use sd_graph::{Container, Link, Sdfg};
 use sd_list::NoMemory;
-use sd_mem::{Cell, Station};
+use sd_mem::{Address, Station};
 use sd_range::Dim;
 use std::alloc::Global;
 
@@ -91,7 +91,7 @@ pub fn cell_at(
     scope: &Scope,
     container: u32,
     index: &[i128],
-) -> Result<Option<Cell>, NoMemory>
+) -> Result<Option<Address>, NoMemory>
     ensures { IfOk result (λ cell. option_map reference_of cell ≡ reference_at ((context_of (graph_tree graph.now) base.now scope.now).reach container) index.now) }
 {
     let station = station(base, scope, container)?;
@@ -103,7 +103,7 @@ pub fn cell_at(
     };
     match element {
         None => Ok(None),
-        Some(element) => Ok(Some(Cell { station, element })),
+        Some(element) => Ok(Some(Address { station, element })),
     }
 }
 
@@ -114,7 +114,7 @@ pub fn link_cells(
     base: &Base,
     scope: &Scope,
     link: &Link,
-) -> Result<Vec<Option<Cell>>, NoMemory>
+) -> Result<Vec<Option<Address>>, NoMemory>
     ensures { IfOk result (λ cells. map (option_map reference_of) cells.items ≡ link_elements (context_of (graph_tree graph.now) base.now scope.now) link.now) }
 {
     let container = link.memlet.container;
@@ -150,7 +150,7 @@ fn cell_at_begin(
     scope: &Scope,
     container: u32,
     dims: &[Dim],
-) -> Result<Option<Cell>, NoMemory>
+) -> Result<Option<Address>, NoMemory>
     ensures { IfOk result (λ cell. option_map reference_of cell ≡ reference_at ((context_of (graph_tree graph.now) base.now scope.now).reach container) (index_at dims.now scope.now.values.values [])) }
 {
     let values = scope.values.values.as_slice();
@@ -169,7 +169,7 @@ fn cell_at_begin(
     };
     match element {
         None => Ok(None),
-        Some(element) => Ok(Some(Cell { station, element })),
+        Some(element) => Ok(Some(Address { station, element })),
     }
 }
 
@@ -181,7 +181,7 @@ pub fn link_cell(
     scope: &Scope,
     link: &Link,
     at: &[i128],
-) -> Result<Option<Cell>, NoMemory>
+) -> Result<Option<Address>, NoMemory>
     ensures { IfOk result (λ cell. option_map reference_of cell ≡ link_element (context_of (graph_tree graph.now) base.now scope.now) link.now at.now) }
 {
     let dims = link.memlet.subset.dims.as_slice();

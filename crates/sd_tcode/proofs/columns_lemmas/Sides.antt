@@ -1,10 +1,10 @@
 -- Columns side by side.
-use Rattle.std.proofs.Common.{◌≡◌, ℕ, zero, suc, ◌+◌, ◌-◌, ◌*◌, ◌^◌, ◌<◌, ◌≤◌, ℤ, pos, negsuc, ◌+ℤ◌, ◌*ℤ◌, unsigned_abs, FitsSigned, w64, slice_range, List, [], ◌∷◌, length, drop, get_or, slice_index_or, slice_set, Bool, true, false, nat_eq, Vec, Ok, refl, sym, ap, ◌∙◌, arith, subst}
+use Rattle.std.proofs.Common.{◌≡◌, ℕ, zero, suc, ◌+◌, ◌-◌, ◌*◌, ◌^◌, ◌<◌, ◌≤◌, ℤ, pos, negsuc, ◌+ℤ◌, ◌*ℤ◌, unsigned_abs, FitsSigned, w64, slice_range, List, [], ◌∷◌, map, length, take, drop, get_or, slice_index_or, slice_set, Bool, true, false, nat_eq, Vec, Ok, refl, sym, ap, ◌∙◌, arith, subst}
 use Rattle.std.proofs.lemmas.Bool.{eqb-true, eqb-false}
 use Rattle.std.specs.declared.alloc.Global.{Global}
 use Rattle.std.proofs.Math.ListN.{drop_of_length-le}
 use Rattle.std.proofs.Math.Nat.{mul-le-mul_left}
-use Rattle.std.proofs.lemmas.List.{drop_more, get_or-drop, get_or-map, get_or-take, get_or-set_same, get_or-set_other}
+use Rattle.std.proofs.lemmas.List.{drop_more, drop-map, get_or-drop, get_or-map, get_or-take, get_or-set_same, get_or-set_other}
 use Rattle.sd_graph.specs.TaskletMeaning.{and_then, two_values}
 use Rattle.sd_graph.specs.declared.operator.TwoSign.{TwoSign}
 use Rattle.sd_tcode.specs.declared.op.op.Op.{Op}
@@ -110,12 +110,20 @@ not_behind first distance count i below =
     let more : distance * (i + 1) ≤ distance * count = mul-le-mul_left distance within in
     omega (arith, subst (λ n. n ≤ distance * count) (more_times distance i) more)
 
--- a part of a list has the members from its first one on
-pub in_part : (cells part : List ℤ) (first end i : ℕ) → part ≡ slice_range cells first end → first + i < end → end ≤ length cells → slice_index_or part i (pos 0) ≡ slice_index_or cells (first + i) (pos 0)
-in_part cells part first end i is below within =
-    ap (λ part. slice_index_or part i (pos 0)) is
-    ∙ get_or-take (end - first) (drop first cells) i (pos 0) (omega (arith, below))
-    ∙ get_or-drop first cells i (pos 0)
+map_take : {A : Type 0} (of : A → ℤ) (count : ℕ) (cells : List A) → map of (take count cells) ≡ take count (map of cells)
+map_take of zero cells = refl
+map_take of (suc count) [] = refl
+map_take of (suc count) (cell ∷ cells) = ap (λ (rest : List ℤ). of cell ∷ rest) (map_take of count cells)
+
+-- a part of cells has the elements from its first one on
+pub in_part : {A : Type 0} (of : A → ℤ) (cells part : List A) (first end i : ℕ) → part ≡ slice_range cells first end → first + i < end → end ≤ length cells →
+    slice_index_or (map of part) i (pos 0) ≡ slice_index_or (map of cells) (first + i) (pos 0)
+in_part of cells part first end i is below within =
+    ap (λ part. slice_index_or (map of part) i (pos 0)) is
+    ∙ ap (λ elements. slice_index_or elements i (pos 0)) (map_take of (end - first) (drop first cells))
+    ∙ get_or-take (end - first) (map of (drop first cells)) i (pos 0) (omega (arith, below))
+    ∙ ap (λ elements. slice_index_or elements i (pos 0)) (sym (drop-map of first cells))
+    ∙ get_or-drop first (map of cells) i (pos 0)
 
 -- ---- values that are added up
 

@@ -1,10 +1,11 @@
-ghost use Rattle.std.specs.Prelude.{◌≡◌, ℕ, ◌+◌, ◌<◌, ◌≤◌, ◌^◌, pos, unsigned_abs, length, slice_index_or, slice_set, IfOk};
+ghost use Rattle.std.specs.Prelude.{◌≡◌, ℕ, ◌+◌, ◌<◌, ◌≤◌, ◌^◌, pos, unsigned_abs, map, length, slice_index_or, slice_set, IfOk};
 ghost use Rattle.std.specs.List.{AllByRecursion};
 ghost use Rattle.sd_tcode.specs.columns.Columns.{value_on, registers_of, register_count, run_count, AreWide, AreKept};
 
 use crate::columns::filling::{gather, spread};
 use crate::columns::spacing::Spaced;
 use sd_list::NoMemory;
+use sd_num::Cell;
 use std::alloc::Global;
 use std::mem;
 
@@ -91,10 +92,10 @@ impl Columns {
     }
 
     /// Gives a register elements of an array at equal distances, from one on; 0 for one that is not there.
-    pub fn gather(
+    pub fn gather<T: Cell>(
         &mut self,
         register: usize,
-        cells: &[i64],
+        cells: &[T],
         elements: &Spaced,
         from: u32,
         count: u32,
@@ -104,7 +105,7 @@ impl Columns {
         requires runs { count ≤ run_count self.old }
         requires few { from + count < 2 ^ 32 }
         ensures kept { AreKept self.old self.new }
-        ensures set { (run : ℕ) → run < count → registers_of self.new run ≡ slice_set (registers_of self.old run) register (slice_index_or cells.now (unsigned_abs (value_on elements.now (from + run))) (pos 0)) }
+        ensures set { (run : ℕ) → run < count → registers_of self.new run ≡ slice_set (registers_of self.old run) register (slice_index_or (map T.element cells.now) (unsigned_abs (value_on elements.now (from + run))) (pos 0)) }
     {
         gather(&mut self.spare, cells, elements, from, count);
         self.put(register);

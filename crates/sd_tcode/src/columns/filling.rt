@@ -1,5 +1,5 @@
 //! One column from others.
-ghost use Rattle.std.specs.Prelude.{◌≡◌, ℕ, ◌+◌, ◌*◌, ◌<◌, ◌≤◌, ◌^◌, ℤ, pos, unsigned_abs, length, slice_index_or, Ok, IsTrue};
+ghost use Rattle.std.specs.Prelude.{◌≡◌, ℕ, ◌+◌, ◌*◌, ◌<◌, ◌≤◌, ◌^◌, ℤ, pos, unsigned_abs, map, length, slice_index_or, Ok, IsTrue};
 ghost use Rattle.std.specs.Option.{MatchOption};
 ghost use Rattle.std.specs.Bool.{⊤};
 ghost use Rattle.sd_graph.specs.TaskletMeaning as meaning;
@@ -7,6 +7,7 @@ ghost use Rattle.sd_tcode.specs.columns.Columns.{value_on};
 
 use crate::columns::spacing::Spaced;
 use sd_graph::{OneSign, TwoSign};
+use sd_num::Cell;
 use sd_tasklet::{one_value, two_values};
 
 /// One number for each run.
@@ -21,16 +22,16 @@ pub(crate) fn repeat(column: &mut [i64], value: i64, count: usize)
     }
 }
 
-/// The values of another column.
+/// The elements of cells, as those of another column.
 #[inline(always)]
-pub(crate) fn copy(column: &mut [i64], of: &[i64], count: usize)
+pub(crate) fn copy<T: Cell>(column: &mut [i64], of: &[T], count: usize)
     requires to { count ≤ length column.old }
     requires of { count ≤ length of.now }
     ensures many { length column.new ≡ length column.old }
-    ensures values { (i : ℕ) → i < count → slice_index_or column.new i (pos 0) ≡ slice_index_or of.now i (pos 0) }
+    ensures values { (i : ℕ) → i < count → slice_index_or column.new i (pos 0) ≡ slice_index_or (map T.element of.now) i (pos 0) }
 {
     for i in 0..count {
-        column[i] = of[i];
+        column[i] = element_at(of, i);
     }
 }
 
@@ -86,11 +87,17 @@ pub(crate) fn spread(column: &mut [i64], numbers: &Spaced, from: u32, count: u32
 
 /// Elements of an array at equal distances, from one on; 0 for one that is not there.
 #[inline(always)]
-pub(crate) fn gather(column: &mut [i64], cells: &[i64], elements: &Spaced, from: u32, count: u32)
+pub(crate) fn gather<T: Cell>(
+    column: &mut [i64],
+    cells: &[T],
+    elements: &Spaced,
+    from: u32,
+    count: u32,
+)
     requires to { count ≤ length column.old }
     requires few { from + count < 2 ^ 32 }
     ensures many { length column.new ≡ length column.old }
-    ensures values { (i : ℕ) → i < count → slice_index_or column.new i (pos 0) ≡ slice_index_or cells.now (unsigned_abs (value_on elements.now (from + i))) (pos 0) }
+    ensures values { (i : ℕ) → i < count → slice_index_or column.new i (pos 0) ≡ slice_index_or (map T.element cells.now) (unsigned_abs (value_on elements.now (from + i))) (pos 0) }
 {
     match neighbours(cells, elements, from, count) {
         Some(part) => copy(column, part, count as usize),
@@ -99,10 +106,15 @@ pub(crate) fn gather(column: &mut [i64], cells: &[i64], elements: &Spaced, from:
 }
 
 /// The elements, where they stand side by side.
-fn neighbours<'a>(cells: &'a [i64], elements: &Spaced, from: u32, count: u32) -> Option<&'a [i64]>
+fn neighbours<'a, T: Cell>(
+    cells: &'a [T],
+    elements: &Spaced,
+    from: u32,
+    count: u32,
+) -> Option<&'a [T]>
     requires few { from + count < 2 ^ 32 }
     ensures many { MatchOption result ⊤ (λ part. count ≤ length part.now) }
-    ensures values { MatchOption result ⊤ (λ part. (i : ℕ) → i < count → slice_index_or part.now i (pos 0) ≡ slice_index_or cells.now (unsigned_abs (value_on elements.now (from + i))) (pos 0)) }
+    ensures values { MatchOption result ⊤ (λ part. (i : ℕ) → i < count → slice_index_or (map T.element part.now) i (pos 0) ≡ slice_index_or (map T.element cells.now) (unsigned_abs (value_on elements.now (from + i))) (pos 0)) }
 {
     if elements.step != 1 {
         return None;
@@ -140,7 +152,7 @@ pub(crate) struct Places {
 }
 
 /// The places of the elements, where each is there and none is before the first.
-pub(crate) fn places_of(cells: &[i64], elements: &Spaced, from: u32, count: u32) -> Option<Places>
+pub(crate) fn places_of<T>(cells: &[T], elements: &Spaced, from: u32, count: u32) -> Option<Places>
     requires few { from + count < 2 ^ 32 }
     ensures inside { MatchOption result ⊤ (λ places. (i : ℕ) → i < count → places.first + places.distance * i < length cells.now) }
     ensures end { MatchOption result ⊤ (λ places. places.first + places.distance * count < 2 ^ 63) }
@@ -155,27 +167,36 @@ pub(crate) fn places_of(cells: &[i64], elements: &Spaced, from: u32, count: u32)
     Some(Places { first, distance })
 }
 
+/// An element of an array, which is there.
+#[inline(always)]
+pub(crate) fn element_at<T: Cell>(cells: &[T], place: usize) -> i64
+    requires { place < length cells.now }
+    ensures { result ≡ slice_index_or (map T.element cells.now) place (pos 0) }
+{
+    cells[place].value()
+}
+
 /// The elements at places that are all there.
-fn gather_at(column: &mut [i64], cells: &[i64], places: Places, count: usize)
+fn gather_at<T: Cell>(column: &mut [i64], cells: &[T], places: Places, count: usize)
     requires to { count ≤ length column.old }
     requires inside { (i : ℕ) → i < count → places.first + places.distance * i < length cells.now }
     requires end { places.first + places.distance * count < 2 ^ 63 }
     ensures many { length column.new ≡ length column.old }
-    ensures values { (i : ℕ) → i < count → slice_index_or column.new i (pos 0) ≡ slice_index_or cells.now (places.first + places.distance * i) (pos 0) }
+    ensures values { (i : ℕ) → i < count → slice_index_or column.new i (pos 0) ≡ slice_index_or (map T.element cells.now) (places.first + places.distance * i) (pos 0) }
 {
     let mut place = places.first;
     for i in 0..count {
-        column[i] = cells[place];
+        column[i] = element_at(cells, place);
         place += places.distance;
     }
 }
 
 /// The elements, where they do not stand side by side.
-fn gather_apart(column: &mut [i64], cells: &[i64], elements: &Spaced, from: u32, count: u32)
+fn gather_apart<T: Cell>(column: &mut [i64], cells: &[T], elements: &Spaced, from: u32, count: u32)
     requires to { count ≤ length column.old }
     requires few { from + count < 2 ^ 32 }
     ensures many { length column.new ≡ length column.old }
-    ensures values { (i : ℕ) → i < count → slice_index_or column.new i (pos 0) ≡ slice_index_or cells.now (unsigned_abs (value_on elements.now (from + i))) (pos 0) }
+    ensures values { (i : ℕ) → i < count → slice_index_or column.new i (pos 0) ≡ slice_index_or (map T.element cells.now) (unsigned_abs (value_on elements.now (from + i))) (pos 0) }
 {
     match places_of(cells, elements, from, count) {
         Some(places) => gather_at(column, cells, places, count as usize),
@@ -184,11 +205,11 @@ fn gather_apart(column: &mut [i64], cells: &[i64], elements: &Spaced, from: u32,
 }
 
 /// The elements one by one.
-fn gather_each(column: &mut [i64], cells: &[i64], elements: &Spaced, from: u32, count: u32)
+fn gather_each<T: Cell>(column: &mut [i64], cells: &[T], elements: &Spaced, from: u32, count: u32)
     requires to { count ≤ length column.old }
     requires few { from + count < 2 ^ 32 }
     ensures many { length column.new ≡ length column.old }
-    ensures values { (i : ℕ) → i < count → slice_index_or column.new i (pos 0) ≡ slice_index_or cells.now (unsigned_abs (value_on elements.now (from + i))) (pos 0) }
+    ensures values { (i : ℕ) → i < count → slice_index_or column.new i (pos 0) ≡ slice_index_or (map T.element cells.now) (unsigned_abs (value_on elements.now (from + i))) (pos 0) }
 {
     for i in 0..count {
         column[i as usize] = element(cells, elements.at(from + i).unsigned_abs());
@@ -197,11 +218,11 @@ fn gather_each(column: &mut [i64], cells: &[i64], elements: &Spaced, from: u32, 
 
 /// An element of an array; 0 where it is not there.
 #[inline(always)]
-fn element(cells: &[i64], number: u64) -> i64
-    ensures { result ≡ slice_index_or cells.now number (pos 0) }
+fn element<T: Cell>(cells: &[T], number: u64) -> i64
+    ensures { result ≡ slice_index_or (map T.element cells.now) number (pos 0) }
 {
     match cells.get(number as usize) {
-        Some(value) => *value,
+        Some(cell) => cell.value(),
         None => 0,
     }
 }

@@ -8,7 +8,7 @@ use Rattle.sd_lex.specs.declared.syntax.operator.TwoSign.TheVariants.{Add}
 use Rattle.sd_num.specs.declared.resolution.Resolution.TheVariants.{Sum}
 use Rattle.sd_range.specs.Points.{tuples, points, ranges_of}
 use Rattle.sd_range.specs.Range.{range_values}
-use Rattle.sd_work.specs.Memory.{Memory, Memories, array}
+use Rattle.sd_work.specs.Memory.{Memory, Memories}
 use Rattle.sd_work.specs.Change.{changed_at}
 use Rattle.sd_work.specs.Leaf.{Leaf}
 use Rattle.sd_work.specs.Residual.{Term, leaf, owning}
@@ -20,7 +20,7 @@ use Rattle.sd_graph.specs.TreeParts.{containers_of}
 use Rattle.sd_graph.specs.ContainerParts.{name_at}
 use Rattle.sd_graph.specs.Context.{Context, Reach, private_memory, source_name}
 use Rattle.sd_graph.specs.Context as graph
-use Rattle.sd_graph.specs.Unfold.{at_point, at_element, element_memory, point_terms, unfold_kind, run_memory, list_of, reach_inside}
+use Rattle.sd_graph.specs.Unfold.{at_point, at_element, one_element, element_memory, point_terms, unfold_kind, run_memory, list_of, reach_inside}
 use Rattle.sd_graph.specs.declared.place.Place as graph_place
 use Rattle.sd_valid.specs.SizedValues.{sized}
 use Rattle.sd_valid.specs.SizedWork.{at_sizes, sized_containers, sized_kind, sized_items, sized_graph}
@@ -64,7 +64,7 @@ use Rattle.sd_tie.specs.items.Follows.{Follows}
 use Rattle.sd_tie.specs.items.Standing.{Fits, variables_named, variables_named_all, HasElements, HaveElements, StandsAt, Stands}
 use Rattle.sd_tie.proofs.items_lemmas.Following.{at-once, follows-then, follows-leaving, ends-with-nothing, long-tuples, follow-points}
 use Rattle.sd_tie.proofs.items_lemmas.Bounds.{takes-follow}
-use Rattle.sd_tie.proofs.items_lemmas.Memories.{own_tied, scope_memory_tied}
+use Rattle.sd_tie.proofs.items_lemmas.Memories.{own_tied, width_tied, scope_memory_tied}
 use Rattle.sd_tie.proofs.items_lemmas.Points.{ranges_same}
 use Rattle.sd_tie.proofs.items_lemmas.Entering.{own_same, HasOwn, own_rest, own_inside, is_own, still_own, in_point, in_element, behind_declared, behind_other}
 use Rattle.sd_tie.proofs.items_lemmas.CallsTied.{reach_tied}
@@ -252,7 +252,8 @@ module _ (sizes : List ℤ) (graphs : Name → GraphTree) (callable : Place → 
       (says_body calls all body (c + 1) (setting.with_container element (own_held all c) (inside_showing ((element, value) ∷ []) told)) most memories turns) in
       let make : ℤ → Term graph_place.Place = λ value. owning (element_memory context c own value) (list_of (at_element context c own value) items (sized_items sizes items (at_element context c own value))) in
       let memory : (value : ℤ) → element_memory context c own value ≡ said_memory value =
-      λ value. ap (changed_at c (λ old. array (value ∷ []))) (memory_same place c v table told context stands (c ∷ own) (c ∷ said.own_of body (c + 1)) (ap (λ numbers. c ∷ numbers) (own_same body (c + 1)))) in
+      λ value i. changed_at c (λ old. one_element (width_tied sizes all table context c stands.containers stands.declared i) value)
+      (memory_same place c v table told context stands (c ∷ own) (c ∷ said.own_of body (c + 1)) (ap (λ numbers. c ∷ numbers) (own_same body (c + 1))) i) in
       let held : held_by told stream ≡ held_at table (at_sizes sizes context) (container_number table stream) = held_found place.containers table told (at_sizes sizes context) stands.tied stands.numbered stream of_values known in
       subst (λ (container : Held). Follows (λ m. big_takes m container.reach.level container.reach.container (λ value. big_step (make value) m) memories turns) o) held
       (takes-follow (held_by told stream).reach.level (held_by told stream).reach.container make (λ value memories turns. leaving (told_for value (said_memory value ∷ memories) turns))

@@ -2,7 +2,7 @@
 use Rattle.std.proofs.Common.{◌≡◌, ◌∙◌, ℕ, zero, suc, ℤ, pos, List, [], ◌∷◌, map, replicate, Bool, true, false, if◌then◌else◌, slice_index_or, nat_eq, refl, ap, sym}
 use Rattle.std.specs.List.{list_any}
 use Rattle.sd_range.specs.Points.{product}
-use Rattle.sd_work.specs.Memory.{Contents, array, stream}
+use Rattle.sd_work.specs.Memory.{array, stream, absent}
 use Rattle.sd_graph.specs.ContainerParts as parts
 use Rattle.sd_graph.specs.ContainerParts.{Containers, container_at, no_container, is_stream, is_of_run}
 use Rattle.sd_graph.specs.Wiring.{has_number}
@@ -22,22 +22,19 @@ use Rattle.sd_says.specs.Declared as declared
 use Rattle.sd_tie.specs.elements.Tied.{shape_of, held_at}
 use Rattle.sd_tie.specs.items.Standing.{owner_of, declared_by}
 
-contents_tied : (container : Container) → parts.opening_contents container ≡ said.opening_contents (shape_of container)
+contents_tied : (container : Container) → parts.opening_contents container ≡ said.opening_contents container.width (shape_of container)
 contents_tied container = go (is_stream container.kind)
   where
-    go : (streams : Bool) → (if streams then stream [] else array (replicate (product (parts.extents_of container)) (pos 0))) ≡ said.opening_contents (if streams then a_stream else array_of (parts.extents_of container))
+    go : (streams : Bool) → (if streams then stream container.width [] else array container.width (replicate (product (parts.extents_of container)) (pos 0))) ≡ said.opening_contents container.width (if streams then a_stream else array_of (parts.extents_of container))
     go true = refl
     go false = refl
-
-kept_if : (b : Bool) (first other : Contents) → first ≡ other → (if b then first else array []) ≡ (if b then other else array [])
-kept_if b first other e = ap (λ contents. if b then contents else array []) e
 
 -- a memory
 memory_tied : (has : ℕ → ContainerKind → Bool) (has_owner : ℕ → Owner → Bool) → ((number : ℕ) (kind : ContainerKind) → has number kind ≡ has_owner number (owner_of kind)) →
     (sizes : List ℤ) (all : Containers) (number : ℕ) → memory_from has number (sized_containers sizes all) ≡ memory_where has_owner number (map (declared_by sizes) all)
 memory_tied has has_owner same sizes [] number = refl
 memory_tied has has_owner same sizes (entry ∷ all) number =
-    λ i. (if same number entry.1.kind i then contents_tied (bound_container sizes entry.1) i else array []) ∷ memory_tied has has_owner same sizes all (suc number) i
+    λ i. (if same number entry.1.kind i then contents_tied (bound_container sizes entry.1) i else absent) ∷ memory_tied has has_owner same sizes all (suc number) i
 
 pub scope_memory_tied : (sizes : List ℤ) (all : Containers) (own : List ℕ) → private_memory (sized_containers sizes all) own ≡ scope_memory (map (declared_by sizes) all) own
 scope_memory_tied sizes all own = memory_tied (λ number kind. has_number own number) (λ number owner. list_any (nat_eq number) own) (λ number kind. refl) sizes all 0
@@ -68,6 +65,13 @@ pub extents_tied : (all : Containers) (number : ℕ) → extents_at all number �
 extents_tied [] number = refl
 extents_tied (entry ∷ all) zero = refl
 extents_tied (entry ∷ all) (suc number) = extents_tied all number
+
+-- the width of a container
+pub width_tied : (sizes : List ℤ) (all : List Declaration) (table : Table) (context : Context) (number : ℕ) → context.containers ≡ sized_containers sizes table.all → all ≡ map (declared_by sizes) table.all →
+    (container_at context.containers number).width ≡ (declaration_at all number).width
+width_tied sizes all table context number containers declared =
+    ap (λ known. (container_at known number).width) containers ∙ ap (λ (container : Container). container.width) (container_tied sizes table.all number)
+    ∙ ap (λ (declaration : Declaration). declaration.width) (sym (declaration_tied sizes table.all number)) ∙ ap (λ known. (declaration_at known number).width) (sym declared)
 
 -- a container of the innermost memory
 reach_tied : (container : Container) (number : ℕ) → extents_of_shape (shape_of container) ≡ parts.extents_of container → graph.found container ≡ said.element_number (extents_of_shape (shape_of container))

@@ -93,9 +93,9 @@ module _ (named : Named ℤ) where
   as_array kind owner e of name extents affine = record { declared = made kind e of; right = right_array kind e extents affine }
     where
       made : (kind : ContainerKind) → is_stream kind ≡ false → owner_of kind ≡ owner → declared_by sizes (name, record { extents = extents_of (numbered named) extents; kind = kind; width = W64 }) ≡ array_declared named extents owner
-      made Argument e of = λ i. record { shape = array_of (extents_said named extents affine i); unit = said.is_unit (symbols_of named) extents; owner = of i }
-      made Transient e of = λ i. record { shape = array_of (extents_said named extents affine i); unit = said.is_unit (symbols_of named) extents; owner = of i }
-      made Private e of = λ i. record { shape = array_of (extents_said named extents affine i); unit = said.is_unit (symbols_of named) extents; owner = of i }
+      made Argument e of = λ i. record { shape = array_of (extents_said named extents affine i); width = W64; unit = said.is_unit (symbols_of named) extents; owner = of i }
+      made Transient e of = λ i. record { shape = array_of (extents_said named extents affine i); width = W64; unit = said.is_unit (symbols_of named) extents; owner = of i }
+      made Private e of = λ i. record { shape = array_of (extents_said named extents affine i); width = W64; unit = said.is_unit (symbols_of named) extents; owner = of i }
       made Stream e of = cc
       made PrivateStream e of = cc
 
@@ -110,7 +110,7 @@ module _ (named : Named ℤ) where
 
   as_element : (name : Name) → IsAs (name, record { extents = affine_number (pos 1) ∷ []; kind = Private; width = W64 }) element_declared
   as_element name = record {
-    declared = λ i. record { shape = array_of (unsigned_abs (number_value sizes (pos 1) i) ∷ []); unit = true; owner = of_scope };
+    declared = λ i. record { shape = array_of (unsigned_abs (number_value sizes (pos 1) i) ∷ []); width = W64; unit = true; owner = of_scope };
     right = record {
       bare = refl;
       extents = λ none values.

@@ -37,7 +37,7 @@ owner_of PrivateStream = of_scope
 
 -- a container of the graph, with these sizes, as a statement declares it
 abbrev pub declared_by : (sizes : List ℤ) → Name × Container → Declaration
-declared_by sizes entry = record { shape = shape_of (bound_container sizes entry.1); unit = are_units entry.1.extents; owner = owner_of entry.1.kind }
+declared_by sizes entry = record { shape = shape_of (bound_container sizes entry.1); width = entry.1.width; unit = are_units entry.1.extents; owner = owner_of entry.1.kind }
 
 -- ---- what a statement fulfils in its place
 

@@ -1,6 +1,8 @@
 -- What a whole term has of begun instances that still read, of values left to push and of values that wait.
 use Rattle.std.proofs.Common.{◌≡◌, ℕ, zero, suc, ◌+◌, ◌<◌, ℤ, List, [], ◌∷◌, ◌++◌, length, map, Option, Some, Bool, true, false, ◌&&◌, ap, arith, slice_index_or, slice_get, refl}
 use Rattle.sd_num.specs.declared.resolution.Resolution.{Resolution}
+use Rattle.sd_num.specs.declared.width.Width.{Width}
+use Rattle.sd_num.specs.declared.width.Width.TheVariants.{W64}
 use Rattle.sd_work.specs.Memory.{Contents, array, stream, Memory, Memories, Reference, values_of, contents_of, waiting}
 use Rattle.sd_work.specs.Change.{write, take, written, changed_at, without, with_elements, with_values, apply}
 use Rattle.sd_work.specs.Leaf.{Pending, write_value, transfer, push_to, Leaf, reading, doing}
@@ -90,24 +92,24 @@ without_less k [] v h = cc
 without_less zero (x ∷ vs) v h = omega arith
 without_less (suc k) (x ∷ vs) v h = let r : length (without k vs) < length vs = without_less k vs v h in omega (arith, r)
 
-taken_less : (k : ℕ) (c : Contents) (v : ℤ) → slice_get (values_of c) k ≡ Some v → values_in (with_values (without k) c) < values_in c
-taken_less k (array elements) v h = cc
-taken_less k (stream values) v h = without_less k values v h
+taken_less : (k : ℕ) (c : Contents) (v : ℤ) → slice_get (values_of c) k ≡ Some v → values_in (with_values (λ width. without k) c) < values_in c
+taken_less k (array width elements) v h = cc
+taken_less k (stream width values) v h = without_less k values v h
 
-elements_hold : (f : List ℤ → List ℤ) (c : Contents) → values_in (with_elements f c) ≡ values_in c
-elements_hold f (array elements) = refl
-elements_hold f (stream values) = refl
+elements_hold : (f : Width → List ℤ → List ℤ) (c : Contents) → values_in (with_elements f c) ≡ values_in c
+elements_hold f (array width elements) = refl
+elements_hold f (stream width values) = refl
 
 -- a write leaves the number of values that wait
 pub stacked-write : (to : Reference) (by : Option Resolution) (v : ℤ) (s : Memories) → stacked (apply (write to by v) s) ≡ stacked s
 stacked-write to by v s =
-    added-changed_at held _ (λ m. added-changed_at values_in _ (λ c. elements_hold (changed_at to.element (written by v)) c) to.container m) to.level s
+    added-changed_at held _ (λ m. added-changed_at values_in _ (λ c. elements_hold (λ width. changed_at to.element (written width by v)) c) to.container m) to.level s
 
 -- taking a value that waits leaves fewer
 pub stacked-take : (l c k : ℕ) (s : Memories) (v : ℤ) → slice_get (waiting l c s) k ≡ Some v → stacked (apply (take l c k) s) < stacked s
 stacked-take l c k s v h =
-    less_at held (changed_at c (with_values (without k))) [] refl l s
-    (less_at values_in (with_values (without k)) (stream []) refl c (slice_index_or s l []) (taken_less k (contents_of l c s) v h))
+    less_at held (changed_at c (with_values (λ width. without k))) [] refl l s
+    (less_at values_in (with_values (λ width. without k)) (stream W64 []) refl c (slice_index_or s l []) (taken_less k (contents_of l c s) v h))
 
 -- ---- new terms
 

@@ -2,6 +2,7 @@
 use Rattle.std.proofs.Common.{◌≡◌, pos, [], ◌∷◌, None, true, false, refl}
 use Rattle.std.specs.Int.{int_wrap}
 use Rattle.sd_work.specs.declared.fault.FaultKind.TheVariants.{Subscript}
+use Rattle.sd_num.specs.declared.width.Width.TheVariants.{W64}
 use Rattle.sd_work.specs.Memory.{array}
 use Rattle.sd_work.specs.Residual.{pool, idle, busy}
 use Rattle.sd_work.specs.BigRun.{big_run}
@@ -9,32 +10,32 @@ use Rattle.sd_work.proofs.examples.ExampleParts.{cell, task, sets, two, then, po
 use Rattle.sd_work.proofs.examples.RunExamples.{pair, two_points, counts, lists, loop, nested_loop}
 use Rattle.sd_work.proofs.examples.PoolExamples.{memory, counts_down, writes, by_element, passes_on}
 
-points_are_done_in_order : big_run two_points 1 2 ≡ done (array (pos 6 ∷ pos 0 ∷ []) ∷ []) 0
+points_are_done_in_order : big_run two_points 1 2 ≡ done (array W64 (pos 6 ∷ pos 0 ∷ []) ∷ []) 0
 unfolding int_wrap
 points_are_done_in_order = refl
 
-items_are_done_in_order : big_run (graph (then (sets 1 (cell 0 0 0) (pos 5)) (sets 2 (cell 0 0 0) (pos 6))) pair) 1 3 ≡ done (array (pos 6 ∷ pos 0 ∷ []) ∷ []) 1
+items_are_done_in_order : big_run (graph (then (sets 1 (cell 0 0 0) (pos 5)) (sets 2 (cell 0 0 0) (pos 6))) pair) 1 3 ≡ done (array W64 (pos 6 ∷ pos 0 ∷ []) ∷ []) 1
 unfolding int_wrap
 items_are_done_in_order = refl
 
-private_containers_are_dropped : big_run (graph (points (two (counts 0) (counts 1))) lists) 1 2 ≡ done (array (pos 3 ∷ pos 4 ∷ []) ∷ array (pos 3 ∷ pos 4 ∷ []) ∷ []) 0
+private_containers_are_dropped : big_run (graph (points (two (counts 0) (counts 1))) lists) 1 2 ≡ done (array W64 (pos 3 ∷ pos 4 ∷ []) ∷ array W64 (pos 3 ∷ pos 4 ∷ []) ∷ []) 0
 unfolding int_wrap
 private_containers_are_dropped = refl
 
-a_loop_is_done_round_by_round : big_run (loop (array (pos 3 ∷ pos 0 ∷ []) ∷ [])) 9 8 ≡ done (array (pos 0 ∷ pos 6 ∷ []) ∷ []) 0
+a_loop_is_done_round_by_round : big_run (loop (array W64 (pos 3 ∷ pos 0 ∷ []) ∷ [])) 9 8 ≡ done (array W64 (pos 0 ∷ pos 6 ∷ []) ∷ []) 0
 unfolding int_wrap
 a_loop_is_done_round_by_round = refl
 
-a_loop_wants_each_turn : big_run (loop (array (pos 3 ∷ pos 0 ∷ []) ∷ [])) 9 7 ≡ spent
+a_loop_wants_each_turn : big_run (loop (array W64 (pos 3 ∷ pos 0 ∷ []) ∷ [])) 9 7 ≡ spent
 unfolding int_wrap
 a_loop_wants_each_turn = refl
 
 -- four transitions: into the loop, two rounds, and the end
-transitions_are_counted : big_run (loop (array (pos 3 ∷ pos 0 ∷ []) ∷ [])) 3 8 ≡ None
+transitions_are_counted : big_run (loop (array W64 (pos 3 ∷ pos 0 ∷ []) ∷ [])) 3 8 ≡ None
 unfolding int_wrap
 transitions_are_counted = refl
 
-transitions_are_enough : big_run (loop (array (pos 3 ∷ pos 0 ∷ []) ∷ [])) 4 8 ≡ done (array (pos 0 ∷ pos 6 ∷ []) ∷ []) 0
+transitions_are_enough : big_run (loop (array W64 (pos 3 ∷ pos 0 ∷ []) ∷ [])) 4 8 ≡ done (array W64 (pos 0 ∷ pos 6 ∷ []) ∷ []) 0
 unfolding int_wrap
 transitions_are_enough = refl
 

@@ -3,16 +3,17 @@ use Rattle.std.proofs.Common.{ℕ, ◌≡◌, pos, negsuc, neg_ℤ, ◌-◌, ◌
 use Rattle.std.specs.Int.{int_wrap}
 use Rattle.sd_num.specs.declared.resolution.Resolution.{Resolution}
 use Rattle.sd_num.specs.declared.resolution.Resolution.TheVariants.{Sum, Min, Last}
+use Rattle.sd_num.specs.declared.width.Width.TheVariants.{W64}
 use Rattle.sd_work.specs.Memory.{Memory, Memories, Reference, array, stream, look, seen, waiting}
 use Rattle.sd_work.specs.Change.{Change, nothing, write, push, take, apply, outer, own_after}
 use Rattle.sd_work.specs.Harmless.{AreHarmless, SparesElement, SparesStream}
 
 -- a private array and stream, and an array and a stream outside
 abbrev inner : Memory
-inner = array (pos 1 ∷ pos 2 ∷ []) ∷ stream [] ∷ []
+inner = array W64 (pos 1 ∷ pos 2 ∷ []) ∷ stream W64 [] ∷ []
 
 abbrev round : Memory
-round = array (pos 3 ∷ pos 4 ∷ pos 5 ∷ []) ∷ stream (pos 6 ∷ pos 7 ∷ pos 8 ∷ []) ∷ []
+round = array W64 (pos 3 ∷ pos 4 ∷ pos 5 ∷ []) ∷ stream W64 (pos 6 ∷ pos 7 ∷ pos 8 ∷ []) ∷ []
 
 abbrev both : Memories
 both = inner ∷ round ∷ []
@@ -29,35 +30,35 @@ the_oldest_value_waits_first = refl
 nothing_changes_nothing : apply nothing both ≡ both
 nothing_changes_nothing = refl
 
-a_write_replaces : apply (write (record { level = 1; container = 0; element = 1 }) None (pos 9)) both ≡ inner ∷ (array (pos 3 ∷ pos 9 ∷ pos 5 ∷ []) ∷ stream (pos 6 ∷ pos 7 ∷ pos 8 ∷ []) ∷ []) ∷ []
+a_write_replaces : apply (write (record { level = 1; container = 0; element = 1 }) None (pos 9)) both ≡ inner ∷ (array W64 (pos 3 ∷ pos 9 ∷ pos 5 ∷ []) ∷ stream W64 (pos 6 ∷ pos 7 ∷ pos 8 ∷ []) ∷ []) ∷ []
 unfolding int_wrap
 a_write_replaces = refl
 
-a_write_with_a_resolution_resolves : apply (write (record { level = 0; container = 0; element = 1 }) (Some Sum) (pos 9)) both ≡ (array (pos 1 ∷ pos 11 ∷ []) ∷ stream [] ∷ []) ∷ round ∷ []
+a_write_with_a_resolution_resolves : apply (write (record { level = 0; container = 0; element = 1 }) (Some Sum) (pos 9)) both ≡ (array W64 (pos 1 ∷ pos 11 ∷ []) ∷ stream W64 [] ∷ []) ∷ round ∷ []
 unfolding int_wrap
 a_write_with_a_resolution_resolves = refl
 
-the_last_one_replaces : apply (write (record { level = 0; container = 0; element = 0 }) (Some Last) (pos 9)) both ≡ (array (pos 9 ∷ pos 2 ∷ []) ∷ stream [] ∷ []) ∷ round ∷ []
+the_last_one_replaces : apply (write (record { level = 0; container = 0; element = 0 }) (Some Last) (pos 9)) both ≡ (array W64 (pos 9 ∷ pos 2 ∷ []) ∷ stream W64 [] ∷ []) ∷ round ∷ []
 unfolding int_wrap
 the_last_one_replaces = refl
 
-a_written_value_is_an_element : apply (write (record { level = 0; container = 0; element = 0 }) None (pos (2 ^ 63))) both ≡ (array (neg_ℤ (pos (2 ^ 63)) ∷ pos 2 ∷ []) ∷ stream [] ∷ []) ∷ round ∷ []
+a_written_value_is_an_element : apply (write (record { level = 0; container = 0; element = 0 }) None (pos (2 ^ 63))) both ≡ (array W64 (neg_ℤ (pos (2 ^ 63)) ∷ pos 2 ∷ []) ∷ stream W64 [] ∷ []) ∷ round ∷ []
 unfolding int_wrap
 a_written_value_is_an_element = refl
 
-a_resolved_value_is_an_element : apply (write (record { level = 0; container = 0; element = 0 }) (Some Min) (pos (2 ^ 64 - 1))) both ≡ (array (negsuc 0 ∷ pos 2 ∷ []) ∷ stream [] ∷ []) ∷ round ∷ []
+a_resolved_value_is_an_element : apply (write (record { level = 0; container = 0; element = 0 }) (Some Min) (pos (2 ^ 64 - 1))) both ≡ (array W64 (negsuc 0 ∷ pos 2 ∷ []) ∷ stream W64 [] ∷ []) ∷ round ∷ []
 unfolding int_wrap
 a_resolved_value_is_an_element = refl
 
-a_push_appends : apply (push 1 1 (pos 9)) both ≡ inner ∷ (array (pos 3 ∷ pos 4 ∷ pos 5 ∷ []) ∷ stream (pos 6 ∷ pos 7 ∷ pos 8 ∷ pos 9 ∷ []) ∷ []) ∷ []
+a_push_appends : apply (push 1 1 (pos 9)) both ≡ inner ∷ (array W64 (pos 3 ∷ pos 4 ∷ pos 5 ∷ []) ∷ stream W64 (pos 6 ∷ pos 7 ∷ pos 8 ∷ pos 9 ∷ []) ∷ []) ∷ []
 unfolding int_wrap
 a_push_appends = refl
 
-a_pushed_value_is_an_element : apply (push 0 1 (pos (2 ^ 64))) both ≡ (array (pos 1 ∷ pos 2 ∷ []) ∷ stream (pos 0 ∷ []) ∷ []) ∷ round ∷ []
+a_pushed_value_is_an_element : apply (push 0 1 (pos (2 ^ 64))) both ≡ (array W64 (pos 1 ∷ pos 2 ∷ []) ∷ stream W64 (pos 0 ∷ []) ∷ []) ∷ round ∷ []
 unfolding int_wrap
 a_pushed_value_is_an_element = refl
 
-a_take_is_of_its_position : apply (take 1 1 1) both ≡ inner ∷ (array (pos 3 ∷ pos 4 ∷ pos 5 ∷ []) ∷ stream (pos 6 ∷ pos 8 ∷ []) ∷ []) ∷ []
+a_take_is_of_its_position : apply (take 1 1 1) both ≡ inner ∷ (array W64 (pos 3 ∷ pos 4 ∷ pos 5 ∷ []) ∷ stream W64 (pos 6 ∷ pos 8 ∷ []) ∷ []) ∷ []
 unfolding int_wrap
 a_take_is_of_its_position = refl
 

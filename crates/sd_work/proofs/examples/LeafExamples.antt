@@ -3,6 +3,7 @@ use Rattle.std.proofs.Common.{◌≡◌, ℕ, pos, negsuc, ◌-ℤ◌, List, [],
 use Rattle.std.specs.Int.{int_wrap}
 use Rattle.sd_num.specs.declared.resolution.Resolution.TheVariants.{Sum, Last}
 use Rattle.sd_work.specs.declared.fault.FaultKind.TheVariants.{Division, Subscript}
+use Rattle.sd_num.specs.declared.width.Width.TheVariants.{W64}
 use Rattle.sd_work.specs.Memory.{Memory, array, stream, Reference}
 use Rattle.sd_work.specs.Leaf.{write_value, push_to, instance_of, copy_of, reduction_of}
 use Rattle.sd_work.specs.Residual.{Term, leaf}
@@ -11,13 +12,13 @@ use Rattle.sd_work.proofs.examples.ExampleParts.{cell, value_of, task, sets, gra
 -- ---- an instance with two inputs: the difference of two elements into a third, and onto a stream
 
 abbrev before : Memory
-before = array (pos 3 ∷ pos 7 ∷ pos 0 ∷ []) ∷ stream (pos 1 ∷ []) ∷ []
+before = array W64 (pos 3 ∷ pos 7 ∷ pos 0 ∷ []) ∷ stream W64 (pos 1 ∷ []) ∷ []
 
 abbrev difference : Term ℕ
 difference = graph (task 5 (cell 0 0 0 ∷ cell 0 0 1 ∷ []) (λ values.
     write_value (value_of values 0 -ℤ value_of values 1) (cell 0 0 2) None ∷ push_to 0 1 (value_of values 0) ∷ [])) before
 
-turns_exactly_enough : run_of [] difference 1 ≡ done (array (pos 3 ∷ pos 7 ∷ negsuc 3 ∷ []) ∷ stream (pos 1 ∷ pos 3 ∷ []) ∷ []) 0
+turns_exactly_enough : run_of [] difference 1 ≡ done (array W64 (pos 3 ∷ pos 7 ∷ negsuc 3 ∷ []) ∷ stream W64 (pos 1 ∷ pos 3 ∷ []) ∷ []) 0
 unfolding int_wrap
 turns_exactly_enough = refl
 
@@ -36,7 +37,7 @@ a_spent_step_is_traced = refl
 abbrev twice : Term ℕ
 twice = graph (task 5 [] (λ values. write_value (pos 4) (cell 0 0 0) None ∷ write_value (pos 5) (cell 0 0 0) None ∷ [])) before
 
-effects_go_in_order : run_of [] twice 1 ≡ done (array (pos 5 ∷ pos 7 ∷ pos 0 ∷ []) ∷ stream (pos 1 ∷ []) ∷ []) 0
+effects_go_in_order : run_of [] twice 1 ≡ done (array W64 (pos 5 ∷ pos 7 ∷ pos 0 ∷ []) ∷ stream W64 (pos 1 ∷ []) ∷ []) 0
 unfolding int_wrap
 effects_go_in_order = refl
 
@@ -44,7 +45,7 @@ effects_go_in_order = refl
 abbrev added : Term ℕ
 added = graph (task 5 [] (λ values. write_value (pos 4) (cell 0 0 0) (Some Sum) ∷ [])) before
 
-an_effect_is_resolved : run_of [] added 1 ≡ done (array (pos 7 ∷ pos 7 ∷ pos 0 ∷ []) ∷ stream (pos 1 ∷ []) ∷ []) 0
+an_effect_is_resolved : run_of [] added 1 ≡ done (array W64 (pos 7 ∷ pos 7 ∷ pos 0 ∷ []) ∷ stream W64 (pos 1 ∷ []) ∷ []) 0
 unfolding int_wrap
 an_effect_is_resolved = refl
 
@@ -87,7 +88,7 @@ abbrev turned_round : Term ℕ
 turned_round = graph (leaf 8 (copy_of ((cell 0 0 0, cell 0 0 1) ∷ (cell 0 0 1, cell 0 0 2) ∷ []))) before
 
 -- the second element is read after the first one is written
-a_copy_goes_element_by_element : run_of [] turned_round 0 ≡ done (array (pos 3 ∷ pos 3 ∷ pos 3 ∷ []) ∷ stream (pos 1 ∷ []) ∷ []) 0
+a_copy_goes_element_by_element : run_of [] turned_round 0 ≡ done (array W64 (pos 3 ∷ pos 3 ∷ pos 3 ∷ []) ∷ stream W64 (pos 1 ∷ []) ∷ []) 0
 unfolding int_wrap
 a_copy_goes_element_by_element = refl
 
@@ -106,16 +107,16 @@ a_copy_of_nothing_is_no_move = refl
 
 -- both elements summed into the third one, which holds 2
 abbrev filled : Memory
-filled = array (pos 3 ∷ pos 7 ∷ pos 2 ∷ []) ∷ []
+filled = array W64 (pos 3 ∷ pos 7 ∷ pos 2 ∷ []) ∷ []
 
 abbrev pairs : List (Option Reference × Option Reference)
 pairs = (cell 0 0 0, cell 0 0 2) ∷ (cell 0 0 1, cell 0 0 2) ∷ []
 
-a_reduction_resolves_into_its_target : run_of [] (graph (leaf 9 (reduction_of Sum None (cell 0 0 2 ∷ []) pairs)) filled) 0 ≡ done (array (pos 3 ∷ pos 7 ∷ pos 12 ∷ []) ∷ []) 0
+a_reduction_resolves_into_its_target : run_of [] (graph (leaf 9 (reduction_of Sum None (cell 0 0 2 ∷ []) pairs)) filled) 0 ≡ done (array W64 (pos 3 ∷ pos 7 ∷ pos 12 ∷ []) ∷ []) 0
 unfolding int_wrap
 a_reduction_resolves_into_its_target = refl
 
-a_reduction_begins_with_its_identity : run_of [] (graph (leaf 9 (reduction_of Sum (Some (pos 0)) (cell 0 0 2 ∷ []) pairs)) filled) 0 ≡ done (array (pos 3 ∷ pos 7 ∷ pos 10 ∷ []) ∷ []) 0
+a_reduction_begins_with_its_identity : run_of [] (graph (leaf 9 (reduction_of Sum (Some (pos 0)) (cell 0 0 2 ∷ []) pairs)) filled) 0 ≡ done (array W64 (pos 3 ∷ pos 7 ∷ pos 10 ∷ []) ∷ []) 0
 unfolding int_wrap
 a_reduction_begins_with_its_identity = refl
 
@@ -123,6 +124,6 @@ a_reduction_begins_with_its_identity = refl
 a_reduction_is_one_move_an_element : trace_of [] (graph (leaf 9 (reduction_of Sum (Some (pos 0)) (cell 0 0 2 ∷ []) pairs)) filled) 0 ≡ (0, 1) ∷ (0, 1) ∷ (0, 1) ∷ (0, 1) ∷ []
 a_reduction_is_one_move_an_element = refl
 
-a_reduction_by_the_last_keeps_the_last : run_of [] (graph (leaf 9 (reduction_of Last None (cell 0 0 2 ∷ []) pairs)) filled) 0 ≡ done (array (pos 3 ∷ pos 7 ∷ pos 7 ∷ []) ∷ []) 0
+a_reduction_by_the_last_keeps_the_last : run_of [] (graph (leaf 9 (reduction_of Last None (cell 0 0 2 ∷ []) pairs)) filled) 0 ≡ done (array W64 (pos 3 ∷ pos 7 ∷ pos 7 ∷ []) ∷ []) 0
 unfolding int_wrap
 a_reduction_by_the_last_keeps_the_last = refl

@@ -2,6 +2,7 @@
 use Rattle.std.proofs.Common.{◌≡◌, ◌<◌, ℕ, zero, suc, ℤ, pos, List, [], ◌∷◌, Result, Ok, true, false, refl, sym, subst, inl, inr, arith}
 use Rattle.std.specs.Int.{int_wrap}
 use Rattle.sd_work.specs.declared.fault.FaultKind.{FaultKind}
+use Rattle.sd_num.specs.declared.width.Width.TheVariants.{W64}
 use Rattle.sd_work.specs.Memory.{Memory, array, stream}
 use Rattle.sd_work.specs.Leaf.{Pending, push_to}
 use Rattle.sd_work.specs.Residual.{Term, list, Items, Points, pool, idle, busy, part_at}
@@ -118,7 +119,7 @@ such_a_pool_is_passed_from_left_to_right = refl
 -- ---- two active terms, of which the first feeds a pool of the second
 
 abbrev with_another : (values : List ℤ) → (element : ℤ) → Memory
-with_another values element = array (element ∷ []) ∷ stream [] ∷ stream values ∷ []
+with_another values element = array W64 (element ∷ []) ∷ stream W64 [] ∷ stream W64 values ∷ []
 
 abbrev two_active : Term ℕ
 two_active = graph

@@ -2,6 +2,7 @@
 use Rattle.std.proofs.Common.{◌≡◌, ℕ, zero, suc, ℤ, pos, negsuc, List, [], ◌∷◌, Some, false, refl}
 use Rattle.std.specs.Int.{int_wrap}
 use Rattle.sd_num.specs.declared.resolution.Resolution.TheVariants.{Sum}
+use Rattle.sd_num.specs.declared.width.Width.TheVariants.{W64}
 use Rattle.sd_work.specs.Memory.{Memory, array, stream}
 use Rattle.sd_work.specs.Leaf.{Pending, write_value, push_to, doing}
 use Rattle.sd_work.specs.Residual.{Term, leaf, owning, pool, idle, busy, list, Items, also}
@@ -9,7 +10,7 @@ use Rattle.sd_work.specs.Step.{opening, next_moves}
 use Rattle.sd_work.proofs.examples.ExampleParts.{cell, value_of, task, sets, two, unordered, then, points, graph, run_of, trace_of, done, spent}
 
 abbrev pub memory : (element : ℤ) → (values : List ℤ) → Memory
-memory element values = array (element ∷ []) ∷ stream values ∷ []
+memory element values = array W64 (element ∷ []) ∷ stream W64 values ∷ []
 
 -- a consume scope over the stream that is container 1 at this level
 abbrev consume : (level : ℕ) → (ℤ → Term ℕ) → Term ℕ
@@ -72,7 +73,7 @@ a_finished_active_term_is_kept = refl
 
 -- an element container is private to its active term
 abbrev pub by_element : Term ℕ
-by_element = consume 0 (λ value. owning (array (value ∷ []) ∷ []) (task 1 (cell 0 0 0 ∷ []) (λ values. write_value (value_of values 0) (cell 1 0 0) (Some Sum) ∷ [])))
+by_element = consume 0 (λ value. owning (array W64 (value ∷ []) ∷ []) (task 1 (cell 0 0 0 ∷ []) (λ values. write_value (value_of values 0) (cell 1 0 0) (Some Sum) ∷ [])))
 
 an_active_term_has_its_element : run_of (1 ∷ 1 ∷ []) (graph by_element (memory (pos 0) (pos 7 ∷ pos 8 ∷ []))) 2 ≡ done (memory (pos 15) []) 0
 unfolding int_wrap

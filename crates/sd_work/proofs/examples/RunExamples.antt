@@ -4,6 +4,7 @@ use Rattle.std.specs.Int.{int_wrap}
 use Rattle.sd_num.specs.declared.resolution.Resolution.TheVariants.{Sum}
 use Rattle.sd_work.specs.declared.fault.FaultKind.{FaultKind}
 use Rattle.sd_work.specs.declared.fault.FaultKind.TheVariants.{Division, Subscript}
+use Rattle.sd_num.specs.declared.width.Width.TheVariants.{W64}
 use Rattle.sd_work.specs.Memory.{Memory, array, Reference}
 use Rattle.sd_work.specs.Leaf.{write_value, copy_of}
 use Rattle.sd_work.specs.Exit.{Values, Guard, Exit}
@@ -15,16 +16,16 @@ use Rattle.sd_work.proofs.examples.ExampleParts.{cell, value_of, task, sets, two
 -- ---- two points that write one element
 
 abbrev pub pair : Memory
-pair = array (pos 0 ∷ pos 0 ∷ []) ∷ []
+pair = array W64 (pos 0 ∷ pos 0 ∷ []) ∷ []
 
 abbrev pub two_points : Term ℕ
 two_points = graph (points (two (sets 1 (cell 0 0 0) (pos 5)) (sets 2 (cell 0 0 0) (pos 6)))) pair
 
-points_go_in_order : run_of [] two_points 2 ≡ done (array (pos 6 ∷ pos 0 ∷ []) ∷ []) 0
+points_go_in_order : run_of [] two_points 2 ≡ done (array W64 (pos 6 ∷ pos 0 ∷ []) ∷ []) 0
 unfolding int_wrap
 points_go_in_order = refl
 
-points_may_go_in_another_order : run_of (1 ∷ 1 ∷ []) two_points 2 ≡ done (array (pos 5 ∷ pos 0 ∷ []) ∷ []) 0
+points_may_go_in_another_order : run_of (1 ∷ 1 ∷ []) two_points 2 ≡ done (array W64 (pos 5 ∷ pos 0 ∷ []) ∷ []) 0
 unfolding int_wrap
 points_may_go_in_another_order = refl
 
@@ -36,7 +37,7 @@ the_moves_of_points_are_counted = refl
 a_pick_is_taken_modulo_the_moves : trace_of (3 ∷ 2 ∷ []) two_points 2 ≡ (1, 2) ∷ (0, 2) ∷ (0, 2) ∷ (0, 1) ∷ (0, 1) ∷ []
 a_pick_is_taken_modulo_the_moves = refl
 
-a_run_by_picks : Run two_points 2 (1 ∷ 1 ∷ []) (Done (record { memory = array (pos 5 ∷ pos 0 ∷ []) ∷ []; turns = 0 }))
+a_run_by_picks : Run two_points 2 (1 ∷ 1 ∷ []) (Done (record { memory = array W64 (pos 5 ∷ pos 0 ∷ []) ∷ []; turns = 0 }))
 unfolding int_wrap
 a_run_by_picks = (6, refl)
 
@@ -44,7 +45,7 @@ a_sequential_run : Sequential two_points 1 Spent
 a_sequential_run = (3, refl)
 
 -- after the one pick the leftmost moves are made
-a_pick_is_used_once : run_of (1 ∷ []) two_points 2 ≡ done (array (pos 6 ∷ pos 0 ∷ []) ∷ []) 0
+a_pick_is_used_once : run_of (1 ∷ []) two_points 2 ≡ done (array W64 (pos 6 ∷ pos 0 ∷ []) ∷ []) 0
 unfolding int_wrap
 a_pick_is_used_once = refl
 
@@ -90,18 +91,18 @@ no_move_changes_nothing = refl
 -- ---- private containers: each point counts in its own one, which begins at zero, and writes it outside
 
 abbrev pub counts : ℕ → Term ℕ
-counts k = owning (array (pos 0 ∷ []) ∷ []) (then
+counts k = owning (array W64 (pos 0 ∷ []) ∷ []) (then
     (task 1 (cell 1 0 k ∷ cell 0 0 0 ∷ []) (λ values. write_value (value_of values 0 +ℤ value_of values 1) (cell 0 0 0) None ∷ []))
     (leaf 2 (copy_of ((cell 0 0 0, cell 1 1 k) ∷ []))))
 
 abbrev pub lists : Memory
-lists = array (pos 3 ∷ pos 4 ∷ []) ∷ array (pos 0 ∷ pos 0 ∷ []) ∷ []
+lists = array W64 (pos 3 ∷ pos 4 ∷ []) ∷ array W64 (pos 0 ∷ pos 0 ∷ []) ∷ []
 
-private_containers_are_apart : run_of [] (graph (points (two (counts 0) (counts 1))) lists) 2 ≡ done (array (pos 3 ∷ pos 4 ∷ []) ∷ array (pos 3 ∷ pos 4 ∷ []) ∷ []) 0
+private_containers_are_apart : run_of [] (graph (points (two (counts 0) (counts 1))) lists) 2 ≡ done (array W64 (pos 3 ∷ pos 4 ∷ []) ∷ array W64 (pos 3 ∷ pos 4 ∷ []) ∷ []) 0
 unfolding int_wrap
 private_containers_are_apart = refl
 
-private_containers_are_apart_in_any_order : run_of (0 ∷ 1 ∷ 0 ∷ 1 ∷ 0 ∷ 1 ∷ 1 ∷ 0 ∷ 1 ∷ []) (graph (points (two (counts 0) (counts 1))) lists) 2 ≡ done (array (pos 3 ∷ pos 4 ∷ []) ∷ array (pos 3 ∷ pos 4 ∷ []) ∷ []) 0
+private_containers_are_apart_in_any_order : run_of (0 ∷ 1 ∷ 0 ∷ 1 ∷ 0 ∷ 1 ∷ 1 ∷ 0 ∷ 1 ∷ []) (graph (points (two (counts 0) (counts 1))) lists) 2 ≡ done (array W64 (pos 3 ∷ pos 4 ∷ []) ∷ array W64 (pos 3 ∷ pos 4 ∷ []) ∷ []) 0
 unfolding int_wrap
 private_containers_are_apart_in_any_order = refl
 
@@ -130,24 +131,24 @@ abbrev pub loop : Memory → Term ℕ
 loop memory = begun round leads memory []
 
 -- three rounds of two turns, and two turns for the transitions between them
-a_loop_runs_until_its_condition_fails : run_of [] (loop (array (pos 3 ∷ pos 0 ∷ []) ∷ [])) 8 ≡ done (array (pos 0 ∷ pos 6 ∷ []) ∷ []) 0
+a_loop_runs_until_its_condition_fails : run_of [] (loop (array W64 (pos 3 ∷ pos 0 ∷ []) ∷ [])) 8 ≡ done (array W64 (pos 0 ∷ pos 6 ∷ []) ∷ []) 0
 unfolding int_wrap
 a_loop_runs_until_its_condition_fails = refl
 
-a_loop_wants_its_turns : run_of [] (loop (array (pos 3 ∷ pos 0 ∷ []) ∷ [])) 7 ≡ spent
+a_loop_wants_its_turns : run_of [] (loop (array W64 (pos 3 ∷ pos 0 ∷ []) ∷ [])) 7 ≡ spent
 unfolding int_wrap
 a_loop_wants_its_turns = refl
 
 -- the marked transition is the one that finds no turn
-a_marked_transition_spends_a_turn : trace_of [] (loop (array (pos 2 ∷ pos 0 ∷ []) ∷ [])) 2 ≡ (0, 1) ∷ (0, 1) ∷ (0, 1) ∷ (0, 1) ∷ (0, 1) ∷ (0, 1) ∷ (0, 1) ∷ []
+a_marked_transition_spends_a_turn : trace_of [] (loop (array W64 (pos 2 ∷ pos 0 ∷ []) ∷ [])) 2 ≡ (0, 1) ∷ (0, 1) ∷ (0, 1) ∷ (0, 1) ∷ (0, 1) ∷ (0, 1) ∷ (0, 1) ∷ []
 unfolding int_wrap
 a_marked_transition_spends_a_turn = refl
 
 -- the same as a nested run beside another item: its containers are its own, and its end gives the state on
 abbrev pub nested_loop : Term ℕ
-nested_loop = graph (list Items unordered (two (loop (array (pos 1 ∷ pos 0 ∷ []) ∷ [])) (sets 4 (cell 0 0 0) (pos 5)))) pair
+nested_loop = graph (list Items unordered (two (loop (array W64 (pos 1 ∷ pos 0 ∷ []) ∷ [])) (sets 4 (cell 0 0 0) (pos 5)))) pair
 
-a_nested_run_keeps_its_containers : run_of [] nested_loop 3 ≡ done (array (pos 5 ∷ pos 0 ∷ []) ∷ []) 0
+a_nested_run_keeps_its_containers : run_of [] nested_loop 3 ≡ done (array W64 (pos 5 ∷ pos 0 ∷ []) ∷ []) 0
 unfolding int_wrap
 a_nested_run_keeps_its_containers = refl
 
@@ -160,7 +161,7 @@ a_nested_transition_is_a_move = refl
 abbrev nested_write : Term ℕ
 nested_write = graph (graph (sets 5 (cell 1 0 1) (pos 9)) []) pair
 
-a_nested_run_changes_what_is_outside : run_of [] nested_write 1 ≡ done (array (pos 0 ∷ pos 9 ∷ []) ∷ []) 0
+a_nested_run_changes_what_is_outside : run_of [] nested_write 1 ≡ done (array W64 (pos 0 ∷ pos 9 ∷ []) ∷ []) 0
 unfolding int_wrap
 a_nested_run_changes_what_is_outside = refl
 
@@ -195,7 +196,7 @@ branches exits = begun states (ways exits) pair []
 abbrev way : Bool → ℕ → Exit ℕ
 way holds state = record { when = guard 6 [] (λ read. Ok holds); marked = false; state = state; values = [] }
 
-the_first_exit_that_holds_is_taken : run_of [] (branches (way false 1 ∷ way true 2 ∷ way true 1 ∷ [])) 1 ≡ done (array (pos 2 ∷ pos 0 ∷ []) ∷ []) 0
+the_first_exit_that_holds_is_taken : run_of [] (branches (way false 1 ∷ way true 2 ∷ way true 1 ∷ [])) 1 ≡ done (array W64 (pos 2 ∷ pos 0 ∷ []) ∷ []) 0
 unfolding int_wrap
 the_first_exit_that_holds_is_taken = refl
 
@@ -210,7 +211,7 @@ a_condition_may_fault : run_of [] (branches (way false 1 ∷ faulty false ∷ []
 a_condition_may_fault = refl
 
 -- later conditions are not evaluated
-a_later_condition_does_not_fault : run_of [] (branches (way true 1 ∷ faulty false ∷ [])) 1 ≡ done (array (pos 1 ∷ pos 0 ∷ []) ∷ []) 0
+a_later_condition_does_not_fault : run_of [] (branches (way true 1 ∷ faulty false ∷ [])) 1 ≡ done (array W64 (pos 1 ∷ pos 0 ∷ []) ∷ []) 0
 unfolding int_wrap
 a_later_condition_does_not_fault = refl
 
@@ -235,5 +236,5 @@ rises =
       values = [];
     }
 
-a_condition_reads_in_order : trace_of [] (begun states (ways (rises ∷ [])) (array (pos 3 ∷ pos 4 ∷ []) ∷ []) []) 1 ≡ (0, 1) ∷ (0, 1) ∷ (0, 1) ∷ (0, 1) ∷ []
+a_condition_reads_in_order : trace_of [] (begun states (ways (rises ∷ [])) (array W64 (pos 3 ∷ pos 4 ∷ []) ∷ []) []) 1 ≡ (0, 1) ∷ (0, 1) ∷ (0, 1) ∷ (0, 1) ∷ []
 a_condition_reads_in_order = refl

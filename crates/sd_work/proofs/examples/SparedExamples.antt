@@ -1,6 +1,7 @@
 -- Which changes work does not see.
 use Rattle.std.proofs.Common.{◌≡◌, ◌⊎◌, ℕ, suc, pos, [], ◌∷◌, Some, None, false, refl, sym, ap, subst, inl, inr, arith}
 use Rattle.sd_num.specs.declared.resolution.Resolution.TheVariants.{Sum}
+use Rattle.sd_num.specs.declared.width.Width.TheVariants.{W64}
 use Rattle.sd_work.specs.Memory.{Memories, Reference, array, stream}
 use Rattle.sd_work.specs.Change.{Change, write, push, take, apply}
 use Rattle.sd_work.specs.Leaf.{write_value, push_to, doing}
@@ -60,7 +61,7 @@ its_move_is_the_same : (memories : Memories) → fire adds [] (apply (sets 0 2) 
 its_move_is_the_same = fire-apply adds (sets 0 2) a_write_of_another_element_is_not_seen []
 
 -- in an owner it reads the owner's element
-a_write_outside_is_not_seen_in_an_owner : SparesWork (owning (array (pos 7 ∷ []) ∷ []) adds) (sets 0 0)
+a_write_outside_is_not_seen_in_an_owner : SparesWork (owning (array W64 (pos 7 ∷ []) ∷ []) adds) (sets 0 0)
 a_write_outside_is_not_seen_in_an_owner a t = go a (adds_touches (inner a) t)
   where
     go : (a : Touch) → (inner a ≡ reads (at 0 0)) ⊎ (inner a ≡ writes (at 0 1) (Some Sum)) → SparesTouch a (sets 0 0)
@@ -124,5 +125,5 @@ a_write_is_not_seen_by_a_pool : SparesWork drains (sets 0 1)
 a_write_is_not_seen_by_a_pool = spared_drains (sets 0 1) tt
 
 -- where it is seen, there may be another move
-a_pushed_value_is_one_more_move : moves drains (apply (push 0 1 (pos 5)) ((array [] ∷ stream [] ∷ []) ∷ [])) ≡ (0 ∷ 0 ∷ []) ∷ []
+a_pushed_value_is_one_more_move : moves drains (apply (push 0 1 (pos 5)) ((array W64 [] ∷ stream W64 [] ∷ []) ∷ [])) ≡ (0 ∷ 0 ∷ []) ∷ []
 a_pushed_value_is_one_more_move = refl

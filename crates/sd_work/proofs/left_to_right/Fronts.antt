@@ -1,5 +1,6 @@
 -- Settling a list whose first unfinished part is known, before and after a move of that part.
 use Rattle.std.proofs.Common.{◌≡◌, ℕ, zero, suc, ◌+◌, List, [], ◌∷◌, ◌++◌, map, length, Bool, true, false, not, ◌&&◌, ◌||◌, slice_index_or, refl, sym, ◌∙◌, ap, subst, arith}
+use Rattle.sd_num.specs.declared.width.Width.TheVariants.{W64}
 use Rattle.sd_work.specs.Memory.{Contents, array, stream, Memory, Memories, values_of, waiting}
 use Rattle.sd_work.specs.Change.{Change, nothing, write, push, take, changed_at, with_values, without, apply}
 use Rattle.sd_work.specs.Residual.{Parts, Items, Points, Term, list, Terms, none, also, finished, all_finished, is_ready, ready_from, part_at}
@@ -191,10 +192,10 @@ kept_at Q d zero (suc j) f h (x ∷ xs) q = q
 kept_at Q d (suc i) zero f h (x ∷ xs) q = q
 kept_at Q d (suc i) (suc j) f h (x ∷ xs) q = kept_at Q d i j f h xs q
 
-still_empty : (k : ℕ) (c : Contents) → is_empty (values_of c) ≡ true → is_empty (values_of (with_values (without k) c)) ≡ true
-still_empty k (array elements) h = h
-still_empty k (stream []) h = h
-still_empty k (stream (v ∷ vs)) h = cc
+still_empty : (k : ℕ) (c : Contents) → is_empty (values_of c) ≡ true → is_empty (values_of (with_values (λ width. without k) c)) ≡ true
+still_empty k (array width elements) h = h
+still_empty k (stream width []) h = h
+still_empty k (stream width (v ∷ vs)) h = cc
 
 -- a stream stays empty into which a change does not push
 empty_apply : (W : Feeds) (u : Change) → Within W u → (l c : ℕ) → (W l c → ⊥) → (s : Memories) → is_empty (waiting l c s) ≡ true → is_empty (waiting l c (apply u s)) ≡ true
@@ -203,7 +204,7 @@ empty_apply W (write to by value) w l c h s e = ap is_empty (waiting-apply l c (
 empty_apply W (push m d value) w l c h s e =
     ap is_empty (waiting-apply l c (push m d value) (λ f g. h (subst (λ i. W i c) (sym f) (subst (λ i. W m i) (sym g) w))) s) ∙ e
 empty_apply W (take m d k) w l c h s e =
-    kept_at (λ memory. is_empty (values_of (slice_index_or memory c (stream []))) ≡ true) [] l m _ (λ memory q. kept_at (λ k. is_empty (values_of k) ≡ true) (stream []) c d _ (still_empty k) memory q) s e
+    kept_at (λ memory. is_empty (values_of (slice_index_or memory c (stream W64 []))) ≡ true) [] l m _ (λ memory q. kept_at (λ k. is_empty (values_of k) ≡ true) (stream W64 []) c d _ (still_empty k) memory q) s e
 
 -- ---- after a move of the first unfinished part
 

@@ -1,7 +1,7 @@
 use Rattle.std.proofs.Common.{◌≡◌, ◌+◌, ◌<◌, ◌≤◌, List, ◌++◌, Option, None, map, drop, length, get_or, refl, sym, subst, arith, drop_of_length-le}
 use Rattle.std.specs.List.{zip}
 use Rattle.std.proofs.lemmas.Slice.Zip.{length-zip}
-use Rattle.sd_mem.specs.declared.machine.cell.Cell.{Cell}
+use Rattle.sd_mem.specs.declared.machine.address.Address.{Address}
 use Rattle.sd_leaves.specs.leaves.Cells.{transferring}
 use Rattle.sd_leaves.proofs.leaves_lemmas.Lists.{pair_at, from_here}
 use Rattle.sd_leaves.specs.declared.moves.todo.Todo.{Todo}
@@ -18,7 +18,7 @@ loop-number-preserved c =
     let in_from : number < length c.args.from.now = omega arith in
     let in_to : number < length c.args.to.now = omega arith in
     let within : number < length pairs = omega (arith, many) in
-    let pair : Option Cell × Option Cell = (get_or c.args.from.now number None, get_or c.args.to.now number None) in
+    let pair : Option Address × Option Address = (get_or c.args.from.now number None, get_or c.args.to.now number None) in
     let todo : Todo = Transfer (get_or c.args.from.now number None) (get_or c.args.to.now number None) None in
     let here = from_here pairs number pair within (pair_at c.args.from.now c.args.to.now number None None pair in_from in_to) in
     subst (λ (todos : List Todo). map (transferring None) pairs ≡ all_told todos ++ map (transferring None) (drop (number + 1) pairs)) (sym c.in_ok-push.ensures.items)

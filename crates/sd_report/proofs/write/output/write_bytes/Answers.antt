@@ -1,4 +1,4 @@
-use Rattle.std.proofs.Common.{◌++◌, ap, ◌∙◌, sym, append_assoc, arith, ◌≤◌, ◌<◌, length, rules}
+use Rattle.std.proofs.Common.{◌++◌, ap, ◌∙◌, sym, append_assoc, arith, ◌<◌, length, rules}
 use Rattle.std.proofs.lemmas.Result.{err_from_is_err_and}
 use Rattle.sd_report.proofs.write_lemmas.SinkLemmas.{Appends-trans, AppendsPrefix-error, AppendsPrefix-later}
 use Rattle.sd_report.proofs.write.output.write_bytes.Goals as goal

@@ -1,6 +1,6 @@
-use Rattle.std.proofs.Common.{◌≡◌, ◌+◌, pos, unsigned_abs, length, map, take, get_or, slice_index_or, refl, ap, ◌∙◌, arith}
+use Rattle.std.proofs.Common.{◌≡◌, ◌+◌, length, map, take, get_or, refl, ap, ◌∙◌, arith}
 use Rattle.std.proofs.lemmas.List.{get_or_default, take_all}
-use Rattle.sd_tcode.specs.columns.Columns.{value_on, registers_of}
+use Rattle.sd_tcode.specs.columns.Columns.{registers_of}
 use Rattle.sd_row.specs.declared.row.track.Track.{Track}
 use Rattle.sd_row.specs.row.Point.{seen_on}
 use Rattle.sd_row.proofs.row_lemmas.Registers.{one_first, registers_many, kept_again, kept_same, no_track}
@@ -21,12 +21,12 @@ loop-number-preserved c =
     let member : Track = get_or reads number no_track in
     let room = c.loop-number.invariant.kept.registers in
     record {
-      kept = kept_again c.args.columns.now columns c.gather.new.self c.loop-number.invariant.kept c.gather.ensures.kept;
+      kept = kept_again c.args.columns.now columns c.gather_read.new.columns c.loop-number.invariant.kept c.gather_read.ensures.kept;
       read = λ run below.
-          ap (take (number + 1)) (c.gather.ensures.set run below)
+          ap (take (number + 1)) (c.gather_read.ensures.set run below)
           ∙ one_first (seen_on (c.args.from + run) memories) (registers_of columns run) number reads member _ c.loop-number-test.true (omega (arith, registers_many columns run, room, c.requires.registers, c.loop-number-test.true))
           (get_or_default reads number no_track _ c.loop-number-test.true)
-          (ap (λ cells. slice_index_or cells (unsigned_abs (value_on member.elements (c.args.from + run))) (pos 0)) c.cells-cells.ensures) (c.loop-number.invariant.read run below);
+          refl (c.loop-number.invariant.read run below);
     }
 
 pub returns-clause-read : goal.returns-clause-read

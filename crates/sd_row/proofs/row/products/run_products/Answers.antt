@@ -2,6 +2,7 @@ use Rattle.std.proofs.Common.{◌≡◌, ℕ, ◌+◌, ◌-◌, ◌<◌, ℤ, �
 use Rattle.std.specs.List.{AllByRecursion}
 use Rattle.std.proofs.lemmas.Int.{to_z-of_z, SFits-int_wrap}
 use Rattle.sd_num.specs.Wrapped.{wrapped}
+use Rattle.sd_num.specs.declared.width.Width.TheVariants.{W64}
 use Rattle.sd_work.specs.Memory.{Reference, look}
 use Rattle.sd_work.specs.Change.{apply, write}
 use Rattle.sd_tcode.specs.declared.op.op.Op.TheVariants.{Mul}
@@ -13,7 +14,7 @@ use Rattle.sd_tcode.proofs.columns_lemmas.Sides.{same_added}
 use Rattle.sd_row.specs.declared.row.track.Track.{Track}
 use Rattle.sd_row.specs.declared.row.row.Write.{Write}
 use Rattle.sd_row.specs.row.Row.{reference_on}
-use Rattle.sd_row.specs.row.Point.{seen_on}
+use Rattle.sd_row.specs.row.Point.{seen_on, width_on}
 use Rattle.sd_row.specs.row.Block.{after_points}
 use Rattle.sd_row.proofs.row_lemmas.Instances.{over_kept, over_written}
 use Rattle.sd_row.proofs.row_lemmas.BlockRuns.{IsMeant, block_ends}
@@ -34,6 +35,7 @@ returns-clause-done c done setting arrays is over dims none =
     let first : Track = c.index.result.now in
     let second : Track = c.index-2.result.now in
     let held = c.look-held.result in
+    let wide : width_on old.memories target.to ≡ W64 = c.is_wide.ensures (search rules) in
     let sum = c.in-Some-add_reads.sum in
     let inputs : code.layout.inputs ≡ length row.reads.items = c.is_for.ensures.inputs (search rules) in
     let variables : code.layout.variables ≡ length row.variables.items = c.is_for.ensures.variables (search rules) in
@@ -63,7 +65,7 @@ returns-clause-done c done setting arrays is over dims none =
     (c.write.ensures.memories
     ∙ ap (λ (r : Reference). apply (write r None (to_z w64 (of_z w64 sum))) c.pay_for.new.self.memories) c.cell-cell.ensures
     ∙ (λ i. apply (write (reference_on target.to from) None ((to_z-of_z w64 sum sum_fits ∙ sum_is) i)) (c.pay_for.ensures.memories i))
-    ∙ sum_written value target from old.memories held c.in-Some-sum_of.ensures.by c.in-Some-sum_of.ensures.step held_is held_fits value_fits count
+    ∙ sum_written value target from old.memories held c.in-Some-sum_of.ensures.by c.in-Some-sum_of.ensures.step wide held_is held_fits value_fits count
     ∙ ap (λ writes. after_points value writes from count old.memories) (sym c.in-Some-sum_of.ensures.all ∙ c.deref.ensures.value))
     (c.pay_for.ensures.paid (search rules)) c.write.ensures.turns
 

@@ -13,7 +13,7 @@ loop-run-init c =
     let held = c.look-held.result in
     let fits : FitsSigned w64 held = record { sfits = c.look-held.type_inv } in
     let same : to_z w64 (of_z w64 held) ≡ held = to_z-of_z w64 held fits in
-    nothing_new (reference_on c.args.write.now.to c.args.from) (to_z w64 (of_z w64 held)) memories
+    nothing_new (reference_on c.args.write.now.to c.args.from) (to_z w64 (of_z w64 held)) memories c.requires.bits
     (same ∙ c.look-held.ensures ∙ ap (λ (r : Reference). look r memories) c.cell-cell.ensures)
     (subst (FitsSigned w64) (sym same) fits)
 
@@ -28,7 +28,7 @@ loop-run-preserved c =
     let held_fits : FitsSigned w64 held = search rules in
     let value_same : to_z w64 (of_z w64 value) ≡ value = to_z-of_z w64 value value_fits in
     let new_same : to_z w64 (of_z w64 new) ≡ new = to_z-of_z w64 new new_fits in
-    fold_on (column_value c.args.first c.args.columns.now) to c.args.from c.loop-run.run c.args.machine.now.memories held (to_z w64 (of_z w64 new)) c.requires.still
+    fold_on (column_value c.args.first c.args.columns.now) to c.args.from c.loop-run.run c.args.machine.now.memories held (to_z w64 (of_z w64 new)) c.requires.still c.requires.bits
     held_fits (subst (FitsSigned w64) c.value-value.ensures value_fits) (subst (FitsSigned w64) (sym new_same) new_fits)
     (new_same ∙ c.written-held.ensures ∙ ap (became to.by held) (value_same ∙ c.value-value.ensures))
     c.loop-run.invariant

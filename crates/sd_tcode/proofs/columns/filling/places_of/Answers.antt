@@ -4,7 +4,7 @@ use Rattle.sd_tcode.proofs.columns_lemmas.Sides.{next_at, not_behind}
 use Rattle.sd_tcode.proofs.columns.filling.places_of.Goals as goal
 
 pub returns-clause-places : goal.returns-clause-places
-returns-clause-places c i below =
+returns-clause-places g c i below =
     let step = c.args.elements.now.step in
     let first = c.in_ok-first.first in
     let distance = c.in_ok-distance.distance in

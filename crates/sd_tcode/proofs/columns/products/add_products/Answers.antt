@@ -1,4 +1,4 @@
-use Rattle.std.proofs.Common.{◌≡◌, ◌+◌, ◌*◌, ◌<◌, ℕ, ℤ, pos, ◌*ℤ◌, unsigned_abs, slice_index_or, FitsSigned, w64, to_z, of_z, sym, ap, ◌∙◌}
+use Rattle.std.proofs.Common.{◌≡◌, ◌+◌, ◌*◌, ◌<◌, ℕ, ℤ, pos, ◌*ℤ◌, unsigned_abs, map, slice_index_or, FitsSigned, w64, to_z, of_z, sym, ap, ◌∙◌}
 use Rattle.std.proofs.lemmas.Int.{to_z-of_z}
 use Rattle.sd_num.specs.Wrapped.{wrapped}
 use Rattle.sd_tcode.specs.columns.Columns.{value_on}
@@ -7,9 +7,9 @@ use Rattle.sd_tcode.proofs.columns_lemmas.Sides.{same_added}
 use Rattle.sd_tcode.proofs.columns.products.add_products.Goals as goal
 
 pub returns : goal.returns
-returns c =
-    let left = c.args.left.now in
-    let right = c.args.right.now in
+returns g c =
+    let left = map g.L.Cell.element c.args.left.now in
+    let right = map g.R.Cell.element c.args.right.now in
     let lefts = c.in_ok-left_places.left_places in
     let rights = c.in_ok-right_places.right_places in
     let at_places : ℕ → ℤ = λ run. wrapped (slice_index_or left (lefts.first + lefts.distance * run) (pos 0) *ℤ slice_index_or right (rights.first + rights.distance * run) (pos 0)) in

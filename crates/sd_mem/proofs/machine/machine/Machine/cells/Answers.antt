@@ -1,12 +1,20 @@
 use Rattle.std.proofs.Common.{slice_index_or, [], ap, sym, ◌∙◌, arith}
-use Rattle.sd_work.specs.Memory.{Memory, contents_of, elements_of, stream}
+use Rattle.sd_num.specs.declared.width.Width.TheVariants.{W64}
+use Rattle.sd_work.specs.Memory.{Memory, contents_of, elements_of, stream, width_of}
 use Rattle.sd_work.specs.BigStep.{Reached}
 use Rattle.sd_mem.proofs.machine_lemmas.Stacks.{memory_at}
 use Rattle.sd_mem.proofs.machine.machine.Machine.cells.Goals as goal
 
-pub returns-in-Some : goal.returns-in-Some
-returns-in-Some c =
-    c.cells.ensures
-    ∙ ap (λ (memory : Memory). elements_of (slice_index_or memory c.args.station.container (stream [])))
+pub returns-in-Some-clause-elements : goal.returns-in-Some-clause-elements
+returns-in-Some-clause-elements c =
+    c.cells.ensures.elements
+    ∙ ap (λ (memory : Memory). elements_of (slice_index_or memory c.args.station.container (stream W64 [])))
     (sym (memory_at c.self.inside.memories.items c.args.station.level c.in-Some.i c.index.result.now (omega (arith, c.in-Some.ensures, c.len.ensures)) c.index.ensures))
     ∙ ap (λ (reached : Reached). elements_of (contents_of c.args.station.level c.args.station.container reached.memories)) c.self.view_is
+
+pub returns-in-Some-clause-width : goal.returns-in-Some-clause-width
+returns-in-Some-clause-width c =
+    c.cells.ensures.width
+    ∙ ap (λ (memory : Memory). width_of (slice_index_or memory c.args.station.container (stream W64 [])))
+    (sym (memory_at c.self.inside.memories.items c.args.station.level c.in-Some.i c.index.result.now (omega (arith, c.in-Some.ensures, c.len.ensures)) c.index.ensures))
+    ∙ ap (λ (reached : Reached). width_of (contents_of c.args.station.level c.args.station.container reached.memories)) c.self.view_is

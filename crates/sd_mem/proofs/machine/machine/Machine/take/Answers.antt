@@ -1,5 +1,6 @@
 use Rattle.std.proofs.Common.{ap, sym, ◌∙◌, arith, [], slice_get, slice_index_or}
 use Rattle.sd_work.specs.BigStep.{Reached}
+use Rattle.sd_num.specs.declared.width.Width.TheVariants.{W64}
 use Rattle.sd_work.specs.Memory.{Memory, stream, values_of, waiting}
 use Rattle.sd_work.specs.Change.{apply, changed_at, with_values, without, take}
 use Rattle.sd_mem.specs.mem.Shaped.{Shaped}
@@ -9,14 +10,14 @@ use Rattle.sd_mem.proofs.machine.machine.Machine.take.Goals as goal
 pub returns-in-Some-clause-oldest : goal.returns-in-Some-clause-oldest
 returns-in-Some-clause-oldest c =
     c.take.ensures.oldest
-    ∙ ap (λ (memory : Memory). slice_get (values_of (slice_index_or memory c.args.station.container (stream []))) 0)
+    ∙ ap (λ (memory : Memory). slice_get (values_of (slice_index_or memory c.args.station.container (stream W64 []))) 0)
     (sym (memory_at c.self.inside.memories.items c.args.station.level c.in-Some.i c.index_mut.result.now (omega (arith, c.in-Some.ensures, c.len.ensures)) c.index_mut.ensures.value))
     ∙ ap (λ (reached : Reached). slice_get (waiting c.args.station.level c.args.station.container reached.memories) 0) c.self.view_is
 
 pub returns-in-Some-clause-memories : goal.returns-in-Some-clause-memories
 returns-in-Some-clause-memories c =
     stack_changed c.self.inside.memories.items c.args.station.level c.in-Some.i c.index_mut.result.now c.take.new.self
-    (changed_at c.args.station.container (with_values (without 0)))
+    (changed_at c.args.station.container (with_values (λ width. without 0)))
     (omega (arith, c.in-Some.ensures, c.len.ensures)) c.index_mut.ensures.value (ap (λ (memory : Shaped). memory.contents) c.take.ensures.taken)
     ∙ ap (λ (reached : Reached). apply (take c.args.station.level c.args.station.container 0) reached.memories) c.self.view_is
 
@@ -24,6 +25,6 @@ pub returns-in-None-clause-memories : goal.returns-in-None-clause-memories
 returns-in-None-clause-memories c =
     ap (λ (reached : Reached). reached.memories) (sym c.self.view_is)
     ∙ stack_kept c.self.inside.memories.items c.args.station.level
-    (changed_at c.args.station.container (with_values (without 0)))
+    (changed_at c.args.station.container (with_values (λ width. without 0)))
     (omega (arith, c.in-None.ensures, c.len.ensures))
     ∙ ap (λ (reached : Reached). apply (take c.args.station.level c.args.station.container 0) reached.memories) c.self.view_is

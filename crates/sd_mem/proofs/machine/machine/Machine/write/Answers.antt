@@ -13,7 +13,7 @@ returns-in-Some-clause-memories c =
     let value_fits : FitsSigned w64 c.args.value = c.ranges.value in
     let is = simp to_z-of_z at c.set.ensures in
     stack_changed c.self.inside.memories.items c.args.cell.station.level c.in-Some.i c.index_mut.result.now c.set.new.self
-    (changed_at c.args.cell.station.container (with_elements (changed_at c.args.cell.element (written c.args.by c.args.value))))
+    (changed_at c.args.cell.station.container (with_elements (λ width. changed_at c.args.cell.element (written width c.args.by c.args.value))))
     (omega (arith, c.in-Some.ensures, c.len.ensures)) c.index_mut.ensures.value (ap (λ (memory : Shaped). memory.contents) is)
     ∙ ap (λ (reached : Reached). apply (write (reference_of c.args.cell) c.args.by c.args.value) reached.memories) c.self.view_is
 
@@ -21,6 +21,6 @@ pub returns-in_default-clause-memories : goal.returns-in_default-clause-memories
 returns-in_default-clause-memories c =
     ap (λ (reached : Reached). reached.memories) (sym c.self.view_is)
     ∙ stack_kept c.self.inside.memories.items c.args.cell.station.level
-    (changed_at c.args.cell.station.container (with_elements (changed_at c.args.cell.element (written c.args.by c.args.value))))
+    (changed_at c.args.cell.station.container (with_elements (λ width. changed_at c.args.cell.element (written width c.args.by c.args.value))))
     (omega (arith, c.in_default.ensures, c.len.ensures))
     ∙ ap (λ (reached : Reached). apply (write (reference_of c.args.cell) c.args.by c.args.value) reached.memories) c.self.view_is

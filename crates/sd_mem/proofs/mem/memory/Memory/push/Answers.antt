@@ -1,8 +1,7 @@
 use Rattle.std.specs.Int.{w64}
 use Rattle.std.proofs.lemmas.Int.{to_z-of_z}
 use Rattle.std.proofs.Common.{FitsSigned, ◌++◌, ◌∷◌, [], ap, sym, ◌∙◌, map, arith}
-use Rattle.sd_num.specs.Wrapped.{wrapped}
-use Rattle.sd_work.specs.Change.{push, with_values}
+use Rattle.sd_work.specs.Change.{push, with_values, appended}
 use Rattle.sd_mem.specs.mem.Shaped.{changed}
 use Rattle.sd_mem.specs.mem.Holding.{shape_held, contents_held}
 use Rattle.sd_mem.proofs.mem_lemmas.Held.{one_changed, none_changed, changed_not, made, on_ok, on_err}
@@ -14,7 +13,7 @@ returns-then-container-len-clause-ok c =
     let pushed = simp to_z-of_z at c.push.ensures.ok in
     on_ok c.push.result
     (λ contents. one_changed c.self.inside.holdings.items c.args.container c.push.new.self c.index_mut.result.now
-    (with_values (λ values. values ++ wrapped c.args.value ∷ [])) c.index_mut.ensures.value c.push.ensures.shape contents
+    (with_values (appended c.args.value)) c.index_mut.ensures.value c.push.ensures.shape contents
     ∙ ap (changed (push 0 c.args.container c.args.value)) c.self.view_is)
     pushed
 
@@ -31,5 +30,5 @@ pub returns-clause-ok : goal.returns-clause-ok
 returns-clause-ok c =
     sym c.self.view_is
     ∙ none_changed c.self.inside.holdings.items c.args.container
-    (with_values (λ values. values ++ wrapped c.args.value ∷ [])) (omega arith)
+    (with_values (appended c.args.value)) (omega arith)
     ∙ ap (changed (push 0 c.args.container c.args.value)) c.self.view_is
