@@ -124,7 +124,7 @@ pub(crate) fn graph(
         exits: Vec::new(alloc),
     };
     let name = sure(rt, "i".to_string(alloc));
-    let count = containers.len() as u32;
+    let count = sure(rt, u32::try_from(containers.len()));
     Sdfg {
         name: String::new(alloc),
         containers,
