@@ -1,12 +1,15 @@
-ghost use Rattle.std.specs.Prelude.{ℕ, List, [], Option};
+ghost use Rattle.std.specs.Prelude.{◌≡◌, ℕ, ℤ, List, [], ◌∷◌, Option};
 ghost use Rattle.sd_work.specs.Memory.{Memories};
 ghost use Rattle.sd_work.specs.Exit.{Values};
-ghost use Rattle.sd_work.specs.BigStep.{big_step};
+ghost use Rattle.sd_work.specs.Residual.{Term};
+ghost use Rattle.sd_work.specs.BigStep.{big_step, reached};
 ghost use Rattle.sd_pieces.specs.cut.Naming.{AreMemoriesNamed};
-ghost use Rattle.sd_pieces.specs.cut.Merged.{Marking, IsPrepared};
+ghost use Rattle.sd_pieces.specs.cut.Merged.{Marking, IsPrepared, AreElementsOfWidth};
 ghost use Rattle.sd_graph.specs.PlainTree.{GraphTree, KindTree};
 ghost use Rattle.sd_graph.specs.TreeParts.{containers_of};
 ghost use Rattle.sd_graph.specs.Context.{own_reach};
+ghost use Rattle.sd_graph.specs.Unfold.{opening_memory};
+ghost use Rattle.sd_graph.specs.declared.place.Place.{Place};
 ghost use Rattle.sd_prop.specs.propagation.Accesses.{kind_accesses};
 ghost use Rattle.sd_race.specs.cover.Fit.{IsFit};
 ghost use Rattle.sd_cut.specs.declared.window.Window.{Window};
@@ -26,4 +29,11 @@ pub fn a_part_over_windows_is_the_part()
         → EndsSo (part_term tree (reach_in (containers_of tree) windows) state values kind line) cut turns end
         → (most : ℕ) → MergesToEnd (numbers_in (containers_of tree) windows) marking others end
         (big_step (part_term tree (own_reach (containers_of tree)) state values kind line) most others turns) }
+{}
+
+/// A run of a graph opens with elements of its containers' widths, whatever is given, and what work leaves behind are such elements again.
+pub fn elements_are_of_their_widths()
+    ensures opens { (tree : GraphTree) (given : List (List ℤ)) → AreElementsOfWidth (opening_memory tree given ∷ []) }
+    ensures work { (term : Term Place) (most turns : ℕ) (memories after : Memories) (left : ℕ)
+        → big_step term most memories turns ≡ reached after left → AreElementsOfWidth memories → AreElementsOfWidth after }
 {}

@@ -8,5 +8,5 @@
 mod laws;
 mod run;
 
-pub use laws::a_part_over_windows_is_the_part;
+pub use laws::{a_part_over_windows_is_the_part, elements_are_of_their_widths};
 pub use run::run_on_cut;
