@@ -2,12 +2,13 @@
 //!
 //! Contracts see a `Memory` as the extents of its containers and the memory of `sd_work`
 //! (`specs/mem/Shaped.antt`): a read gives the element that the work reads, a write, a push and a take
-//! change what the work's changes do. Only constructors, copies and pushes take memory. An
+//! change what the work's changes do. Only what makes, copies or grows one takes memory. An
 //! element has a place, its number in row order, so that code may find it once and use it often.
 mod beginning;
 mod buffer;
 mod cells;
 mod element;
+mod growing;
 mod holding;
 mod laws;
 mod memory;

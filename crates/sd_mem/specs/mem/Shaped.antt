@@ -1,11 +1,12 @@
 -- A memory with the extents of its arrays.
-use Rattle.std.specs.Prelude.{◌≡◌, ℕ, ℤ, List, [], ◌∷◌, length, Option, Some, None, option_map, if◌then◌else◌, slice_index_or, slice_set, ⊤}
+use Rattle.std.specs.Prelude.{◌≡◌, ℕ, ◌<◌, ℤ, List, [], ◌∷◌, ◌++◌, map, length, Option, Some, None, option_map, if◌then◌else◌, slice_index_or, slice_set, ⊤}
 use Rattle.sd_range.specs.Points.{product}
 use Rattle.sd_range.specs.Subset.{inside}
+use Rattle.sd_num.specs.Width.{wrapped_to}
 use Rattle.sd_num.specs.declared.width.Width.{Width}
 use Rattle.sd_work.specs.Memory.{Contents, array, stream, Memory, Memories, Reference, contents_of, width_of}
 use Rattle.sd_num.specs.declared.resolution.Resolution.{Resolution}
-use Rattle.sd_work.specs.Change.{Change, write, own_after}
+use Rattle.sd_work.specs.Change.{Change, write, changed_at, own_after, with_values}
 use Rattle.sd_graph.specs.RowOrder.{row_number}
 
 -- the extents of each container, of which a stream has none, and what it holds
@@ -34,6 +35,11 @@ abbrev pub IsArray : Contents → Type 0
 IsArray (array width elements) = ⊤
 IsArray (stream width values) = ⊥
 
+-- contents are a stream
+abbrev pub IsStream : Contents → Type 0
+IsStream (array width elements) = ⊥
+IsStream (stream width values) = ⊤
+
 -- contents are an array with an element for each index
 abbrev pub IsWhole : (shape : List ℕ) → Contents → Type 0
 IsWhole shape (array width elements) = length elements ≡ product shape
@@ -42,6 +48,10 @@ IsWhole shape (stream width values) = ⊥
 -- a container is an array that is here: it holds an element for each index
 abbrev pub IsHere : Shaped → (container : ℕ) → Type 0
 IsHere memory container = IsWhole (shape_at memory container) (contents_at memory container)
+
+-- a container is there, and it is a stream
+abbrev pub HasStream : Shaped → (container : ℕ) → Type 0
+HasStream memory container = (container < length memory.contents) × IsStream (contents_at memory container)
 
 -- the number of an element in row order, where the index is inside
 abbrev pub place_in : (shape : List ℕ) → (index : List ℤ) → Option ℕ
@@ -71,3 +81,11 @@ IsAway memory container = contents_at memory container ≡ array (width_at memor
 -- the memory with other contents in the place of a container's
 abbrev pub with_contents_at : (container : ℕ) → Contents → Shaped → Shaped
 with_contents_at container contents memory = record memory { contents = slice_set memory.contents container contents }
+
+-- the memory with other values in the place of a stream's, each wrapped to its width; an array stays as it is
+abbrev pub with_values_at : (container : ℕ) → (values : List ℤ) → Shaped → Shaped
+with_values_at container values memory = record memory { contents = changed_at container (with_values (λ width old. map (wrapped_to width) values)) memory.contents }
+
+-- the memory with one container more, behind the others
+abbrev pub with_one_more : (shape : List ℕ) → Contents → Shaped → Shaped
+with_one_more shape contents memory = record { shapes = memory.shapes ++ shape ∷ []; contents = memory.contents ++ contents ∷ [] }

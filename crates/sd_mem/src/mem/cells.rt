@@ -63,7 +63,7 @@ fn as_element(value: i64) -> i64
 }
 
 /// Wrapping to 64 bits leaves elements of 64 bits as they are. The loop is there for the proof: it changes nothing, and
-/// the compiler drops it.
+/// `given` calls it once for each list that is moved in.
 fn are_elements(values: &[i64])
     ensures { map (wrapped_to Width.W64) values.now ≡ values.now }
 {
@@ -115,7 +115,7 @@ impl Cells {
     }
 
     /// These elements, each wrapped to the width; at 64 bits they are moved in.
-    pub(crate) fn given(alloc: Global, width: Width, values: Vec<i64>) -> Result<Cells, NoMemory>
+    pub fn given(alloc: Global, width: Width, values: Vec<i64>) -> Result<Cells, NoMemory>
         ensures { IfOk result (λ cells. array_of cells ≡ array width (map (wrapped_to width) values.items)) }
     {
         match width {
@@ -212,30 +212,14 @@ impl Elements<'_> {
         }
     }
 
-    /// How many there are.
-    pub fn count(&self) -> usize
-        ensures { result ≡ length (elements_of (array_lent self.now)) }
-    {
-        match self {
-            Elements::W32(cells) => cells.len(),
-            Elements::W64(cells) => cells.len(),
-        }
-    }
-
     /// The element of a number; `None` exactly where there is none.
     #[inline(always)]
     pub fn get(&self, number: usize) -> Option<i64>
         ensures { result ≡ slice_get (elements_of (array_lent self.now)) number }
     {
         match self {
-            Elements::W32(cells) => match cells.get(number) {
-                Some(cell) => Some(cell.value()),
-                None => None,
-            },
-            Elements::W64(cells) => match cells.get(number) {
-                Some(cell) => Some(*cell),
-                None => None,
-            },
+            Elements::W32(cells) => widened(cells.get(number).copied()),
+            Elements::W64(cells) => cells.get(number).copied(),
         }
     }
 }
@@ -248,6 +232,19 @@ impl Values {
         match width {
             Width::W32 => Values::W32(VecDeque::new(alloc)),
             Width::W64 => Values::W64(VecDeque::new(alloc)),
+        }
+    }
+
+    /// These values, each wrapped to the width; at 64 bits they are moved in.
+    pub(crate) fn given(alloc: Global, width: Width, values: Vec<i64>) -> Result<Values, NoMemory>
+        ensures { IfOk result (λ given. stream_of given ≡ stream width (map (wrapped_to width) values.items)) }
+    {
+        match width {
+            Width::W32 => Ok(Values::W32(VecDeque::from(narrowed(alloc, values.as_slice())?))),
+            Width::W64 => {
+                are_elements(values.as_slice());
+                Ok(Values::W64(VecDeque::from(values)))
+            }
         }
     }
 
@@ -323,6 +320,16 @@ impl Values {
         match self {
             Values::W32(values) => widened(values.remove(position)),
             Values::W64(values) => values.remove(position),
+        }
+    }
+
+    /// The value at a position; `None` exactly where there is none.
+    pub(crate) fn get(&self, position: usize) -> Option<i64>
+        ensures { result ≡ slice_get (values_of (stream_of self.now)) position }
+    {
+        match self {
+            Values::W32(values) => widened(values.get(position).copied()),
+            Values::W64(values) => values.get(position).copied(),
         }
     }
 

@@ -1,9 +1,10 @@
 //! What one container holds.
-ghost use Rattle.std.specs.Prelude.{◌≡◌, ◌↔◌, length, slice_get, IfOk, OnOk, OnErr, IsTrue};
+ghost use Rattle.std.specs.Prelude.{◌≡◌, ◌↔◌, length, map, slice_get, IfOk, OnOk, OnErr, IsTrue};
+ghost use Rattle.sd_num.specs.Width.{wrapped_to};
 ghost use Rattle.sd_work.specs.Memory.{elements_of, values_of, width_of};
 ghost use Rattle.sd_work.specs.Change.{appended, changed_at, with_elements, with_values, without, written};
 ghost use Rattle.sd_mem.specs.mem.Cells.{array_of, array_lent};
-ghost use Rattle.sd_mem.specs.mem.Shaped.{place_in, IsArray};
+ghost use Rattle.sd_mem.specs.mem.Shaped.{place_in, IsArray, IsStream};
 ghost use Rattle.sd_mem.specs.mem.Holding.{shape_held, contents_held, IsSized};
 
 use crate::mem::cells::{Cells, Elements, Values};
@@ -142,6 +143,42 @@ impl Holding {
         match self {
             Holding::Array { .. } => None,
             Holding::Stream { values } => values.take_at(position),
+        }
+    }
+
+    /// Puts other values into a stream, each wrapped to its width; an array stays as it is.
+    pub(crate) fn put_values(&mut self, alloc: Global, values: Vec<i64>) -> Result<(), NoMemory>
+        ensures shape { shape_held self.new ≡ shape_held self.old }
+        ensures ok { OnOk result (contents_held self.new ≡ with_values (λ width old. map (wrapped_to width) values.items) (contents_held self.old)) }
+        ensures err { OnErr result (contents_held self.new ≡ contents_held self.old) }
+    {
+        match self {
+            Holding::Array { .. } => {}
+            Holding::Stream { values: held } => {
+                let width = held.width();
+                *held = Values::given(alloc, width, values)?;
+            }
+        }
+        Ok(())
+    }
+
+    /// The value at a position of a stream; an array has none.
+    pub(crate) fn value_at(&self, position: usize) -> Option<i64>
+        ensures { result ≡ slice_get (values_of (contents_held self.now)) position }
+    {
+        match self {
+            Holding::Array { .. } => None,
+            Holding::Stream { values } => values.get(position),
+        }
+    }
+
+    /// Whether it is a stream.
+    pub(crate) fn is_stream(&self) -> bool
+        ensures { IsTrue result ↔ IsStream (contents_held self.now) }
+    {
+        match self {
+            Holding::Array { .. } => false,
+            Holding::Stream { .. } => true,
         }
     }
 

@@ -1,4 +1,4 @@
-ghost use Rattle.std.specs.Prelude.{◌≡◌, IsTrue};
+ghost use Rattle.std.specs.Prelude.{◌≡◌, ◌↔◌, IsTrue};
 ghost use Rattle.sd_num.specs.declared.width.Width.TheVariants.{W64};
 ghost use Rattle.sd_mem.specs.machine.Stack.{reference_of};
 ghost use Rattle.sd_row.specs.row.Row.{reference_on};
@@ -29,7 +29,7 @@ impl Track {
 
     /// Whether the elements have 64 bits.
     pub(crate) fn is_wide(&self, machine: &Machine) -> bool
-        ensures { IsTrue result → width_on machine.now.memories self.now ≡ W64 }
+        ensures { IsTrue result ↔ (width_on machine.now.memories self.now ≡ W64) }
     {
         match machine.width(self.station) {
             Width::W32 => false,

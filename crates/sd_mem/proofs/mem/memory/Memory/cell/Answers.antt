@@ -1,4 +1,4 @@
-use Rattle.std.proofs.Common.{◌≡◌, None, pos, slice_get, slice_index_or, List, ℤ, sym, ap, ◌∙◌}
+use Rattle.std.proofs.Common.{pos, slice_index_or, List, ℤ, sym, ap, ◌∙◌}
 use Rattle.sd_work.specs.Memory.{elements_of}
 use Rattle.sd_mem.specs.mem.Cells.{array_lent}
 use Rattle.sd_mem.proofs.mem_lemmas.Streams.{no_member}

@@ -1,6 +1,6 @@
 use Rattle.std.specs.Int.{w64}
 use Rattle.std.proofs.lemmas.Int.{to_z-of_z}
-use Rattle.std.proofs.Common.{FitsSigned, ◌++◌, ◌∷◌, [], ap, sym, ◌∙◌, map, arith}
+use Rattle.std.proofs.Common.{FitsSigned, ap, sym, ◌∙◌, map, arith}
 use Rattle.sd_work.specs.Change.{push, with_values, appended}
 use Rattle.sd_mem.specs.mem.Shaped.{changed}
 use Rattle.sd_mem.specs.mem.Holding.{shape_held, contents_held}
