@@ -1,4 +1,5 @@
 pub mod Held
+pub mod Lending
 pub mod Streams
 pub mod Counts
 pub mod Places

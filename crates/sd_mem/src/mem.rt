@@ -11,6 +11,7 @@ mod element;
 mod growing;
 mod holding;
 mod laws;
+mod lending;
 mod memory;
 mod opening;
 mod place;

@@ -89,3 +89,21 @@ with_values_at container values memory = record memory { contents = changed_at c
 -- the memory with one container more, behind the others
 abbrev pub with_one_more : (shape : List ℕ) → Contents → Shaped → Shaped
 with_one_more shape contents memory = record { shapes = memory.shapes ++ shape ∷ []; contents = memory.contents ++ contents ∷ [] }
+
+-- ---- memories that are lent
+
+-- contents may have these extents: a stream has none
+abbrev pub MayHave : (shape : List ℕ) → Contents → Type 0
+MayHave shape (array width elements) = ⊤
+MayHave shape (stream width values) = shape ≡ []
+
+-- and so may each container
+abbrev pub MayAllHave : (shapes : List (List ℕ)) → Memory → Type 0
+MayAllHave [] [] = ⊤
+MayAllHave [] (contents ∷ memory) = ⊥
+MayAllHave (shape ∷ shapes) [] = ⊥
+MayAllHave (shape ∷ shapes) (contents ∷ memory) = MayHave shape contents × MayAllHave shapes memory
+
+-- a memory that holds something else
+abbrev pub with_contents : Memory → Shaped → Shaped
+with_contents contents memory = record memory { contents = contents }

@@ -4,7 +4,7 @@ ghost use Rattle.sd_num.specs.Width.{wrapped_to};
 ghost use Rattle.sd_work.specs.Memory.{elements_of, values_of, width_of};
 ghost use Rattle.sd_work.specs.Change.{appended, changed_at, with_elements, with_values, without, written};
 ghost use Rattle.sd_mem.specs.mem.Cells.{array_of, array_lent};
-ghost use Rattle.sd_mem.specs.mem.Shaped.{place_in, IsArray, IsStream};
+ghost use Rattle.sd_mem.specs.mem.Shaped.{place_in, IsArray, IsStream, MayHave};
 ghost use Rattle.sd_mem.specs.mem.Holding.{shape_held, contents_held, IsSized};
 
 use crate::mem::cells::{Cells, Elements, Values};
@@ -205,6 +205,33 @@ impl Holding {
                     cells,
                 }
             }
+        }
+    }
+
+    /// One of the same extents that holds nothing.
+    pub(crate) fn emptied(&self, alloc: Global) -> Result<Holding, NoMemory>
+        ensures { IfOk result (λ emptied. shape_held emptied ≡ shape_held self.now) }
+    {
+        match self {
+            Holding::Array { shape, cells } => Ok(Holding::Array {
+                shape: shape.as_slice().to_vec(alloc)?,
+                cells: Cells::none(alloc, cells.width()),
+            }),
+            Holding::Stream { values } => Ok(Holding::Stream {
+                values: Values::none(alloc, values.width()),
+            }),
+        }
+    }
+
+    /// Holds what another one held, with the extents that it has.
+    pub(crate) fn take_over(&mut self, alloc: Global, given: Holding)
+        requires { MayHave (shape_held self.old) (contents_held given) }
+        ensures shape { shape_held self.new ≡ shape_held self.old }
+        ensures contents { contents_held self.new ≡ contents_held given }
+    {
+        match given {
+            Holding::Array { cells, .. } => self.hold(alloc, cells),
+            Holding::Stream { values } => *self = Holding::Stream { values },
         }
     }
 
