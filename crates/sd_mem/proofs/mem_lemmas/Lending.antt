@@ -7,8 +7,9 @@ use Rattle.sd_mem.specs.declared.mem.cells.Cells.TheVariants.{W32, W64}
 use Rattle.sd_mem.specs.declared.mem.cells.Values.{Values}
 use Rattle.sd_mem.specs.declared.mem.cells.Values.TheVariants as waiting
 use Rattle.sd_mem.specs.mem.Shaped.{MayHave, MayAllHave}
-use Rattle.sd_mem.specs.mem.Holding.{shape_held, contents_held}
+use Rattle.sd_mem.specs.mem.Holding.{shape_held, contents_held, IsSized}
 use Rattle.sd_mem.proofs.mem_lemmas.Held.{contents_changed, changed_to}
+use Rattle.std.specs.List.{AllByRecursion}
 use Rattle.std.proofs.lemmas.List.{length-map}
 use Rattle.sd_mem.specs.declared.mem.holding.Holding.{Holding}
 use Rattle.sd_mem.specs.declared.mem.holding.Holding.TheVariants.{Array, Stream}
@@ -48,7 +49,7 @@ lent_behind : (given : List Holding) (last : Holding) → map contents_held (giv
 lent_behind [] last = refl
 lent_behind (first ∷ given) last = ap (λ (rest : List Contents). contents_held first ∷ rest) (lent_behind given last)
 
-one_more : (given : List Holding) (last : Holding) → length (given ++ last ∷ []) ≡ suc (length given)
+pub one_more : (given : List Holding) (last : Holding) → length (given ++ last ∷ []) ≡ suc (length given)
 one_more [] last = refl
 one_more (first ∷ given) last = ap suc (one_more given last)
 
@@ -108,6 +109,18 @@ none_behind [] [] same = refl
 none_behind [] (contents ∷ memory) same = absurd (omega (arith, same))
 none_behind (first ∷ lent) [] same = absurd (omega (arith, same))
 none_behind (first ∷ lent) (contents ∷ memory) same = ap (λ (rest : List Contents). first ∷ rest) (none_behind lent memory (omega (arith, same)))
+
+-- the extents are these, and what is left to take stands before what was taken
+pub record IsLeft (shapes : List (List ℕ)) (left holdings : List Holding) (memory : Memory) : Type 0 where
+  pub shapes_so : map shape_held holdings ≡ shapes
+  pub contents_so : before_taken left holdings ≡ memory
+
+-- a size that is set
+pub sized_set : (holdings : List Holding) (number : ℕ) (old new : Holding) → old ≡ slice_index_or holdings number old → (IsSized old → IsSized new) → AllByRecursion IsSized holdings →
+    AllByRecursion IsSized (slice_set holdings number new)
+sized_set [] number old new is keeps sized = tt
+sized_set (first ∷ holdings) zero old new is keeps sized = (keeps (subst IsSized (sym is) sized.0), sized.1)
+sized_set (first ∷ holdings) (suc number) old new is keeps sized = (sized.0, sized_set holdings number old new is keeps sized.1)
 
 -- none was taken yet
 pub none_taken : (shapes : List (List ℕ)) (left holdings : List Holding) (memory : Memory) → map shape_held holdings ≡ shapes → MayAllHave shapes memory → map contents_held left ≡ memory →

@@ -223,11 +223,11 @@ impl Holding {
         }
     }
 
-    /// Holds what another one held, with the extents that it has.
+    /// Holds what another one held, with the extents that it has, where it may have them.
     pub(crate) fn take_over(&mut self, alloc: Global, given: Holding)
-        requires { MayHave (shape_held self.old) (contents_held given) }
-        ensures shape { shape_held self.new ≡ shape_held self.old }
+        ensures shape { MayHave (shape_held self.old) (contents_held given) → shape_held self.new ≡ shape_held self.old }
         ensures contents { contents_held self.new ≡ contents_held given }
+        ensures sized { IsSized self.old → IsSized self.new }
     {
         match given {
             Holding::Array { cells, .. } => self.hold(alloc, cells),

@@ -24,13 +24,13 @@ impl Memory {
         Ok(Memory { holdings })
     }
 
-    /// Takes back what a lent memory holds now. Takes no memory.
+    /// Takes back what a lent memory holds now, and keeps the extents, where its containers may have them. Takes no memory.
     pub fn take_back(&mut self, lent: Memory)
-        requires { MayAllHave self.old.shapes lent.contents }
-        ensures { self.new ≡ with_contents lent.contents self.old }
+        ensures { MayAllHave self.old.shapes lent.contents → self.new ≡ with_contents lent.contents self.old }
     {
         let alloc = *self.holdings.allocator();
         let mut holdings = lent.holdings;
+        holdings.truncate(self.holdings.len());
         while let Some(given) = holdings.pop() {
             self.holdings[holdings.len()].take_over(alloc, given);
         }
