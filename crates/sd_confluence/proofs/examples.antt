@@ -3,3 +3,4 @@ pub mod SafeExamples
 pub mod AlikeExamples
 pub mod EventExamples
 pub mod SidesExamples
+pub mod TakesExamples

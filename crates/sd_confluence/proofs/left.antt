@@ -2,8 +2,14 @@ pub mod StillLeft
 pub mod Beside
 pub mod StillSafe
 pub mod NextListed
+pub mod Squares
+pub mod PoolSides
 pub mod Sides
 pub mod MoveSettled
 pub mod AlikeMemories
 pub mod AlikeSettled
+pub mod Reordered
+pub mod TwoTakes
 pub mod Steps
+pub mod TakeSteps
+pub mod TwoWays

@@ -3,3 +3,4 @@ pub mod Alike
 pub mod Event
 pub mod Left
 pub mod Sides
+pub mod Takes

@@ -1,11 +1,11 @@
--- Moves of two parts of a list, and terms that are alike.
-use Rattle.std.specs.Prelude.{◌≡◌, ◌≢◌, ◌⊎◌, ℕ, zero, suc, [], ◌∷◌}
+-- Moves of two parts of a list or a pool, and terms that are alike.
+use Rattle.std.specs.Prelude.{◌≡◌, ◌≢◌, ◌⊎◌, ℕ, zero, suc, [], ◌∷◌, ⊤}
 use Rattle.sd_work.specs.Memory.{Memory}
 use Rattle.sd_work.specs.Residual.{Term, leaf, list, owning, nested, ended, pool, Terms, none, also, Actives, idle, busy}
 use Rattle.sd_work.specs.Moves.{Path}
 use Rattle.sd_confluence.specs.Alike.{AreAlike}
 
--- two paths lead into two parts of one list, wherever it stands
+-- two paths lead into two parts of one list or of one pool, wherever it stands: of a pool into two active terms, or into one and to the take of a value, but not to two takes
 abbrev mutual
   pub AreOfTwoParts : {P : Type 0} → Term P → (path other : Path) → Type 0
   AreOfTwoParts (leaf place work) path other = ⊥
@@ -19,7 +19,10 @@ abbrev mutual
   AreOfTwoParts (pool level container body active closed) (n ∷ []) other = ⊥
   AreOfTwoParts (pool level container body active closed) (n ∷ i ∷ path) [] = ⊥
   AreOfTwoParts (pool level container body active closed) (n ∷ i ∷ path) (m ∷ []) = ⊥
-  AreOfTwoParts (pool level container body active closed) (n ∷ i ∷ path) (m ∷ j ∷ other) = (n ≡ 1) × (m ≡ 1) × (i ≡ j) × AreOfTwoInActive active i path other
+  AreOfTwoParts (pool level container body active closed) (zero ∷ i ∷ path) (zero ∷ j ∷ other) = ⊥
+  AreOfTwoParts (pool level container body active closed) (zero ∷ i ∷ path) (suc m ∷ j ∷ other) = ⊤
+  AreOfTwoParts (pool level container body active closed) (suc n ∷ i ∷ path) (zero ∷ j ∷ other) = ⊤
+  AreOfTwoParts (pool level container body active closed) (suc n ∷ i ∷ path) (suc m ∷ j ∷ other) = (i ≢ j) ⊎ ((i ≡ j) × AreOfTwoInActive active i path other)
 
   pub AreOfTwoInPart : {P : Type 0} → Terms P → ℕ → (path other : Path) → Type 0
   AreOfTwoInPart none number path other = ⊥

@@ -1,4 +1,4 @@
-ghost use Rattle.std.specs.Prelude.{◌≡◌, ◌≢◌, ◌+◌, ℕ, ℤ, List, [], ◌∷◌, Bool};
+ghost use Rattle.std.specs.Prelude.{◌≡◌, ◌≢◌, ◌⊎◌, ◌+◌, ℕ, ℤ, List, [], ◌∷◌, Bool};
 ghost use Rattle.std.specs.List.{AllByRecursion, Contains};
 ghost use Rattle.sd_work.specs.Memory.{Memory, Memories, waiting};
 ghost use Rattle.sd_work.specs.Change.{Change, apply};
@@ -13,6 +13,7 @@ ghost use Rattle.sd_work.specs.Touch.{Touch, Touches, SparesWork};
 ghost use Rattle.sd_confluence.specs.Left.{IsLeftOf};
 ghost use Rattle.sd_confluence.specs.Safe.{TouchCompatibly, IsSafe, MayInterleave, pool_over};
 ghost use Rattle.sd_confluence.specs.Sides.{AreOfTwoParts, AreTermsAlike};
+ghost use Rattle.sd_confluence.specs.Takes.{AreTwoTakes, behind_take, AreTermsReordered};
 ghost use Rattle.sd_confluence.specs.Alike.{how_often, AreAlike, AreStacksAlike, LeaveAlike};
 ghost use Rattle.sd_confluence.specs.Event.{Event, values_pushed, values_taken, DoneWith, AreEventsAlike};
 
@@ -84,9 +85,10 @@ pub fn moves_of_parts_that_do_not_conflict_commute<P>()
         × AreStacksAlike (apply other (apply change memories)) (apply change (apply other memories)) }
 {}
 
-/// Two steps by next moves of two parts of one list commute, wherever in safe work the list stands. After the
-/// one the other is still next; where it is made too, it may be made first and the one behind it, with as many
-/// turns. What they leave is equal but for the order of values in streams.
+/// Two steps by next moves of two parts of one list commute, wherever in safe work the list stands. So do those of
+/// two active terms of one pool, and of an active term and a take. After the one the other is still next; where it is
+/// made too, it may be made first and the one behind it, with as many turns. What they leave is equal but for the
+/// order of values in streams.
 pub fn steps_of_two_parts_commute<P>()
     ensures stays { (machine between : Machine P) (path second : Path) → IsSafe machine.term
         → Contains (next_moves machine) path → Contains (next_moves machine) second
@@ -98,4 +100,26 @@ pub fn steps_of_two_parts_commute<P>()
         → step path machine ≡ Done between → step second between ≡ Done both
         → (early last : Machine P) × (step second machine ≡ Done early) × (step path early ≡ Done last)
         × AreTermsAlike both.term last.term × (both.turns ≡ last.turns) }
+{}
+
+/// Two steps that take from one pool commute too, wherever in safe work it stands, each behind the other at the position that its value has then. What
+/// they leave is equal but for the order of active terms in pools.
+pub fn two_takes_of_one_pool_commute<P>()
+    ensures stays { (machine between : Machine P) (path second : Path)
+        → Contains (next_moves machine) path → Contains (next_moves machine) second
+        → AreTwoTakes machine.term path second
+        → step path machine ≡ Done between → Contains (next_moves between) (behind_take path second) }
+    ensures commute { (machine between both : Machine P) (path second : Path) → IsSafe machine.term
+        → Contains (next_moves machine) path → Contains (next_moves machine) second
+        → AreTwoTakes machine.term path second
+        → step path machine ≡ Done between → step (behind_take path second) between ≡ Done both
+        → (early last : Machine P) × (step second machine ≡ Done early) × (step (behind_take second path) early ≡ Done last)
+        × AreTermsReordered both.term last.term × (both.turns ≡ last.turns) }
+{}
+
+/// Any two different next moves are of two parts of one list or one pool, or are two takes of one pool.
+pub fn any_two_next_moves_are_of_two_parts_or_two_takes<P>()
+    ensures { (machine : Machine P) (path second : Path)
+        → Contains (next_moves machine) path → Contains (next_moves machine) second → path ≢ second
+        → AreOfTwoParts machine.term path second ⊎ AreTwoTakes machine.term path second }
 {}

@@ -1,9 +1,12 @@
 pub mod AnyPicks
 pub mod Ways
 pub mod Doing
+pub mod DoneRuns
 pub mod Follows
+pub mod Halting
 pub mod Kept
 pub mod OneEnd
 pub mod Whole
+pub mod Since
 pub mod CutSafe
 pub mod Cutting

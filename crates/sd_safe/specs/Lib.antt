@@ -1,2 +1,3 @@
 pub mod normal
 pub mod safe
+pub mod pieces

@@ -1,9 +1,10 @@
--- Which paths are of two parts, which terms are alike, and what may be left of work.
+-- Which paths are of two parts, what two takes of one pool do, which terms are alike, and what may be left of work.
 use Rattle.std.proofs.Common.{◌≡◌, ℕ, pos, suc, [], ◌∷◌, None, Bool, true, false, cond, int_eq, refl, sym, subst, inl, inr, ap, arith}
 use Rattle.sd_num.specs.declared.width.Width.TheVariants.{W64}
 use Rattle.sd_work.specs.Memory.{array, stream}
 use Rattle.sd_work.specs.Leaf.{Leaf, doing, write_value}
-use Rattle.sd_work.specs.Residual.{Term, leaf, owning, ended, none, also}
+use Rattle.sd_work.specs.Residual.{Term, leaf, owning, ended, pool, none, also, idle, busy}
+use Rattle.sd_work.specs.Step.{Machine, Done, next_moves, step}
 use Rattle.sd_work.specs.Touch.{Touch, writes, LeafTouches}
 use Rattle.sd_work.proofs.examples.ExampleParts.{cell, sets, two, points}
 use Rattle.sd_confluence.specs.Left.{IsLeftOf}
@@ -22,6 +23,36 @@ two_points_of_one_item_are_two_parts = inr (refl, inl (λ e. cc))
 
 one_leaf_is_not_two_parts : AreOfTwoParts pair (0 ∷ []) (0 ∷ []) → ⊥
 one_leaf_is_not_two_parts h = elim h [ inl two ↦ two refl | inr deep ↦ deep.1 ]
+
+-- a pool at work, whose stream has two values more
+abbrev at_work : Term ℕ
+at_work = pool 0 0 (λ value. pair) (busy (pos 5) pair (busy (pos 6) pair idle)) false
+
+two_active_terms_are_two_parts : AreOfTwoParts at_work (1 ∷ 0 ∷ 0 ∷ []) (1 ∷ 1 ∷ 0 ∷ [])
+two_active_terms_are_two_parts = inl (λ e. cc)
+
+two_points_of_one_active_term_are_two_parts : AreOfTwoParts at_work (1 ∷ 0 ∷ 0 ∷ []) (1 ∷ 0 ∷ 1 ∷ [])
+two_points_of_one_active_term_are_two_parts = inr (refl, inl (λ e. cc))
+
+an_active_term_and_a_take_are_two_parts : AreOfTwoParts at_work (1 ∷ 0 ∷ 0 ∷ []) (0 ∷ 1 ∷ []) × AreOfTwoParts at_work (0 ∷ 1 ∷ []) (1 ∷ 0 ∷ 0 ∷ [])
+an_active_term_and_a_take_are_two_parts = (tt, tt)
+
+two_takes_are_not_two_parts : AreOfTwoParts at_work (0 ∷ 0 ∷ []) (0 ∷ 1 ∷ []) → ⊥
+two_takes_are_not_two_parts h = h
+
+-- a pool over two values, and what the take of the first one leaves
+abbrev over_two : Machine ℕ
+over_two = record { term = owning (stream W64 (pos 7 ∷ pos 8 ∷ []) ∷ []) (pool 0 0 (λ value. pair) idle false); turns = 3 }
+
+abbrev over_one : Machine ℕ
+over_one = record { term = owning (stream W64 (pos 8 ∷ []) ∷ []) (pool 0 0 (λ value. pair) (busy (pos 7) pair idle) false); turns = 3 }
+
+two_values_may_be_taken : next_moves over_two ≡ (0 ∷ 0 ∷ []) ∷ (0 ∷ 1 ∷ []) ∷ []
+two_values_may_be_taken = refl
+
+-- the second position is gone
+behind_a_take_a_later_position_is_one_less : (step (0 ∷ 0 ∷ []) over_two ≡ Done over_one) × (next_moves over_one ≡ (1 ∷ 0 ∷ 0 ∷ []) ∷ (1 ∷ 0 ∷ 1 ∷ []) ∷ (0 ∷ 0 ∷ []) ∷ [])
+behind_a_take_a_later_position_is_one_less = (refl, refl)
 
 exchanged : (a b : Bool) (n : ℕ) → cond a (suc (cond b (suc n) n)) (cond b (suc n) n) ≡ cond b (suc (cond a (suc n) n)) (cond a (suc n) n)
 exchanged true true n = refl

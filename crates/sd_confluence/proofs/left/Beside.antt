@@ -156,7 +156,7 @@ put_at none k x = none
 put_at (also t ts) zero x = also x ts
 put_at (also t ts) (suc k) x = also t (put_at ts k x)
 
-map_after : {P A B C : Type 0} (f : B → C) (g : A → B) (m : Move P A) → map_move f (map_move g m) ≡ map_move (λ x. f (g x)) m
+pub map_after : {P A B C : Type 0} (f : B → C) (g : A → B) (m : Move P A) → map_move f (map_move g m) ≡ map_move (λ x. f (g x)) m
 map_after f g (fails turn fault) = refl
 map_after f g (goes turn change left) = refl
 map_after f g no_move = refl

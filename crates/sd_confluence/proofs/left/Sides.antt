@@ -1,117 +1,24 @@
--- Next moves of two parts of a list commute, wherever the list stands.
+-- Next moves of two parts of a list or a pool commute, wherever it stands.
 use Rattle.std.proofs.Common.{◌≡◌, ◌≢◌, ℕ, zero, suc, ◌+◌, [], ◌∷◌, Bool, true, false, cond, not, ◌&&◌, ◌||◌, refl, sym, ◌∙◌, ap, subst, arith, inl, inr}
-use Rattle.sd_work.specs.Memory.{Memory, Memories}
-use Rattle.sd_work.specs.Change.{Change, apply, outer, own_after}
+use Rattle.sd_work.specs.Memory.{Memories}
+use Rattle.sd_work.specs.Change.{Change, apply}
 use Rattle.sd_work.specs.Exit.{first_exit}
-use Rattle.sd_work.specs.Move.{Move, fails, goes, no_move, map_move}
+use Rattle.sd_work.specs.Move.{Move, goes}
 use Rattle.sd_work.specs.Residual.{Parts, Term, leaf, list, owning, nested, ended, pool, Terms, none, also, part_at, Actives, idle, busy, finished, all_finished, flags_of, is_ready, ready_from}
 use Rattle.sd_work.specs.Moves.{Path}
 use Rattle.sd_work.specs.Fire.{owned, transition, fire, fire_part, fire_active}
-use Rattle.sd_work.proofs.Changes.{apply-own}
 use Rattle.sd_work.proofs.Flags.{both, and_false, or_other, not_true}
 use Rattle.sd_work.proofs.Absorbing.{Below, below_same, ready_up}
-use Rattle.sd_confluence.specs.Alike.{AreAlike, AreStacksAlike}
 use Rattle.sd_confluence.specs.Safe.{IsSafe, AreSafe, AreActiveSafe, ArePartsSafe, TouchCompatibly}
 use Rattle.sd_confluence.specs.Sides.{AreOfTwoParts, AreOfTwoInPart, AreOfTwoInActive, AreTermsAlike, AreAllAlike, AreActivesAlike}
 use Rattle.sd_confluence.proofs.commuting.NextMoves.{order}
 use Rattle.sd_confluence.proofs.commuting.Stable.{apart_sym}
 use Rattle.sd_confluence.proofs.image.Images.{IsNext, IsNextAt, IsNextIn, IsNextHere}
 use Rattle.sd_confluence.proofs.image.NextLinked.{next-unfinished}
-use Rattle.sd_confluence.proofs.left.Beside.{same_memory, put_at, moved_part, list_move, other_part, unseen, beside}
+use Rattle.sd_confluence.proofs.left.Beside.{put_at, moved_part, list_move, other_part, unseen, beside}
 use Rattle.sd_confluence.proofs.left.NextListed.{next-unseen}
-
-mutual
-  -- each term is alike itself
-  pub same_term : {P : Type 0} (t : Term P) → AreTermsAlike t t
-  same_term (leaf place work) = refl
-  same_term (list kind before parts) = (parts, refl, same_terms parts)
-  same_term (owning own part) = (own, part, refl, same_memory own, same_term part)
-  same_term (nested body exits own state values part) = (own, part, refl, same_memory own, same_term part)
-  same_term (ended own) = (own, refl, same_memory own)
-  same_term (pool level container body active closed) = (active, refl, same_actives active)
-
-  same_terms : {P : Type 0} (ts : Terms P) → AreAllAlike ts ts
-  same_terms none = refl
-  same_terms (also t ts) = (t, ts, refl, same_term t, same_terms ts)
-
-  same_actives : {P : Type 0} (ts : Actives P) → AreActivesAlike ts ts
-  same_actives idle = refl
-  same_actives (busy v t ts) = (t, ts, refl, same_term t, same_actives ts)
-
--- ---- squares
-
--- two moves, one behind the other, may be made in the other order; what was unfinished between them stays so, and the other move stays next
-abbrev pub Square : {P A L : Type 0} → (A → L → Memories → Move P A) → (A → L → Memories → Type 0) → (A → A → Type 0) → (A → Bool) → A → L → L → Memories → Type 0
-Square {P} {A} {L} go N R over x p q s =
-    (b : Bool) (u : Change) (y : A) → go x p s ≡ goes b u y →
-    (over y ≡ false) × N y q (apply u s) × ((c : Bool) (v : Change) (z : A) → go y q (apply u s) ≡ goes c v z →
-    (early : A) × (last : A) × (go x q s ≡ goes c v early) × (over early ≡ false) × (go early p (apply v s) ≡ goes b u last) × R z last × AreStacksAlike (apply v (apply u s)) (apply u (apply v s)) × N early p (apply v s))
-
--- in a whole that answers as its part
-square_map : {P A B L M : Type 0} (f : A → B) (g : A → L → Memories → Move P A) (h : B → M → Memories → Move P B) (N : A → L → Memories → Type 0) (O : B → M → Memories → Type 0) (R : A → A → Type 0) (S : B → B → Type 0) (over : A → Bool) (over' : B → Bool) (p q : L) (p' q' : M) →
-    ((x : A) (s : Memories) → h (f x) p' s ≡ map_move f (g x p s)) → ((x : A) (s : Memories) → h (f x) q' s ≡ map_move f (g x q s)) →
-    ((x : A) (s : Memories) → N x p s → O (f x) p' s) → ((x : A) (s : Memories) → N x q s → O (f x) q' s) →
-    ((x y : A) → R x y → S (f x) (f y)) → ((x : A) → over x ≡ false → over' (f x) ≡ false) →
-    (x : A) (s : Memories) → Square g N R over x p q s → Square h O S over' (f x) p' q' s
-square_map f g h N O R S over over' p q p' q' ep eq np nq alike still x s sq = λ b u y e.
-    let one = moved_part f (g x p s) b u y (sym (ep x s) ∙ e) in
-    let r = sq b u one.0 one.1 in (
-      subst (λ z. over' z ≡ false) one.2 (still one.0 r.0),
-      subst (λ z. O z q' (apply u s)) one.2 (nq one.0 (apply u s) r.1),
-      λ c v z d.
-          let two = moved_part f (g one.0 q (apply u s)) c v z (sym (eq one.0 (apply u s)) ∙ ap (λ w. h w q' (apply u s)) one.2 ∙ d) in
-          let k = r.2 c v two.0 two.1 in (
-            f k.0,
-            f k.1,
-            eq x s ∙ ap (map_move f) k.2,
-            still k.0 k.3,
-            ep k.0 (apply v s) ∙ ap (map_move f) k.4,
-            subst (λ w. S w (f k.1)) two.2 (alike two.0 k.1 k.5),
-            k.6,
-            np k.0 (apply v s) k.7,
-          ),
-    )
-
--- the move behind one of an owner
-owned_back : {P : Type 0} (whole : Memory → Term P → Term P) (own : Memory) (m : Move P (Term P)) (b : Bool) (u : Change) (y : Term P) → owned whole own m ≡ goes b u y →
-    (v : Change) × (x : Term P) × (m ≡ goes b v x) × (outer v ≡ u) × (whole (own_after v own) x ≡ y)
-owned_back whole own (fails c fault) b u y e = cc
-owned_back whole own (goes c v x) b u y e = (v, x, cc, cc, cc)
-owned_back whole own no_move b u y e = cc
-
--- inside an owner
-square_owned : {P : Type 0} (whole : Memory → Term P → Term P) (p q : Path) →
-    ((f : Memory) (z : Term P) (s : Memories) → finished z ≡ false → fire (whole f z) p s ≡ owned whole f (fire z p (f ∷ s))) →
-    ((f : Memory) (z : Term P) (s : Memories) → finished z ≡ false → fire (whole f z) q s ≡ owned whole f (fire z q (f ∷ s))) →
-    ((f : Memory) (z : Term P) (r : Path) (s : Memories) → finished z ≡ false → IsNext z r (f ∷ s) → IsNext (whole f z) r s) →
-    ((f g : Memory) (z w : Term P) → AreAlike f g → AreTermsAlike z w → AreTermsAlike (whole f z) (whole g w)) → ((f : Memory) (z : Term P) → finished z ≡ false → finished (whole f z) ≡ false) →
-    (own : Memory) (t : Term P) (s : Memories) → finished t ≡ false → Square fire IsNext AreTermsAlike finished t p q (own ∷ s) → Square fire IsNext AreTermsAlike finished (whole own t) p q s
-square_owned {P} whole p q ep eq next alike still own t s un sq = λ b u y e.
-    let one = owned_back whole own (fire t p (own ∷ s)) b u y (sym (ep own t s un) ∙ e) in
-    let r = sq b one.0 one.1 one.2 in
-    let f1 : Memory = own_after one.0 own in (
-      subst (λ z. finished z ≡ false) one.4 (still f1 one.1 r.0),
-      subst (λ w. IsNext y q (apply w s)) one.3 (subst (λ z. IsNext z q (apply (outer one.0) s)) one.4 (next f1 one.1 q (apply (outer one.0) s) r.0 (subst (IsNext one.1 q) (apply-own one.0 own s) r.1))),
-      λ c v z d.
-          let here : fire (whole f1 one.1) q (apply (outer one.0) s) ≡ goes c v z = (λ i. fire (one.4 i) q (apply (one.3 i) s)) ∙ d in
-          let two = owned_back whole f1 (fire one.1 q (f1 ∷ apply (outer one.0) s)) c v z (sym (eq f1 one.1 (apply (outer one.0) s) r.0) ∙ here) in
-          let k = r.2 c two.0 two.1 (ap (fire one.1 q) (apply-own one.0 own s) ∙ two.2) in
-          let f2 : Memory = own_after two.0 own in
-          let left : apply two.0 (apply one.0 (own ∷ s)) ≡ own_after two.0 f1 ∷ apply (outer two.0) (apply (outer one.0) s) = ap (apply two.0) (apply-own one.0 own s) ∙ apply-own two.0 f1 (apply (outer one.0) s) in
-          let right : apply one.0 (apply two.0 (own ∷ s)) ≡ own_after one.0 f2 ∷ apply (outer one.0) (apply (outer two.0) s) = ap (apply one.0) (apply-own two.0 own s) ∙ apply-own one.0 f2 (apply (outer two.0) s) in
-          let stacks : AreStacksAlike (own_after two.0 f1 ∷ apply (outer two.0) (apply (outer one.0) s)) (own_after one.0 f2 ∷ apply (outer one.0) (apply (outer two.0) s)) =
-          subst (λ w. AreStacksAlike w (own_after one.0 f2 ∷ apply (outer one.0) (apply (outer two.0) s))) left (subst (AreStacksAlike (apply two.0 (apply one.0 (own ∷ s)))) right k.6) in (
-            whole f2 k.0,
-            whole (own_after one.0 f2) k.1,
-            eq own t s un ∙ ap (owned whole own) k.2 ∙ (λ i. goes c (two.3 i) (whole f2 k.0)),
-            still f2 k.0 k.3,
-            ap (λ w. fire (whole f2 k.0) p (apply w s)) (sym two.3) ∙ ep f2 k.0 (apply (outer two.0) s) k.3
-                ∙ ap (owned whole f2) (ap (fire k.0 p) (sym (apply-own two.0 own s)) ∙ k.4) ∙ (λ i. goes b (one.3 i) (whole (own_after one.0 f2) k.1)),
-            subst (λ w. AreTermsAlike w (whole (own_after one.0 f2) k.1)) two.4 (alike (own_after two.0 f1) (own_after one.0 f2) two.1 k.1 stacks.0 k.5),
-            subst (λ w. AreStacksAlike (apply w (apply u s)) (apply u (apply w s))) two.3 (subst (λ w. AreStacksAlike (apply (outer two.0) (apply w s)) (apply w (apply (outer two.0) s))) one.3 stacks.1),
-            subst (λ w. IsNext (whole f2 k.0) p (apply w s)) two.3 (next f2 k.0 p (apply (outer two.0) s) k.3 (subst (IsNext k.0 p) (apply-own two.0 own s) k.7)),
-          ),
-    )
+use Rattle.sd_confluence.proofs.left.Squares.{same_term, same_terms, same_actives, Square, square_map, square_owned}
+use Rattle.sd_confluence.proofs.left.PoolSides.{square_two, square_take, square_taken}
 
 -- ---- parts that may both go on
 
@@ -208,27 +115,27 @@ inside_next : {P : Type 0} (b : Bool) (p q : Path) (t : Term P) (C D : Type 0) �
 inside_next true p q t C D d c e = absurd (not_here t (subst (AreOfTwoParts t []) e (subst (λ r. AreOfTwoParts t r q) c d)))
 inside_next false p q t C D d c e = (refl, c, e)
 
-abbrev fire_at : {P : Type 0} → Terms P → ℕ × Path → Memories → Move P (Terms P)
+abbrev pub fire_at : {P : Type 0} → Terms P → ℕ × Path → Memories → Move P (Terms P)
 fire_at ts k s = fire_part ts k.0 k.1 s
 
 -- a part stays next, and no flag of the list goes down
-abbrev NextAt : {P : Type 0} → Terms P → Terms P → ℕ × Path → Memories → Type 0
+abbrev pub NextAt : {P : Type 0} → Terms P → Terms P → ℕ × Path → Memories → Type 0
 NextAt ts us k s = IsNextAt us k.0 k.1 s × Below (flags_of ts) (flags_of us)
 
-abbrev NextIn : {P : Type 0} → Actives P → ℕ × Path → Memories → Type 0
+abbrev pub NextIn : {P : Type 0} → Actives P → ℕ × Path → Memories → Type 0
 NextIn us k s = IsNextIn us k.0 k.1 s
 
-still_list : {P : Type 0} (kind : Parts) (before : ℕ → ℕ → Bool) (ts : Terms P) (i : ℕ) (p : Path) → is_ready before (flags_of ts) i ≡ true → (x : Terms P) (s : Memories) → NextAt ts x (i, p) s → IsNext (list kind before x) (i ∷ p) s
+pub still_list : {P : Type 0} (kind : Parts) (before : ℕ → ℕ → Bool) (ts : Terms P) (i : ℕ) (p : Path) → is_ready before (flags_of ts) i ≡ true → (x : Terms P) (s : Memories) → NextAt ts x (i, p) s → IsNext (list kind before x) (i ∷ p) s
 still_list kind before ts i p r x s c = (ready_up before 0 (flags_of ts) (flags_of x) i c.1 r, c.0)
 
-first_flag : {P : Type 0} (t x : Term P) (ts : Terms P) → finished t ≡ false → Below (flags_of (also t ts)) (flags_of (also x ts))
+pub first_flag : {P : Type 0} (t x : Term P) (ts : Terms P) → finished t ≡ false → Below (flags_of (also t ts)) (flags_of (also x ts))
 first_flag t x ts un = ((λ e. let no : true ≡ false = sym e ∙ un in cc), below_same (flags_of ts))
 
 pub here_next : (b : Bool) (p : Path) (C : Type 0) → b ≡ false → C → IsNextHere b p C
 here_next true p C e c = cc
 here_next false p C e c = c
 
-abbrev fire_in : {P : Type 0} → Actives P → ℕ × Path → Memories → Move P (Actives P)
+abbrev pub fire_in : {P : Type 0} → Actives P → ℕ × Path → Memories → Move P (Actives P)
 fire_in ts k s = fire_active ts k.0 k.1 s
 
 mutual
@@ -258,12 +165,16 @@ mutual
   square (pool l k body active closed) (n ∷ []) q s f c d o = absurd o
   square (pool l k body active closed) (n ∷ i ∷ p) [] s f c d o = absurd o
   square (pool l k body active closed) (n ∷ i ∷ p) (m ∷ []) s f c d o = absurd o
-  square (pool l k body active closed) (zero ∷ i ∷ p) (m ∷ j ∷ q) s f c d o = cc
-  square (pool l k body active closed) (suc zero ∷ i ∷ p) (zero ∷ j ∷ q) s f c d o = cc
-  square {P} (pool l k body active closed) (suc zero ∷ i ∷ p) (suc zero ∷ j ∷ q) s f c d o =
-      subst (λ w. Square fire IsNext AreTermsAlike finished (pool l k body active closed) (1 ∷ i ∷ p) (1 ∷ w ∷ q) s) o.2
-      (square_map (λ x. pool l k body x closed) fire_in fire NextIn IsNext AreActivesAlike AreTermsAlike (λ x. false) finished (i, p) (i, q) (1 ∷ i ∷ p) (1 ∷ i ∷ q) (λ x s'. refl) (λ x s'. refl) (λ x s' z. (c.0, z)) (λ x s' z. (c.0, z)) (λ x y h. (x, refl, h)) (λ x e. c.0) active s
-      (square_in active i p q s f.0 c.1 (subst (λ w. IsNextIn active w q s) (sym o.2) d.1) o.3))
+  square (pool l k body active closed) (zero ∷ i ∷ p) (zero ∷ j ∷ q) s f c d o = absurd o
+  square (pool l k body active closed) (zero ∷ i ∷ p) (suc zero ∷ j ∷ q) s f c d o = square_taken l k body active closed i j p q s f.2 c d
+  square (pool l k body active closed) (zero ∷ i ∷ p) (suc (suc m) ∷ j ∷ q) s f c d o = absurd d
+  square (pool l k body active closed) (suc zero ∷ i ∷ p) (zero ∷ j ∷ q) s f c d o = square_take l k body active closed i j p q s f.2 c d
+  square {P} (pool l k body active closed) (suc zero ∷ i ∷ p) (suc zero ∷ j ∷ q) s f c d o = elim o [
+    | inl n ↦ square_two l k body active closed i j p q s n f.2 c d
+    | inr deep ↦ subst (λ w. Square fire IsNext AreTermsAlike finished (pool l k body active closed) (1 ∷ i ∷ p) (1 ∷ w ∷ q) s) deep.0
+        (square_map (λ x. pool l k body x closed) fire_in fire NextIn IsNext AreActivesAlike AreTermsAlike (λ x. false) finished (i, p) (i, q) (1 ∷ i ∷ p) (1 ∷ i ∷ q) (λ x s'. refl) (λ x s'. refl) (λ x s' z. (c.0, z)) (λ x s' z. (c.0, z)) (λ x y h. (x, refl, h)) (λ x e. c.0) active s
+        (square_in active i p q s f.0 c.1 (subst (λ w. IsNextIn active w q s) (sym deep.0) d.1) deep.1))
+  ]
   square (pool l k body active closed) (suc zero ∷ i ∷ p) (suc (suc m) ∷ j ∷ q) s f c d o = absurd d
   square (pool l k body active closed) (suc (suc n) ∷ i ∷ p) (m ∷ j ∷ q) s f c d o = absurd c
 

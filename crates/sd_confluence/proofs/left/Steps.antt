@@ -41,7 +41,7 @@ pub record Made {P : Type 0} (t : Term P) (n : ℕ) (p : Path) (x : Machine P) :
   pub pays : Pays turn n turns
   pub is : machine (settled left) turns ≡ x
 
-made : {P : Type 0} (t : Term P) (n : ℕ) (p : Path) (x : Machine P) → IsNext t p [] → step p (machine t n) ≡ Done x → Made t n p x
+pub made : {P : Type 0} (t : Term P) (n : ℕ) (p : Path) (x : Machine P) → IsNext t p [] → step p (machine t n) ≡ Done x → Made t n p x
 made {P} t n p x c e = go (fire t p []) refl e
   where
     go : (m : Move P (Term P)) → fire t p [] ≡ m → moved (machine t n) m ≡ Done x → Made t n p x
@@ -50,13 +50,13 @@ made {P} t n p x c e = go (fire t p []) refl e
     go no_move q h = absurd (answers t p c q)
 
 -- a move of a term and of the settled one
-settled_move : {P : Type 0} (t : Term P) (p : Path) (b : Bool) (u : Change) (y : Term P) → IsSafe t → IsNext t p [] → fire t p [] ≡ goes b u y → (x : Term P) × (fire (settled t) p [] ≡ goes b u x) × (settled x ≡ settled y)
+pub settled_move : {P : Type 0} (t : Term P) (p : Path) (b : Bool) (u : Change) (y : Term P) → IsSafe t → IsNext t p [] → fire t p [] ≡ goes b u y → (x : Term P) × (fire (settled t) p [] ≡ goes b u x) × (settled x ≡ settled y)
 settled_move {P} t p b u y f c e =
     let k : Same (Later true [] []) (goes b u y) (fire (settled t) p []) = subst (λ (m : Move P (Term P)). Same (Later true [] []) m (fire (settled t) p [])) e (moved-settled t p [] f c true []) in
     (k.0, k.1, subst (λ s. settle true [] s k.0 ≡ settle true [] s y) (nothing_stays u) (k.2 true [] (λ go. go) tt))
 
 -- the move of a settled term is one of the term before it was settled
-unsettled_move : {P : Type 0} (t : Term P) (p : Path) (b : Bool) (u : Change) (x : Term P) → IsSafe t → IsNext t p [] → fire (settled t) p [] ≡ goes b u x → (y : Term P) × (fire t p [] ≡ goes b u y) × (settled x ≡ settled y)
+pub unsettled_move : {P : Type 0} (t : Term P) (p : Path) (b : Bool) (u : Change) (x : Term P) → IsSafe t → IsNext t p [] → fire (settled t) p [] ≡ goes b u x → (y : Term P) × (fire t p [] ≡ goes b u y) × (settled x ≡ settled y)
 unsettled_move {P} t p b u x f c e = go (fire t p []) refl (moved-settled t p [] f c true [])
   where
     go : (m : Move P (Term P)) → fire t p [] ≡ m → Same (Later true [] []) m (fire (settled t) p []) → (y : Term P) × (fire t p [] ≡ goes b u y) × (settled x ≡ settled y)

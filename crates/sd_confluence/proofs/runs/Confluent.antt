@@ -109,7 +109,7 @@ walk zero n up m e r f a picks = look_on n m e r f a picks (λ j less y z s g. a
 walk (suc bound) n up m e r f a picks = look_on n m e r f a picks (λ j less y z s g. walk bound j (omega arith) y e z s g (drop 1 picks))
 
 -- a run to an end is one of the image
-run_ends : {P : Type 0} (k : ℕ) (picks : List ℕ) (m x : Machine P) → Ready m → Reaches k picks m x → (j : ℕ) × Ends j (engine m.term m.turns) (engine x.term x.turns)
+pub run_ends : {P : Type 0} (k : ℕ) (picks : List ℕ) (m x : Machine P) → Ready m → Reaches k picks m x → (j : ℕ) × Ends j (engine m.term m.turns) (engine x.term x.turns)
 run_ends zero picks m x r h = elim h [ ]
 run_ends (suc k) picks m x r (inl h) = (0, (ap (λ w. engine w.term w.turns) h.1, λ q c. ended_image m r h.0 q c))
 run_ends {P} (suc k) picks m x r (inr h) = go (fire m.term c []) refl (linked m.term c []) h.4 (λ z. run_ends k (drop 1 picks) h.3 x z h.5)

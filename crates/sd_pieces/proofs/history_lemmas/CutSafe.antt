@@ -174,7 +174,7 @@ some-is {A} x y e = ap (or_else x) e
     or_else d None = d
     or_else d (Some z) = z
 
-all-at : {A : Type 0} (R : A → Type 0) (xs : List A) (i : ℕ) (x : A) → slice_get xs i ≡ Some x → AllByRecursion R xs → R x
+pub all-at : {A : Type 0} (R : A → Type 0) (xs : List A) (i : ℕ) (x : A) → slice_get xs i ≡ Some x → AllByRecursion R xs → R x
 all-at R [] i x e h = cc
 all-at R (y ∷ xs) zero x e h = subst R (some-is y x e) h.0
 all-at R (y ∷ xs) (suc i) x e h = all-at R xs i x e h.1
@@ -198,7 +198,7 @@ some-piece (x ∷ xs) touch (inl h) = (zero, x, refl, h)
 some-piece (x ∷ xs) touch (inr h) = let r = some-piece xs touch h in (suc r.0, r.1, r.2, r.3)
 
 -- a piece is of an item
-abbrev IsOf : {P : Type 0} → ℕ → Terms P → Piece P → Type 0
+abbrev pub IsOf : {P : Type 0} → ℕ → Terms P → Piece P → Type 0
 IsOf n items x = (a : ℕ) × (x.item ≡ n + a) × ((touch : Touch) → Touches x.term touch → Touches (part_at items a) touch)
 
 all-map : {A : Type 0} (R S : A → Type 0) → ((x : A) → R x → S x) → (xs : List A) → AllByRecursion R xs → AllByRecursion S xs
@@ -217,7 +217,7 @@ both-second : {P : Type 0} (a b : Terms P) (touch : Touch) → SomePartTouches b
 both-second none b touch k = k
 both-second (also t a) b touch k = inr (both-second a b touch k)
 
-pieces-of : {P : Type 0} (n : ℕ) {items : Terms P} {pieces : List (Piece P)} → IsCut n items pieces → AllByRecursion (IsOf n items) pieces
+pub pieces-of : {P : Type 0} (n : ℕ) {items : Terms P} {pieces : List (Piece P)} → IsCut n items pieces → AllByRecursion (IsOf n items) pieces
 pieces-of n no_items = tt
 pieces-of n (as_it_is {items} {pieces} term c) = ((zero, omega arith, λ touch h. h), all-map _ _ (next-of n term items) pieces (pieces-of (suc n) c))
 pieces-of {P} n (in_pieces {items} {pieces} before runs never c) =

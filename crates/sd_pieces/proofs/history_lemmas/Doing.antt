@@ -132,11 +132,11 @@ leaf-goes place (doing left) s s' n n' h = doing-goes place left s s' n n' h
 -- ---- terms
 
 -- an owner of private containers
-scope-owner : {P : Type 0} → IsOwner {P = P} scope
+pub scope-owner : {P : Type 0} → IsOwner {P = P} scope
 scope-owner = record { acts = λ f t p s c. refl; cans = λ f t p s c. c }
 
 -- what stands behind an owner's memory
-behind : (z : Memories) (f : Frame) (s : Stack) → stack_of z ≡ f ∷ s → s ≡ stack_of (drop 1 z)
+pub behind : (z : Memories) (f : Frame) (s : Stack) → stack_of z ≡ f ∷ s → s ≡ stack_of (drop 1 z)
 behind [] f s e = cc
 behind (m ∷ z) f s e = sym (ap tail_of e)
   where
@@ -144,11 +144,11 @@ behind (m ∷ z) f s e = sym (ap tail_of e)
     tail_of [] = []
     tail_of (f ∷ s) = s
 
-all_ready : {P : Type 0} (before : ℕ → ℕ → Bool) (j k : ℕ) (pre : Works P) → all_over pre ≡ true → ready_from before j (overs pre) k ≡ true
+pub all_ready : {P : Type 0} (before : ℕ → ℕ → Bool) (j k : ℕ) (pre : Works P) → all_over pre ≡ true → ready_from before j (overs pre) k ≡ true
 all_ready before j k no_works h = refl
 all_ready before j k (and_work t pre) h = let e = both (is_over t) (all_over pre) h in both_true _ _ (ap (λ b. b || not (before j k)) e.0) (all_ready before (suc j) k pre e.1)
 
-all_more : {P : Type 0} (pre : Works P) (t : Work P) → all_over pre ≡ true → is_over t ≡ true → all_over (plus pre (and_work t no_works)) ≡ true
+pub all_more : {P : Type 0} (pre : Works P) (t : Work P) → all_over pre ≡ true → is_over t ≡ true → all_over (plus pre (and_work t no_works)) ≡ true
 all_more no_works t h e = both_true _ _ e refl
 all_more (and_work y pre) t h e = let k = both (is_over y) (all_over pre) h in both_true _ _ k.0 (all_more pre t k.1 e)
 
@@ -215,24 +215,24 @@ states-goes {P} body exits all ih (suc most) state values t o z z' n n' f s e h 
           exit-moves inside exits f state values t s z e o exit.marked (nest inside exits f exit.state exit.values (inside exit.state exit.values)) n p.0 (ap (follow inside exits f) q) p.1 (over k.0) k.1 n' (goes-then g.3 k.3),
         )
 
-plus_nothing : {P : Type 0} (pre : Works P) → plus pre no_works ≡ pre
+pub plus_nothing : {P : Type 0} (pre : Works P) → plus pre no_works ≡ pre
 plus_nothing no_works = refl
 plus_nothing (and_work t pre) = ap (and_work t) (plus_nothing pre)
 
 -- ---- pools
 
-at_last-plus : {P : Type 0} (ts : Works P) (t : Work P) → at_last ts t ≡ plus ts (and_work t no_works)
+pub at_last-plus : {P : Type 0} (ts : Works P) (t : Work P) → at_last ts t ≡ plus ts (and_work t no_works)
 at_last-plus no_works t = refl
 at_last-plus (and_work y ts) t = ap (and_work y) (at_last-plus ts t)
 
-put_same : {P : Type 0} (v : ℤ) (ts : Works P) (active : ℤ → Works P) → put_active v ts active v ≡ ts
+pub put_same : {P : Type 0} (v : ℤ) (ts : Works P) (active : ℤ → Works P) → put_active v ts active v ≡ ts
 put_same v ts active = ap (λ b. cond b ts (active v)) (same-refl v)
 
-put_other : {P : Type 0} (v w : ℤ) (ts : Works P) (active : ℤ → Works P) → int_eq v w ≡ false → put_active v ts active w ≡ active w
+pub put_other : {P : Type 0} (v w : ℤ) (ts : Works P) (active : ℤ → Works P) → int_eq v w ≡ false → put_active v ts active w ≡ active w
 put_other v w ts active e = ap (λ b. cond b ts (active w)) e
 
 -- moves of one active work of a value are moves of the pool
-basin-goes : {P : Type 0} (l c : ℕ) (body : ℤ → Work P) (v : ℤ) (pre post : Works P) {t t' : Work P} {s s' : Stack} {n n' : ℕ} → Goes t s n t' s' n' → (active : ℤ → Works P) → active v ≡ plus pre (and_work t post) →
+pub basin-goes : {P : Type 0} (l c : ℕ) (body : ℤ → Work P) (v : ℤ) (pre post : Works P) {t t' : Work P} {s s' : Stack} {n n' : ℕ} → Goes t s n t' s' n' → (active : ℤ → Works P) → active v ≡ plus pre (and_work t post) →
     (active' : ℤ → Works P) × (active' v ≡ plus pre (and_work t' post)) × ((w : ℤ) → int_eq v w ≡ false → active' w ≡ active w) × Goes (basin l c body active false) s n (basin l c body active' false) s' n'
 basin-goes l c body v pre post (stays w s n) active e = (active, e, (λ w f. refl), stays (basin l c body active false) s n)
 basin-goes l c body v pre post (moves w x w' s s' n m n' p b u k a y g) active e =
@@ -248,7 +248,7 @@ basin-goes l c body v pre post (moves w x w' s s' n m n' p b u k a y g) active e
     )
 
 -- all active works are over
-abbrev AllOver : {P : Type 0} → (ℤ → Works P) → Type 0
+abbrev pub AllOver : {P : Type 0} → (ℤ → Works P) → Type 0
 AllOver active = (w : ℤ) → all_over (active w) ≡ true
 
 takes-goes : {P : Type 0} (l c : ℕ) (body : ℤ → Term P) (all : ℕ) → ((value : ℤ) → IsDoneBy (body value) all) → (most : ℕ) (active : ℤ → Works P) → AllOver active → (s s' : Memories) (n n' : ℕ) →

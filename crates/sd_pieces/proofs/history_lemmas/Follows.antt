@@ -24,7 +24,7 @@ from-earlier t most s s' turns end e h =
     told-course t most s' turns ∙ ap (λ (c : Course _). told c s') (course-depends t most s s' turns h) ∙ ap (λ x. told_end x (apply_all (course t most s turns).changes s')) e
 
 -- where work came to an end its course tells it
-told-end : {P : Type 0} (end : Option (Outcome P ℕ)) (s s' : Memories) (n : ℕ) → told_end end s ≡ reached s' n → (end ≡ Some (Done n)) × (s ≡ s')
+pub told-end : {P : Type 0} (end : Option (Outcome P ℕ)) (s s' : Memories) (n : ℕ) → told_end end s ≡ reached s' n → (end ≡ Some (Done n)) × (s ≡ s')
 told-end (Some (Done m)) s s' n h = (ap (λ k. Some (Done k)) (ap turns_in h), ap (memories_in s) h)
 told-end (Some (Faulted fault)) s s' n h = not_reached (Some (Faulted fault)) h (λ x. x)
 told-end (Some Spent) s s' n h = not_reached (Some Spent) h (λ x. x)
@@ -67,7 +67,7 @@ pub spent-follows : {P : Type 0} (term : Term P) (most : ℕ) (earlier memories 
 spent-follows term most earlier memories turns e a = from-earlier term most earlier memories turns (Some Spent) e a
 
 -- with a part of its turns left, work wants just the others
-just-so-many : {P : Type 0} (t : Term P) (most : ℕ) (s s' : Memories) (allowed left : ℕ) → big_step t most s allowed ≡ reached s' left → (spent : ℕ) × (allowed ≡ spent + left) × (big_step t most s spent ≡ reached s' 0)
+pub just-so-many : {P : Type 0} (t : Term P) (most : ℕ) (s s' : Memories) (allowed left : ℕ) → big_step t most s allowed ≡ reached s' left → (spent : ℕ) × (allowed ≡ spent + left) × (big_step t most s spent ≡ reached s' 0)
 just-so-many t most s s' allowed left h =
     let e = told-end (course t most s allowed).end (apply_all (course t most s allowed).changes s) s' left (sym (told-course t most s allowed) ∙ h) in
     let x = course-exact t most s allowed left e.0 in

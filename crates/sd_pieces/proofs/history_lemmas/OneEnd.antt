@@ -9,12 +9,12 @@ use Rattle.sd_pieces.specs.history.History.{History, nothing_done, and_piece}
 use Rattle.sd_pieces.proofs.history_lemmas.Doing.{memories_in, turns_in}
 use Rattle.sd_pieces.proofs.history_lemmas.Follows.{big-more}
 
-never-empty : (h : List ℕ) (x : ℕ) → [] ≡ h ++ x ∷ [] → ⊥
+pub never-empty : (h : List ℕ) (x : ℕ) → [] ≡ h ++ x ∷ [] → ⊥
 never-empty [] x e = cc
 never-empty (y ∷ h) x e = cc
 
 -- of two equal lists the last ones are equal, and what is before them
-last-same : (h k : List ℕ) (x y : ℕ) → h ++ x ∷ [] ≡ k ++ y ∷ [] → (h ≡ k) × (x ≡ y)
+pub last-same : (h k : List ℕ) (x y : ℕ) → h ++ x ∷ [] ≡ k ++ y ∷ [] → (h ≡ k) × (x ≡ y)
 last-same [] [] x y e = (refl, cc)
 last-same [] (z ∷ k) x y e = let tail : [] ≡ k ++ y ∷ [] = cc in absurd (never-empty k y tail)
 last-same (z ∷ h) [] x y e = let tail : [] ≡ h ++ x ∷ [] = cc in absurd (never-empty h x tail)
@@ -40,7 +40,7 @@ wants t most s a b n k p q =
     let none : k ≡ 0 = ap turns_in e in
     (ap (memories_in a) e, omega arith)
 
-wants-one : {P : Type 0} (t : Term P) (most : ℕ) (s a b : Memories) (n m : ℕ) → big_step t most s n ≡ reached a 0 → big_step t most s m ≡ reached b 0 → (a ≡ b) × (n ≡ m)
+pub wants-one : {P : Type 0} (t : Term P) (most : ℕ) (s a b : Memories) (n m : ℕ) → big_step t most s n ≡ reached a 0 → big_step t most s m ≡ reached b 0 → (a ≡ b) × (n ≡ m)
 wants-one t most s a b n m p q = on (which n m)
   where
     on : ((k : ℕ) × (m ≡ n + k)) ⊎ ((k : ℕ) × (n ≡ m + k)) → (a ≡ b) × (n ≡ m)

@@ -30,13 +30,13 @@ use Rattle.sd_pieces.proofs.history_lemmas.Follows.{big-more}
 -- ---- works by their numbers
 
 -- the work of this number, where there is one
-abbrev nth : {P : Type 0} → Works P → ℕ → Option (Bag P)
+abbrev pub nth : {P : Type 0} → Works P → ℕ → Option (Bag P)
 nth no_works k = None
 nth (and_work t ts) zero = Some t
 nth (and_work t ts) (suc k) = nth ts k
 
 -- works cut at one of them
-record Cut {P : Type 0} (ws : Works P) (k : ℕ) (t : Bag P) : Type 0 where
+pub record Cut {P : Type 0} (ws : Works P) (k : ℕ) (t : Bag P) : Type 0 where
   pub pre : Works P
   pub post : Works P
   pub whole : ws ≡ plus pre (and_work t post)
@@ -53,7 +53,7 @@ abbrev from_some : {A : Type 0} → A → Option A → A
 from_some d None = d
 from_some d (Some x) = x
 
-cut : {P : Type 0} (ws : Works P) (k : ℕ) (t : Bag P) → nth ws k ≡ Some t → Cut ws k t
+pub cut : {P : Type 0} (ws : Works P) (k : ℕ) (t : Bag P) → nth ws k ≡ Some t → Cut ws k t
 cut no_works k t e = none_some e
 cut (and_work y ws) zero t e = record { pre = no_works; post = ws; whole = ap (λ o. and_work (from_some y o) ws) e; count = refl }
 cut (and_work y ws) (suc k) t e = let c = cut ws k t e in record { pre = and_work y c.pre; post = c.post; whole = ap (and_work y) c.whole; count = ap suc c.count }
@@ -74,7 +74,7 @@ nth_front (and_work y pre) post t zero h = refl
 nth_front (and_work y pre) post t (suc j) h = nth_front pre post t j (omega arith)
 
 -- a work that is there is over
-abbrev OverIf : {P : Type 0} → Option (Bag P) → Type 0
+abbrev pub OverIf : {P : Type 0} → Option (Bag P) → Type 0
 OverIf None = ⊥
 OverIf (Some t) = is_over t ≡ true
 
@@ -102,7 +102,7 @@ all_by (and_work t ws) h = both_true (is_over t) _ (h 0) (all_by ws (λ j. h (su
 -- ---- after a history
 
 -- pieces in the history are over, the others as they were
-record After {P : Type 0} (work : Work P) (history : List ℕ) (ws : Works P) : Type 0 where
+pub record After {P : Type 0} (work : Work P) (history : List ℕ) (ws : Works P) : Type 0 where
   pub finished : (k : ℕ) (p : Piece P) → slice_get work.pieces k ≡ Some p → is_in_history k history ≡ true → OverIf (nth ws k)
   pub others : (k : ℕ) (p : Piece P) → slice_get work.pieces k ≡ Some p → is_in_history k history ≡ false → nth ws k ≡ Some (work_of p.term)
   pub no_more : (k : ℕ) → slice_get work.pieces k ≡ None → nth ws k ≡ None
@@ -117,12 +117,12 @@ none_first [] k e = refl
 none_first (q ∷ ps) zero e = none_some (sym e)
 none_first (q ∷ ps) (suc k) e = none_first ps k e
 
-flat_at : {P : Type 0} (ps : List (Piece P)) (k : ℕ) (p : Piece P) → AreOrdered (terms_of ps) → slice_get ps k ≡ Some p → IsOrdered p.term
+pub flat_at : {P : Type 0} (ps : List (Piece P)) (k : ℕ) (p : Piece P) → AreOrdered (terms_of ps) → slice_get ps k ≡ Some p → IsOrdered p.term
 flat_at [] k p f e = none_some e
 flat_at {P} (q ∷ ps) zero p f e = subst (λ (o : Option (Piece P)). IsOrdered (from_some q o).term) e f.0
 flat_at (q ∷ ps) (suc k) p f e = flat_at ps k p f.1 e
 
-stands-append : (j k : ℕ) (h : List ℕ) → is_in_history j (h ++ k ∷ []) ≡ (is_in_history j h || (k == j))
+pub stands-append : (j k : ℕ) (h : List ℕ) → is_in_history j (h ++ k ∷ []) ≡ (is_in_history j h || (k == j))
 stands-append j k [] = or_false (k == j)
   where
     or_false : (b : Bool) → (b || false) ≡ b
@@ -182,7 +182,7 @@ after-piece work h k pre post t x a c o = record {
     on_none j e (inr f) = other j f.0 ∙ a.no_more j e
 
 -- what follows may go on
-may-go : {P : Type 0} (work : Work P) (h : List ℕ) (k : ℕ) (p : Piece P) (pre post : Works P) (t : Bag P) → After work h (plus pre (and_work t post)) → count_works pre ≡ k → MayFollow work h k p → MayGo (piece_before work) pre
+pub may-go : {P : Type 0} (work : Work P) (h : List ℕ) (k : ℕ) (p : Piece P) (pre post : Works P) (t : Bag P) → After work h (plus pre (and_work t post)) → count_works pre ≡ k → MayFollow work h k p → MayGo (piece_before work) pre
 may-go {P} work h k p pre post t a c f = ready_by (piece_before work) pre 0 (count_works pre) each
   where
     over_if : (o : Option (Bag P)) → OverIf o → is_over_if o ≡ true
@@ -202,7 +202,7 @@ may-go {P} work h k p pre post t a c f = ready_by (piece_before work) pre 0 (cou
         (ap (before_if work.before (slice_get work.pieces j)) (sym f.is_piece) ∙ ap (λ n. piece_before work j n) (sym c) ∙ ap (λ n. piece_before work n (count_works pre)) (sym same) ∙ b))
 
 -- a history is made by moves of the pieces
-history-goes : {P : Type 0} (work : Work P) (most : ℕ) (opening : Memories) → IsOrder (piece_before work) → AreOrdered (terms_of work.pieces) → (h : List ℕ) (m : Memories) (turns : ℕ) → History work most opening h m turns → (rest : ℕ) →
+pub history-goes : {P : Type 0} (work : Work P) (most : ℕ) (opening : Memories) → IsOrder (piece_before work) → AreOrdered (terms_of work.pieces) → (h : List ℕ) (m : Memories) (turns : ℕ) → History work most opening h m turns → (rest : ℕ) →
     (ws : Works P) × Goes (group (piece_before work) (works_of (terms_of work.pieces))) (stack_of opening) (turns + rest) (group (piece_before work) ws) (stack_of m) rest × After work h ws
 history-goes work most opening o f h m turns nothing_done rest =
     let same : 0 + rest ≡ rest = omega arith in (
@@ -227,13 +227,13 @@ history-goes {P} work most opening o f h' m' turns' (and_piece {history} {memori
 -- ---- the whole run
 
 -- a run of a graph acts as its state does
-nest-owner : {P : Type 0} (body : ℕ → Values → Bag P) (exits : ℕ → Values → List (Exit P)) (state : ℕ) (values : Values) → IsOwner (λ f t. nest body exits f state values t)
+pub nest-owner : {P : Type 0} (body : ℕ → Values → Bag P) (exits : ℕ → Values → List (Exit P)) (state : ℕ) (values : Values) → IsOwner (λ f t. nest body exits f state values t)
 nest-owner body exits state values = record {
   acts = λ f t p s c. ap (λ b. cond b (follow body exits f (first_exit (exits state values) (plain (f ∷ s)))) (owned_answer (λ g x. nest body exits g state values x) f (act t p (f ∷ s)))) (can_unfinished t p (f ∷ s) c);
   cans = λ f t p s c. can_here (is_over t) p (Can t p (f ∷ s)) (can_unfinished t p (f ∷ s) c) c;
 }
 
-nothing_updated : (u : Update) → updated u [] ≡ []
+pub nothing_updated : (u : Update) → updated u [] ≡ []
 nothing_updated keep = refl
 nothing_updated (put to by v) = refl
 nothing_updated (add l c v) = refl

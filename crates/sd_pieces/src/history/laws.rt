@@ -1,4 +1,4 @@
-ghost use Rattle.std.specs.Prelude.{◌≡◌, ◌+◌, ◌≤◌, ℕ, Bool, List, [], ◌∷◌, ◌++◌, length, Some};
+ghost use Rattle.std.specs.Prelude.{◌≡◌, ◌≢◌, ◌+◌, ◌≤◌, ℕ, Bool, List, [], ◌∷◌, ◌++◌, length, Some};
 ghost use Rattle.sd_work.specs.Memory.{Memory, Memories};
 ghost use Rattle.sd_work.specs.Move.{Fault};
 ghost use Rattle.sd_work.specs.Residual.{Term, Terms};
@@ -17,6 +17,7 @@ ghost use Rattle.sd_pieces.specs.cut.Merged.{Marking, IsMarked, IsPrepared, IsMe
 ghost use Rattle.sd_pieces.specs.cut.Naming.{Naming, IsOneToOne, term_named, IsTouchNamed, AreMemoriesNamed};
 ghost use Rattle.sd_pieces.specs.history.Pieces.{Piece, Work, and_parts, IsCut, graph_of_items, graph_of_pieces};
 ghost use Rattle.sd_pieces.specs.history.History.{MayFollow, History, HasAll};
+ghost use Rattle.sd_pieces.specs.history.DoneWithin.{IsDoneWithin};
 
 /// A history has one memory and one number of turns, whatever number of transitions and takes is allowed; and where more are allowed it stays one.
 pub fn a_history_has_one_end<P>()
@@ -107,4 +108,22 @@ pub fn a_whole_history_ends_as_the_sequential_run<P>()
         → MayInterleave (graph_of_items work.before items own) → HasOrderedPools 0 (graph_of_items work.before items own)
         → HasAll work history → History work most (own ∷ []) history (memory ∷ []) spent
         → (end : Left) × Sequential (graph_of_items work.before items own) (spent + left) (Done end) × AreAlike memory end.memory × (end.turns ≡ left) }
+{}
+
+/// Where the sequential run of items is done within a budget, no history of their pieces wants more turns, and each piece that may follow
+/// on one is done: it makes the history longer. From the history's memory it has no fault, whatever is allowed, and the turns that are left are enough.
+pub fn a_piece_of_a_done_run_is_done<P>()
+    ensures turns { (work : Work P) (items : Terms P) (own : Memory) (budget : ℕ) (left : Left) (most : ℕ) (history : List ℕ) (memories : Memories) (turns : ℕ)
+        → IsDoneWithin work items own budget left → History work most (own ∷ []) history memories turns → turns + left.turns ≤ budget }
+    ensures done { (work : Work P) (items : Terms P) (own : Memory) (budget : ℕ) (left : Left) (most : ℕ) (history : List ℕ) (memories : Memories) (turns number : ℕ) (piece : Piece P)
+        → IsDoneWithin work items own budget left → History work most (own ∷ []) history memories turns → MayFollow work history number piece
+        → (more : ℕ) × (after : Memories) × (spent : ℕ) × History work more (own ∷ []) (history ++ number ∷ []) after (turns + spent) }
+    ensures fault { (work : Work P) (items : Terms P) (own : Memory) (budget : ℕ) (left : Left) (most : ℕ) (history : List ℕ) (memories : Memories) (turns number : ℕ) (piece : Piece P)
+        (more allowed : ℕ) (fault : Fault P)
+        → IsDoneWithin work items own budget left → History work most (own ∷ []) history memories turns → MayFollow work history number piece
+        → big_step piece.term more memories allowed ≢ Some (Faulted fault) }
+    ensures spent { (work : Work P) (items : Terms P) (own : Memory) (budget : ℕ) (left : Left) (most : ℕ) (history : List ℕ) (memories : Memories) (turns number : ℕ) (piece : Piece P)
+        (more allowed : ℕ)
+        → IsDoneWithin work items own budget left → History work most (own ∷ []) history memories turns → MayFollow work history number piece
+        → budget ≤ turns + allowed + left.turns → big_step piece.term more memories allowed ≢ Some Spent }
 {}

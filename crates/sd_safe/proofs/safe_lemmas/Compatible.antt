@@ -21,7 +21,7 @@ pub record AreSeparate (values others : List ℤ) (access other : Access) : Type
   pub streams : access.container ≡ other.container → do_conflict access.mode other.mode ≡ true → (access.box ≡ []) ⊎ (other.box ≡ []) → ⊥
 
 -- a read and a write are of modes that conflict
-read-write : (mode other : Mode) (by : Option Resolution) → AllowsRead mode → AllowsWrite other by → do_conflict mode other ≡ true
+pub read-write : (mode other : Mode) (by : Option Resolution) → AllowsRead mode → AllowsWrite other by → do_conflict mode other ≡ true
 read-write Read Read by allows allows' = absurd allows'
 read-write Read Write by allows allows' = refl
 read-write Read (Resolve resolution) by allows allows' = refl
@@ -84,7 +84,7 @@ streams-differ reach values others access other level container level' container
     (λ different. apart different conflict (here.level_is ∙ same ∙ sym there.level_is) (here.container_is ∙ same' ∙ sym there.container_is))
 
 -- the conflict of two modes, of which these are equal to others
-conflict-is : (mode other first second : Mode) → mode ≡ first → other ≡ second → do_conflict first second ≡ true → do_conflict mode other ≡ true
+pub conflict-is : (mode other first second : Mode) → mode ≡ first → other ≡ second → do_conflict first second ≡ true → do_conflict mode other ≡ true
 conflict-is mode other first second is is' conflict = ap (λ m. do_conflict m other) is ∙ ap (do_conflict first) is' ∙ conflict
 
 -- touches of separate accesses do not conflict

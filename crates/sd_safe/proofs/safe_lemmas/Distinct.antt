@@ -74,7 +74,7 @@ inside-apart own containers reach uses apart use' other member member' different
 write-first : (mode : Mode) → do_conflict Write mode ≡ true
 write-first mode = refl
 
-write-second : (mode : Mode) → do_conflict mode Write ≡ true
+pub write-second : (mode : Mode) → do_conflict mode Write ≡ true
 write-second Read = refl
 write-second Write = refl
 write-second (Resolve resolution) = refl

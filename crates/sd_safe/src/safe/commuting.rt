@@ -10,6 +10,7 @@ ghost use Rattle.sd_work.specs.Run.{Choice, choices};
 ghost use Rattle.sd_work.specs.Touch.{Touch, Touches};
 ghost use Rattle.sd_confluence.specs.Left.{IsLeftOf};
 ghost use Rattle.sd_confluence.specs.Sides.{AreOfTwoParts, AreTermsAlike};
+ghost use Rattle.sd_confluence.specs.Takes.{AreTwoTakes, behind_take, AreTermsReordered};
 ghost use Rattle.sd_range.specs.declared.range.Range.{Range};
 ghost use Rattle.sd_subset.specs.boxes.Box.{Parameter};
 ghost use Rattle.sd_subset.specs.boxes.InForce.{AreInForce, IsPoint};
@@ -26,9 +27,9 @@ ghost use Rattle.sd_safe.specs.normal.NormalForm.{IsGraphNormal};
 ghost use Rattle.sd_safe.specs.safe.Standing.{Spot, StandsInGraph, StandsAlone};
 
 /// At each choice of each run of a valid, accepted graph two next moves commute that are of two parts of one list, as
-/// of two points of a map or of two items of which neither waits for the other. After the one the other is still
-/// next; where it is made too, it may be made first and the one behind it, with as many turns. What they leave is
-/// equal but for the order of values in streams.
+/// of two points of a map or of two items of which neither waits for the other; or of two elements in work of one
+/// consume scope, or of one and a take. After the one the other is still next; where it is made too, it may be made
+/// first and the one behind it, with as many turns. What they leave is equal but for the order of values in streams.
 pub fn steps_in_two_parts_of_a_valid_accepted_graph_commute()
     ensures stays { (tree : GraphTree) (memory : Memory) (steps turns : ℕ) (picks : List ℕ) (choice : Choice Place) (path second : Path) (between : Machine Place)
         → IsValid tree → IsGraphNormal tree → IsGraphAccepted tree
@@ -44,6 +45,25 @@ pub fn steps_in_two_parts_of_a_valid_accepted_graph_commute()
         → step path choice.machine ≡ Done between → step second between ≡ Done both
         → (early last : Machine Place) × (step second choice.machine ≡ Done early) × (step path early ≡ Done last)
         × AreTermsAlike both.term last.term × (both.turns ≡ last.turns) }
+{}
+
+/// At each choice of each run of a valid, accepted graph two next moves that take from one consume scope commute too, each behind the other at
+/// the position that its value has then. What they leave is equal but for the order of the scope's elements in work.
+pub fn two_takes_of_a_valid_accepted_graph_commute()
+    ensures stays { (tree : GraphTree) (memory : Memory) (steps turns : ℕ) (picks : List ℕ) (choice : Choice Place) (path second : Path) (between : Machine Place)
+        → IsValid tree → IsGraphNormal tree → IsGraphAccepted tree
+        → Contains (choices steps picks (opening (run_of tree memory) turns)) choice
+        → Contains (next_moves choice.machine) path → Contains (next_moves choice.machine) second
+        → AreTwoTakes choice.machine.term path second
+        → step path choice.machine ≡ Done between → Contains (next_moves between) (behind_take path second) }
+    ensures commute { (tree : GraphTree) (memory : Memory) (steps turns : ℕ) (picks : List ℕ) (choice : Choice Place) (path second : Path) (between both : Machine Place)
+        → IsValid tree → IsGraphNormal tree → IsGraphAccepted tree
+        → Contains (choices steps picks (opening (run_of tree memory) turns)) choice
+        → Contains (next_moves choice.machine) path → Contains (next_moves choice.machine) second
+        → AreTwoTakes choice.machine.term path second
+        → step path choice.machine ≡ Done between → step (behind_take path second) between ≡ Done both
+        → (early last : Machine Place) × (step second choice.machine ≡ Done early) × (step (behind_take second path) early ≡ Done last)
+        × AreTermsReordered both.term last.term × (both.turns ≡ last.turns) }
 {}
 
 /// At each choice of each run of a graph what is left is left of the run as it was unfolded, part by part. Of a valid

@@ -1,0 +1,12 @@
+pub mod PieceBoxes
+pub mod PieceValues
+pub mod Separate
+pub mod PiecePlaces
+pub mod AnyNodes
+pub mod Beside
+pub mod PieceFit
+pub mod OfItems
+pub mod Kept
+pub mod UntilDone
+pub mod StateRuns
+pub mod examples

@@ -1,0 +1,2 @@
+pub mod ItemPieces
+pub mod Keeping
