@@ -2,3 +2,4 @@ pub mod begin
 pub mod advance
 pub mod fire
 pub mod settle
+pub mod sparse

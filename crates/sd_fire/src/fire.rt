@@ -5,6 +5,6 @@
 //! comes to is what it comes to in the run's work, and the counts of the tree are right again (`specs/advance/Right.antt`).
 //! Nothing is asked of paths; one that leads into nothing is no move.
 mod fire;
-mod instance;
+pub(crate) mod instance;
 
 pub use fire::{fire_left, fire_run};

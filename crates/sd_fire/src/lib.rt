@@ -9,6 +9,7 @@ mod advance;
 mod begin;
 mod fire;
 mod settle;
+mod sparse;
 
 pub use advance::{go_on_run, take_element};
 pub use begin::{begin_body, begin_item, begin_run, begin_state};

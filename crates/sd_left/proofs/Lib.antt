@@ -4,3 +4,4 @@ pub mod left_lemmas
 pub mod next_moves_lemmas
 pub mod pool_free_lemmas
 pub mod pool_free_left_lemmas
+pub mod sparse_lemmas

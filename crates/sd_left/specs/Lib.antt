@@ -2,3 +2,4 @@ pub mod tree
 pub mod fired
 pub mod left
 pub mod pool_free
+pub mod sparse

@@ -10,6 +10,7 @@ mod left;
 mod next_moves;
 mod pool_free;
 mod pool_free_left;
+mod sparse;
 mod tree;
 
 pub use fired::{
@@ -25,6 +26,7 @@ pub use left::{
 pub use next_moves::place_in_run;
 pub use pool_free::{a_graph_without_consume_scopes_has_no_pools, graph_consumes};
 pub use pool_free_left::a_tree_without_open_pools_waits_for_no_value;
+pub use sparse::{Begun, Counts, Stretch, Tasks, Way, count_points, open_at, swap};
 pub use tree::{
     a_move_of_a_part_is_one_of_its_list, a_run_moves_in_its_state_or_goes_on,
     moves_of_points_are_added_up, the_first_unfinished_point_moves, what_is_not_there_has_no_move,

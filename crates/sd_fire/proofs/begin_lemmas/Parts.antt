@@ -12,7 +12,7 @@ use Rattle.sd_graph.specs.declared.graph.Item.{Item}
 use Rattle.sd_graph.specs.declared.graph.ItemKind.TheViews.{out-Item}
 use Rattle.sd_left.specs.tree.Standing.{ItemLeft, BodyLeft}
 use Rattle.sd_left.specs.tree.Begun.{AreBegun, IsPointBegun, ArePointsBegun}
-use Rattle.sd_left.specs.left.Tells.{Telling, all_right}
+use Rattle.sd_left.specs.left.Telling.{Telling, all_right}
 use Rattle.sd_left.specs.left.Waits.{Told, all_hold}
 use Rattle.sd_fire.proofs.begin_lemmas.ItemKinds.{item_opened}
 

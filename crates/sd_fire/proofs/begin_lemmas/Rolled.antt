@@ -23,7 +23,8 @@ use Rattle.sd_left.specs.declared.left.left.Left.{Left as LeftNow}
 use Rattle.sd_left.specs.declared.left.left.Left.TheOpen as layer
 use Rattle.sd_left.specs.declared.left.left.Left.TheFolds.{fold-roll-Left}
 use Rattle.sd_left.specs.left.Kept.{left_of}
-use Rattle.sd_left.specs.left.Tells.{Telling, tells}
+use Rattle.sd_left.specs.left.Telling.{Telling}
+use Rattle.sd_left.specs.left.Tells.{tells}
 use Rattle.sd_left.specs.left.Waits.{Told, waits_step, bodies_waits_step, body_waits_step, run_waits_step, is_counted}
 use Rattle.sd_left.proofs.left_lemmas.Rolls.{instance_is, doing_is}
 use Rattle.sd_left.proofs.left_lemmas.TellRolls.{instance_tells, doing_tells}

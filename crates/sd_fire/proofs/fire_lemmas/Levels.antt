@@ -1,5 +1,5 @@
 -- What is left of a nested graph, one level deeper.
-use Rattle.std.proofs.Common.{◌≡◌, ℕ, Bool, true, sym, ap, ◌∙◌, Box}
+use Rattle.std.proofs.Common.{◌≡◌, ℕ, Bool, true, sym, ap, ◌∙◌, subst, Box}
 use Rattle.std.specs.declared.alloc.Global.{Global}
 use Rattle.sd_work.specs.Moves.{Path}
 use Rattle.sd_work.specs.BigStep.{Reached}
@@ -9,11 +9,17 @@ use Rattle.sd_mem.specs.declared.machine.end.End.{End}
 use Rattle.sd_left.specs.declared.left.left.Left as shape
 use Rattle.sd_left.specs.declared.left.left.Left.{Left as LeftNow}
 use Rattle.sd_left.specs.declared.left.left.Run.{Run as RunNow}
+use Rattle.sd_graph.specs.Unfold.{order_of_points}
+use Rattle.sd_left.specs.declared.sparse.point.Tasks.{Tasks}
+use Rattle.sd_left.specs.declared.sparse.stretch.Stretch.{Stretch}
+use Rattle.sd_left.specs.sparse.Stretch.{is_told, is_summed, stretch_tells}
+use Rattle.sd_left.proofs.left_lemmas.Sameness.{both-true, both-are}
 use Rattle.sd_left.specs.left.Kept.{left_of}
-use Rattle.sd_left.specs.left.Tells.{Telling, tells, run_tells}
-use Rattle.sd_left.proofs.left_lemmas.Rolls.{nested_is}
-use Rattle.sd_left.proofs.left_lemmas.TellRolls.{nested_tells}
-use Rattle.sd_fire.specs.advance.Right.{IsLeftFired, IsNestedFired}
+use Rattle.sd_left.specs.left.Telling.{Telling}
+use Rattle.sd_left.specs.left.Tells.{tells, run_tells}
+use Rattle.sd_left.proofs.left_lemmas.Rolls.{sparse_is, nested_is}
+use Rattle.sd_left.proofs.left_lemmas.TellRolls.{sparse_tells, nested_tells}
+use Rattle.sd_fire.specs.advance.Right.{IsLeftFired, AreSparseFired, IsNestedFired}
 use Rattle.sd_fire.proofs.fire_lemmas.Items.{retold}
 
 abbrev is-right : Telling → Bool
@@ -37,3 +43,20 @@ module _ (kind : KindTree) (line : ℕ) (context : Context) (path : Path) (befor
           fired = retold path before after end (told (shape.Nested old) is ∙ nested_is kind line context old) (nested_is kind line context new) fired.fired;
           right = ap is-right (nested_tells new) ∙ fired.right;
         }
+
+    pub sparse_fired : (sequential : Bool) (tasks : Tasks) (old new : Stretch) → left ≡ shape.Sparse sequential tasks old
+        → (is_told tasks ≡ true → is_summed tasks old ≡ true → AreSparseFired tasks old kind context path before end after new) → Fires (shape.Sparse sequential tasks new)
+    sparse_fired sequential tasks old new is fires =
+        let both = both-true (is_told tasks) (is_summed tasks old) (right_of (shape.Sparse sequential tasks old) (stretch_tells sequential tasks old) is (sparse_tells sequential tasks old)) in
+        let fired = fires both.0 both.1 in
+        record {
+          fired = retold path before after end (told (shape.Sparse sequential tasks old) is ∙ sparse_is kind line context sequential tasks old) (sparse_is kind line context sequential tasks new) (fired.fired (order_of_points sequential));
+          right = ap is-right (sparse_tells sequential tasks new) ∙ both-are (is_told tasks) (is_summed tasks new) both.0 fired.summed;
+        }
+
+    pub sparse_arm : (sequential : Bool) (tasks these : Tasks) (old points new : Stretch) → left ≡ shape.Sparse sequential tasks old → these ≡ tasks → points ≡ old
+        → (is_told these ≡ true → is_summed these points ≡ true → AreSparseFired these points kind context path before end after new) → Fires (shape.Sparse sequential tasks new)
+    sparse_arm sequential tasks these old points new is one two fires =
+        sparse_fired sequential tasks old new is
+        (subst (λ (t : Tasks). is_told t ≡ true → is_summed t old ≡ true → AreSparseFired t old kind context path before end after new) one
+        (subst (λ (p : Stretch). is_told these ≡ true → is_summed these p ≡ true → AreSparseFired these p kind context path before end after new) two fires))

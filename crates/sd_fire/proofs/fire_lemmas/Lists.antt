@@ -20,7 +20,8 @@ use Rattle.sd_left.specs.declared.left.left.Left.TheOpen.{Bodies-F, Body-F}
 use Rattle.sd_left.specs.declared.left.left.Left.TheViews.{out-Bodies, out-Body, roll-Bodies, roll-Body, out-roll-Bodies, out-roll-Body}
 use Rattle.sd_left.specs.declared.left.left.Run.{Run as RunNow}
 use Rattle.sd_left.specs.left.Kept.{left_of, bodies_kept, body_kept}
-use Rattle.sd_left.specs.left.Tells.{Telling, tells, bodies_tell, body_tells, all_right, same_counts, moves_told, unfinished_told, pools_told, flags_told, ready_moves}
+use Rattle.sd_left.specs.left.Telling.{Telling, all_right, same_counts, moves_told, unfinished_told, pools_told, flags_told, ready_moves}
+use Rattle.sd_left.specs.left.Tells.{tells, bodies_tell, body_tells}
 use Rattle.sd_left.specs.left.Changed.{HasBody, HasPart}
 use Rattle.sd_left.proofs.left_lemmas.Rolls.{bodies_opened, body_opened}
 use Rattle.sd_left.proofs.left_lemmas.TellRolls.{bodies_told, body_told}

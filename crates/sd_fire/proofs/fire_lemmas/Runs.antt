@@ -17,7 +17,8 @@ use Rattle.sd_left.specs.declared.left.left.Left.TheOpen.{Run-F}
 use Rattle.sd_left.specs.declared.left.left.Left.TheViews.{out-Run, roll-Run, out-roll-Run}
 use Rattle.sd_left.specs.declared.left.left.Run.{Run as RunNow}
 use Rattle.sd_left.specs.left.Kept.{body_kept, run_kept}
-use Rattle.sd_left.specs.left.Tells.{Telling, body_tells, run_tells}
+use Rattle.sd_left.specs.left.Telling.{Telling}
+use Rattle.sd_left.specs.left.Tells.{body_tells, run_tells}
 use Rattle.sd_left.proofs.left_lemmas.Rolls.{run_opened}
 use Rattle.sd_left.proofs.left_lemmas.TellRolls.{run_told}
 use Rattle.sd_left.proofs.left_lemmas.Showing.{body-shows-all}

@@ -19,7 +19,8 @@ use Rattle.sd_left.specs.declared.left.left.Body.{Body as BodyNow}
 use Rattle.sd_left.specs.declared.left.left.Left.TheViews.{out-Body}
 use Rattle.sd_left.specs.left.Kept.{body_kept}
 use Rattle.sd_left.specs.left.Waits.{is_counted}
-use Rattle.sd_left.specs.left.Tells.{Telling, tells, body_tells, flags_told, unfinished_told, pools_told, ready_moves, all_right}
+use Rattle.sd_left.specs.left.Telling.{Telling, flags_told, unfinished_told, pools_told, ready_moves, all_right}
+use Rattle.sd_left.specs.left.Tells.{tells, body_tells}
 use Rattle.sd_left.proofs.left_lemmas.Sameness.{Were, were}
 use Rattle.sd_left.proofs.left_lemmas.Rolls.{body_opened}
 use Rattle.sd_left.proofs.left_lemmas.TellRolls.{body_told}

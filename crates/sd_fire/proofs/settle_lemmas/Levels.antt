@@ -20,12 +20,17 @@ use Rattle.sd_left.specs.declared.left.left.Bodies.{Bodies as BodiesNow}
 use Rattle.sd_left.specs.declared.left.left.Run.{Run as RunNow}
 use Rattle.sd_left.specs.left.Kept.{left_of, bodies_kept}
 use Rattle.sd_left.specs.left.Waits.{are_bodies_counted}
-use Rattle.sd_left.specs.left.Tells.{Telling, tells, bodies_tell, body_tells, run_tells, flags_told, unfinished_told}
+use Rattle.sd_left.specs.left.Telling.{Telling, flags_told, unfinished_told}
+use Rattle.sd_left.specs.left.Tells.{tells, bodies_tell, body_tells, run_tells}
 use Rattle.sd_left.proofs.left_lemmas.Sameness.{sum-cons, unfinished-more, both-are}
 use Rattle.sd_left.proofs.left_lemmas.Rolls.{instance_is, doing_is, points_is, pool_is, nested_is, bodies_opened}
 use Rattle.sd_left.proofs.left_lemmas.WaitRolls.{points_counted, pool_counted, nested_counted}
-use Rattle.sd_left.proofs.left_lemmas.TellRolls.{points_tell, pool_tells, nested_tells, bodies_told}
+use Rattle.sd_left.proofs.left_lemmas.TellRolls.{points_tell, sparse_tells, pool_tells, nested_tells, bodies_told}
 use Rattle.sd_left.proofs.pool_free_left_lemmas.Waiting.{left-waits}
+use Rattle.sd_moves.proofs.numbered_lemmas.Open.{settled-open}
+use Rattle.sd_left.specs.declared.sparse.point.Tasks.{Tasks}
+use Rattle.sd_left.specs.declared.sparse.stretch.Stretch.{Stretch}
+use Rattle.sd_left.proofs.left_lemmas.Showing.{left-shows}
 use Rattle.sd_fire.specs.settle.Settled.{IsLeftSettled, ArePointsSettled, IsPoolSettled, IsRunSettled}
 use Rattle.sd_fire.proofs.settle_lemmas.Trees.{nowhere, none-in-work}
 use Rattle.sd_fire.proofs.settle_lemmas.Points.{all_bodies, bodies-were}
@@ -90,6 +95,16 @@ module _ (may_go : Bool) (clear : ℕ) (memories : Memories) (left : LeftNow) (r
         (subst HasNoOpenPool (sym (told (shape.Doing doing) (first_kind no_item) 0 nowhere is ∙ doing_is (first_kind no_item) 0 nowhere doing)) tt);
     right = right;
   }
+
+  pub sparse_settled : (sequential : Bool) (tasks : Tasks) (points : Stretch) → left ≡ shape.Sparse sequential tasks points → IsLeftSettled left left may_go clear memories
+  sparse_settled sequential tasks points is =
+      let none : (tells left).pools ≡ 0 = ap (λ (l : LeftNow). (tells l).pools) is ∙ ap (λ (t : Telling). t.pools) (sparse_tells sequential tasks points) in
+      let free = (left-shows left right).free in
+      record {
+        settled = λ cleared clears kind line context. sym (settled-open (left_of left kind line context) may_go cleared memories (free kind line context none));
+        counted = left-waits left (first_kind no_item) 0 nowhere memories (free (first_kind no_item) 0 nowhere none);
+        right = right;
+      }
 
   pub map_settled : (sequential : Bool) (old new : BodiesNow) → left ≡ shape.Points sequential old → ((bodies_tell old).is_right ≡ true → ArePointsSettled sequential old new may_go clear memories)
       → IsLeftSettled left (shape.Points sequential new) may_go clear memories

@@ -20,7 +20,8 @@ use Rattle.sd_left.specs.declared.left.left.Left.TheViews.{out-Body, roll-Body, 
 use Rattle.sd_left.specs.declared.left.left.Left.TheFolds.{fold-roll-Body}
 use Rattle.sd_left.specs.left.Kept.{left_step, bodies_step, body_step, run_step, left_of, body_kept, run_kept}
 use Rattle.sd_left.specs.left.Waits.{all_hold, is_counted, is_body_counted}
-use Rattle.sd_left.specs.left.Tells.{Telling, body_tells, run_tells}
+use Rattle.sd_left.specs.left.Telling.{Telling}
+use Rattle.sd_left.specs.left.Tells.{body_tells, run_tells}
 use Rattle.sd_left.proofs.left_lemmas.Rolls.{body_opened, run_opened}
 use Rattle.sd_left.proofs.left_lemmas.WaitRolls.{body_counted, run_counted}
 use Rattle.sd_left.proofs.left_lemmas.TellRolls.{body_rolled, body_told, run_told}

@@ -15,7 +15,8 @@ use Rattle.sd_left.specs.declared.left.left.Body.{Body as BodyNow}
 use Rattle.sd_left.specs.declared.left.left.Left.TheViews.{out-Bodies}
 use Rattle.sd_left.specs.left.Kept.{body_kept}
 use Rattle.sd_left.specs.left.Waits.{is_body_counted}
-use Rattle.sd_left.specs.left.Tells.{Telling, bodies_tell, body_tells, flags_told, unfinished_told, moves_told, pools_told, all_right}
+use Rattle.sd_left.specs.left.Telling.{Telling, flags_told, unfinished_told, moves_told, pools_told, all_right}
+use Rattle.sd_left.specs.left.Tells.{bodies_tell, body_tells}
 use Rattle.sd_left.proofs.left_lemmas.Sameness.{Were, were}
 use Rattle.sd_left.proofs.left_lemmas.Rolls.{bodies_opened}
 use Rattle.sd_left.proofs.left_lemmas.WaitRolls.{bodies_counted}

@@ -6,7 +6,8 @@ use Rattle.sd_left.specs.declared.left.left.Bodies.{Bodies as BodiesNow}
 use Rattle.sd_left.specs.declared.left.left.Body.{Body as BodyNow}
 use Rattle.sd_left.specs.declared.left.left.Left.TheViews.{out-Bodies, out-Body}
 use Rattle.sd_left.specs.left.Changed.{HasBody, HasPart}
-use Rattle.sd_left.specs.left.Tells.{Telling, tells, bodies_tell, body_tells, all_right}
+use Rattle.sd_left.specs.left.Telling.{Telling, all_right}
+use Rattle.sd_left.specs.left.Tells.{tells, bodies_tell, body_tells}
 use Rattle.sd_left.proofs.left_lemmas.Sameness.{both-true}
 use Rattle.sd_left.proofs.left_lemmas.Readiness.{one-member}
 use Rattle.sd_fire.specs.settle.Settled.{IsLeftSettled, IsBodySettled, IsOneSettled, IsPartSettled}

@@ -12,7 +12,8 @@ use Rattle.sd_left.specs.declared.left.left.Left.{Left as LeftNow}
 use Rattle.sd_left.specs.declared.left.left.Body.{Body as BodyNow}
 use Rattle.sd_left.specs.left.Kept.{left_of, body_kept}
 use Rattle.sd_left.specs.left.Waits.{is_counted, is_body_counted}
-use Rattle.sd_left.specs.left.Tells.{Telling, tells, body_tells, flags_told, unfinished_told, all_right}
+use Rattle.sd_left.specs.left.Telling.{Telling, flags_told, unfinished_told, all_right}
+use Rattle.sd_left.specs.left.Tells.{tells, body_tells}
 use Rattle.sd_left.proofs.left_lemmas.Sameness.{both-true}
 use Rattle.sd_left.proofs.left_lemmas.Showing.{left-shows, body-shows-all}
 use Rattle.sd_left.proofs.pool_free_left_lemmas.Waiting.{left-waits, body-waits}

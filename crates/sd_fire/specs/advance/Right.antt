@@ -13,6 +13,10 @@ use Rattle.sd_left.specs.declared.left.left.Left.{Left}
 use Rattle.sd_left.specs.declared.left.left.Bodies.{Bodies}
 use Rattle.sd_left.specs.declared.left.left.Body.{Body}
 use Rattle.sd_left.specs.declared.left.left.Run.{Run}
+use Rattle.sd_left.specs.declared.sparse.point.Tasks.{Tasks}
+use Rattle.sd_left.specs.declared.sparse.stretch.Stretch.{Stretch}
+use Rattle.sd_left.specs.sparse.Stretch.{points_in, is_summed}
+use Rattle.sd_left.specs.sparse.Terms.{bodies_at}
 use Rattle.sd_left.specs.left.Kept.{left_of, bodies_kept, body_kept, run_kept}
 use Rattle.sd_left.specs.left.Tells.{tells, bodies_tell, body_tells, run_tells}
 use Rattle.sd_left.specs.fired.Fired.{IsFired, IsBodyFired}
@@ -26,6 +30,11 @@ pub record IsLeftFired (old : Left) (kind : KindTree) (line : ℕ) (context : Co
 pub record ArePointsFired (old : Bodies) (kind : KindTree) (context : Context) (path : Path) (before : Reached) (end : End) (after : Reached) (new : Bodies) : Type 0 where
   pub fired : (order : ℕ → ℕ → Bool) → IsFired (list Points order (points_left (bodies_kept old) kind context)) path before end after (list Points order (points_left (bodies_kept new) kind context))
   pub right : (bodies_tell new).is_right ≡ true
+
+-- of the points of a map of tasklets, in whatever order they come
+pub record AreSparseFired (tasks : Tasks) (old : Stretch) (kind : KindTree) (context : Context) (path : Path) (before : Reached) (end : End) (after : Reached) (new : Stretch) : Type 0 where
+  pub fired : (order : ℕ → ℕ → Bool) → IsFired (list Points order (points_left (bodies_at tasks (points_in old) kind context) kind context)) path before end after (list Points order (points_left (bodies_at tasks (points_in new) kind context) kind context))
+  pub summed : is_summed tasks new ≡ true
 
 -- of a consume scope over a stream, open or closed
 pub record AreElementsFired (stream : Station) (old : Bodies) (kind : KindTree) (context : Context) (path : Path) (before : Reached) (end : End) (after : Reached) (new : Bodies) : Type 0 where

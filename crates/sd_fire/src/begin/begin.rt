@@ -10,12 +10,14 @@ ghost use Rattle.sd_scope.specs.scope.Standing.{context_of, opening_reach};
 ghost use Rattle.sd_order.specs.table.Told.{told};
 ghost use Rattle.sd_left.specs.tree.Begun.{AreBegun, ArePointsBegun};
 ghost use Rattle.sd_left.specs.left.Kept.{left_of, body_kept};
-ghost use Rattle.sd_left.specs.left.Tells.{tells, body_tells, run_tells, all_right};
+ghost use Rattle.sd_left.specs.left.Telling.{all_right};
+ghost use Rattle.sd_left.specs.left.Tells.{tells, body_tells, run_tells};
 ghost use Rattle.sd_left.specs.left.Waits.{is_counted, is_body_counted, is_run_counted, all_hold};
 ghost use Rattle.sd_fire.specs.begin.Begun.{IsItemBegun, IsBodyBegun, IsRunBegun};
 
 use crate::begin::leaf::{begin_copy, begin_pool, begin_reduction, begin_task};
 use crate::begin::ordered::copied;
+use crate::sparse::{are_tasks, begin_sparse, count_points};
 use sd_graph::{Item, ItemKind, Link, Sdfg};
 use sd_left::{Body, Left, Run};
 use sd_list::NoMemory;
@@ -100,9 +102,38 @@ fn begin_items(
     Ok(parts)
 }
 
-/// A map, sequential or not: at each of its points the items of its body, inside the point's memory.
+/// A map, sequential or not. Points of tasklets begin with their first moves, others at once.
 #[cycle(begin)]
 fn begin_map(
+    alloc: Global,
+    body: &[Item],
+    params: &[(u32, Range)],
+    private: &[u32],
+    sequential: bool,
+    graph: &Sdfg,
+    base: &Base,
+    scope: &Scope,
+    machine: &mut Machine,
+) -> Result<Left, NoMemory>
+    ensures begun { IfOk result (λ left. (line : ℕ) → IsItemBegun (map_scope sequential params.now private.now (item_trees body.now)) line (context_of (graph_tree graph.now) base.now scope.now) left) }
+    ensures counted { IfOk result (λ left. is_counted left machine.old.memories ≡ true) }
+    ensures right { IfOk result (λ left. (tells left).is_right ≡ true) }
+    ensures stays { machine.new ≡ machine.old }
+{
+    if are_tasks(body) {
+        let told = count_points(alloc, params, &scope.values)?;
+        if let Some(count) = told {
+            return begin_sparse(alloc, body, sequential, count, graph);
+        }
+    }
+    begin_each(
+        alloc, body, params, private, sequential, graph, base, scope, machine,
+    )
+}
+
+/// A map whose points begin at once: at each the items of its body, inside the point's memory.
+#[cycle(begin)]
+fn begin_each(
     alloc: Global,
     body: &[Item],
     params: &[(u32, Range)],

@@ -12,6 +12,7 @@ ghost use Rattle.sd_fire.specs.advance.Right.{IsLeftFired, ArePointsFired, AreEl
 
 use crate::advance::{go_on_run, take_element};
 use crate::fire::instance::fire_instance;
+use crate::sparse::fire_sparse;
 use sd_graph::{Item, ItemKind, Sdfg};
 use sd_left::{Bodies, Body, Left, Run, is_body_finished};
 use sd_list::NoMemory;
@@ -44,6 +45,9 @@ pub fn fire_left(
         Left::Points { points, .. } => {
             fire_points(alloc, points, path, kind, graph, base, scope, machine)
         }
+        Left::Sparse { tasks, points, .. } => fire_sparse(
+            alloc, tasks, points, path, kind, graph, base, scope, machine,
+        ),
         Left::Pool { stream, active, .. } => {
             fire_pool(
                 alloc, *stream, active, path, kind, graph, base, scope, machine,

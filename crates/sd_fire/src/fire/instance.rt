@@ -5,7 +5,7 @@ ghost use Rattle.sd_graph.specs.Context.{place_at};
 ghost use Rattle.sd_scope.specs.scope.Standing.{context_of};
 ghost use Rattle.sd_leaves.specs.moves.Left.{instance_left};
 ghost use Rattle.sd_leaves.specs.moves.Moved.{IsMoved};
-ghost use Rattle.sd_left.specs.left.Kept.{evaluation_in};
+ghost use Rattle.sd_left.specs.tree.Evaluated.{evaluation_in};
 
 use sd_graph::{ItemKind, Sdfg};
 use sd_leaves::Instance;

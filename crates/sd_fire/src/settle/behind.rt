@@ -5,7 +5,8 @@ ghost use Rattle.sd_work.specs.Settle.{all_true};
 ghost use Rattle.sd_graph.specs.Unfold.{order_of_points};
 ghost use Rattle.sd_order.specs.table.Told.{told};
 ghost use Rattle.sd_left.specs.declared.left.left.Left.TheViews.{out-Body};
-ghost use Rattle.sd_left.specs.left.Tells.{tells, flags_told};
+ghost use Rattle.sd_left.specs.left.Telling.{flags_told};
+ghost use Rattle.sd_left.specs.left.Tells.{tells};
 
 use sd_left::{Body, is_ready};
 use sd_list::Tally;

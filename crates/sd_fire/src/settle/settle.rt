@@ -137,6 +137,7 @@ fn settle_left(
     match left {
         Left::Instance(_) => Ok(()),
         Left::Doing(_) => Ok(()),
+        Left::Sparse { .. } => Ok(()),
         Left::Points { sequential, points } => settle_points(
             alloc,
             points,

@@ -12,7 +12,8 @@ use Rattle.sd_left.specs.declared.left.left.Run.{Run as RunNow}
 use Rattle.sd_left.specs.declared.left.left.Left.TheOpen.{Bodies-F, Body-F}
 use Rattle.sd_left.specs.declared.left.left.Left.TheViews.{out-Bodies, out-Body, roll-Bodies, roll-Body}
 use Rattle.sd_left.specs.left.Waits.{Told, all_hold}
-use Rattle.sd_left.specs.left.Tells.{Telling, tells, bodies_tell, body_tells, flags_told, ready_moves}
+use Rattle.sd_left.specs.left.Telling.{Telling, flags_told, ready_moves}
+use Rattle.sd_left.specs.left.Tells.{tells, bodies_tell, body_tells}
 use Rattle.sd_left.proofs.left_lemmas.TellRolls.{bodies_rolled, body_rolled, bodies_told, body_told}
 use Rattle.sd_left.proofs.left_lemmas.Sameness.{at_all}
 use Rattle.sd_left.proofs.left_lemmas.Recounted.{BodiesRight, PartsRight, body-again, body-added, part-again, parts-again}

@@ -2,7 +2,7 @@
 use Rattle.std.proofs.Common.{◌≡◌, ℕ, zero, suc, ◌+◌, ◌<◌, ◌≤◌, nat_eq, List, [], ◌∷◌, take, get_or, Bool, true, false, cond, not, refl, sym, ap, ◌∙◌, arith, rules}
 use Rattle.std.specs.List.{sum}
 use Rattle.sd_moves.specs.numbered.Counts.{one_if}
-use Rattle.sd_left.specs.left.Tells.{count_of_first}
+use Rattle.sd_left.specs.left.Telling.{count_of_first}
 use Rattle.sd_left.proofs.left_lemmas.Sameness.{sum-cons}
 
 is-none : (count : ℕ) → count ≡ 0 → nat_eq count 0 ≡ true

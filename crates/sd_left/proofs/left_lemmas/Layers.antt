@@ -18,9 +18,9 @@ use Rattle.sd_leaves.specs.declared.moves.instance.Instance as instances
 use Rattle.sd_leaves.specs.declared.moves.instance.Instance.TheVariants as variants
 use Rattle.sd_left.specs.tree.Standing.{BodyLeft, RunLeft, element_term, points_left, active_left, nested_left, run_left, inner_graph, links_of}
 use Rattle.sd_left.proofs.tree_lemmas.Points.{any-count}
-use Rattle.sd_left.specs.left.Kept.{evaluation_in}
+use Rattle.sd_left.specs.tree.Evaluated.{evaluation_in}
 use Rattle.sd_left.specs.left.Waits.{Told}
-use Rattle.sd_left.specs.left.Tells.{Telling, BodiesTelling, leaf_tells, map_tells}
+use Rattle.sd_left.specs.left.Telling.{Telling, BodiesTelling, leaf_tells, map_tells}
 use Rattle.sd_left.proofs.left_lemmas.Sameness.{both-true, not-not}
 use Rattle.sd_left.proofs.left_lemmas.Shows.{ItemShows, BodyShows, BodiesShow}
 

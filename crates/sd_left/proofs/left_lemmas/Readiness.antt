@@ -2,10 +2,10 @@
 use Rattle.std.proofs.Common.{◌≡◌, ◌⊎◌, inl, inr, ℕ, zero, suc, ◌+◌, ◌<◌, ◌≤◌, List, [], ◌∷◌, ◌++◌, append_assoc, map, length, get_or, drop, drop_of_length-le, Bool, true, false, cond, ◌&&◌, ◌||◌, not, refl, sym, ap, ap₂, ◌∙◌, arith}
 use Rattle.std.proofs.lemmas.List.{drop_more, append-nil}
 use Rattle.sd_work.specs.Residual.{is_ready, ready_from}
-use Rattle.sd_left.specs.left.Tells.{Telling, flags_told, ready_moves}
+use Rattle.sd_left.specs.left.Telling.{Telling, flags_told, ready_moves}
 
 module _ {A : Type 0} (telling : A → Telling) (parts : List A) where
-  opened : (index : ℕ) (part : A) → index < length parts → part ≡ get_or parts index part → drop index parts ≡ part ∷ drop (index + 1) parts
+  pub opened : (index : ℕ) (part : A) → index < length parts → part ≡ get_or parts index part → drop index parts ≡ part ∷ drop (index + 1) parts
   opened index part within is = drop_more parts index part within ∙ ap (λ (p : A). p ∷ drop (index + 1) parts) (sym is)
 
   module _ (before : ℕ → ℕ → Bool) (number : ℕ) where

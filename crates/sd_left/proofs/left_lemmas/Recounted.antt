@@ -2,7 +2,7 @@
 use Rattle.std.proofs.Common.{◌≡◌, ℕ, zero, suc, ◌+◌, ◌<◌, List, [], ◌∷◌, ◌++◌, map, length, get_or, slice_set, Bool, true, false, cond, not, refl, sym, ap, ap₂, ◌∙◌, subst, arith}
 use Rattle.sd_work.specs.Residual.{is_ready}
 use Rattle.sd_moves.specs.numbered.Counts.{one_if}
-use Rattle.sd_left.specs.left.Tells.{Telling, moves_told, unfinished_told, pools_told, flags_told, ready_moves, all_right, counts_tell}
+use Rattle.sd_left.specs.left.Telling.{Telling, moves_told, unfinished_told, pools_told, flags_told, ready_moves, all_right, counts_tell}
 use Rattle.sd_left.proofs.left_lemmas.Sameness.{both-true, both-are, AreRight, Were, were, all-are}
 
 map-set : {A B : Type 0} (f : A → B) (all : List A) (number : ℕ) (one : A) → map f (slice_set all number one) ≡ slice_set (map f all) number (f one)

@@ -17,8 +17,13 @@ use Rattle.sd_left.specs.declared.left.left.Left.TheFolds.{fold-roll-Left, fold_
 use Rattle.sd_left.specs.declared.left.left.Bodies.{Bodies as BodiesNow}
 use Rattle.sd_left.specs.declared.left.left.Body.{Body as BodyNow}
 use Rattle.sd_left.specs.declared.left.left.Run.{Run as RunNow}
+use Rattle.sd_left.specs.declared.sparse.point.Tasks.{Tasks}
+use Rattle.sd_left.specs.declared.sparse.stretch.Stretch.{Stretch}
+use Rattle.sd_left.specs.sparse.Stretch.{points_in}
+use Rattle.sd_left.specs.sparse.Terms.{bodies_at}
 use Rattle.sd_left.specs.tree.Standing.{ItemLeft, BodyLeft, RunLeft, element_term, points_left, active_left, nested_left}
-use Rattle.sd_left.specs.left.Kept.{left_step, bodies_step, body_step, run_step, left_of, bodies_kept, body_kept, run_kept, evaluation_in}
+use Rattle.sd_left.specs.tree.Evaluated.{evaluation_in}
+use Rattle.sd_left.specs.left.Kept.{left_step, bodies_step, body_step, run_step, left_of, bodies_kept, body_kept, run_kept}
 
 module _ (kind : KindTree) (line : ℕ) (context : Context) where
   pub instance_is : (instance : Instance) → left_of (shape.Instance instance) kind line context ≡ leaf (place_at context line) (instance_left (evaluation_in kind context) instance)
@@ -32,6 +37,12 @@ module _ (kind : KindTree) (line : ℕ) (context : Context) where
   pub points_is : (sequential : Bool) (points : BodiesNow) → left_of (shape.Points sequential points) kind line context ≡ list Points (order_of_points sequential) (points_left (bodies_kept points) kind context)
   unfolding shape.roll-Left denote.Hole.Carrier.roll
   points_is sequential points = ap (λ (left : ItemLeft). left kind line context) (fold-roll-Left ItemLeft (List BodyLeft) BodyLeft RunLeft left_step bodies_step body_step run_step (layer.Points sequential points))
+
+  pub sparse_is : (sequential : Bool) (tasks : Tasks) (points : Stretch) → left_of (shape.Sparse sequential tasks points) kind line context
+      ≡ list Points (order_of_points sequential) (points_left (bodies_at tasks (points_in points) kind context) kind context)
+  unfolding shape.roll-Left denote.Hole.Carrier.roll
+  sparse_is sequential tasks points =
+      ap (λ (left : ItemLeft). left kind line context) (fold-roll-Left ItemLeft (List BodyLeft) BodyLeft RunLeft left_step bodies_step body_step run_step (layer.Sparse sequential tasks points))
 
   pub pool_is : (stream : Station) (active : BodiesNow) (waiting : ℕ) (closed : Bool) → left_of (shape.Pool stream active waiting closed) kind line context
       ≡ pool stream.level stream.container (element_term kind context) (active_left (bodies_kept active) kind context) closed

@@ -4,7 +4,7 @@ use Rattle.std.proofs.lemmas.Bool.{eqb-true, lt-ltb}
 use Rattle.std.proofs.lemmas.List.Sums.{sum_by-cons}
 use Rattle.std.specs.List.{sum}
 use Rattle.sd_moves.specs.numbered.Counts.{one_if}
-use Rattle.sd_left.specs.left.Tells.{same_counts}
+use Rattle.sd_left.specs.left.Telling.{same_counts}
 
 pub both-true : (a b : Bool) → (a && b) ≡ true → (a ≡ true) × (b ≡ true)
 both-true true b h = (refl, h)

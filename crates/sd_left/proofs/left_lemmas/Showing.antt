@@ -5,16 +5,18 @@ use Rattle.sd_left.specs.declared.left.left.Left.{Left as LeftNow}
 use Rattle.sd_left.specs.declared.left.left.Bodies.{Bodies as BodiesNow}
 use Rattle.sd_left.specs.declared.left.left.Body.{Body as BodyNow}
 use Rattle.sd_left.specs.declared.left.left.Run.{Run as RunNow}
-use Rattle.sd_left.specs.declared.left.left.Left.TheOpen.{Left-F, Bodies-F, Body-F, Run-F, Instance, Doing, Points, Pool, Nested}
+use Rattle.sd_left.specs.declared.left.left.Left.TheOpen.{Left-F, Bodies-F, Body-F, Run-F, Instance, Doing, Points, Sparse, Pool, Nested}
 use Rattle.sd_left.specs.declared.left.left.Left.TheViews.{roll-Left, roll-Bodies, roll-Body, roll-Run}
 use Rattle.sd_left.specs.declared.left.left.Left.TheFolds.{map-Left, map-Bodies, map-Body, map-Run, fold-roll-Left, fold-roll-Bodies, fold-roll-Body, fold-roll-Run, ind-Left, ind-Bodies, ind-Body, ind-Run}
 use Rattle.sd_left.specs.tree.Standing.{ItemLeft, BodyLeft, RunLeft}
 use Rattle.sd_left.specs.left.Kept.{left_step, bodies_step, body_step, run_step, left_of, bodies_kept, body_kept, run_kept}
 use Rattle.sd_left.specs.left.Waits.{Told, waits_step, bodies_waits_step, body_waits_step, run_waits_step, is_counted, are_bodies_counted, is_body_counted, is_run_counted}
-use Rattle.sd_left.specs.left.Tells.{Telling, BodiesTelling, tells_step, bodies_tell_step, body_tells_step, run_tells_step, tells, bodies_telling, body_tells, run_tells}
+use Rattle.sd_left.specs.left.Telling.{Telling, BodiesTelling}
+use Rattle.sd_left.specs.left.Tells.{tells_step, bodies_tell_step, body_tells_step, run_tells_step, tells, bodies_telling, body_tells, run_tells}
 use Rattle.sd_left.proofs.left_lemmas.Shows.{ItemShows, BodyShows, BodiesShow, AllItemsShow, AllBodiesShow, bodies-show, body-shows}
 use Rattle.sd_left.proofs.left_lemmas.Sameness.{at_each}
 use Rattle.sd_left.proofs.left_lemmas.Layers.{RunShows, instance-shows, doing-shows, points-show, pool-shows, run-shows, nested-shows}
+use Rattle.sd_left.proofs.sparse_lemmas.Shown.{sparse-shows}
 
 abbrev pub LeftShows : LeftNow → Type 0
 LeftShows left = ItemShows (left_of left) (tells left) (is_counted left)
@@ -70,6 +72,7 @@ left-shown (Instance instance) = left-opened (Instance instance) (instance-shows
 left-shown (Doing doing) = left-opened (Doing doing) (doing-shows doing)
 left-shown (Points sequential points) =
     left-opened (Points sequential points.0) (points-show (bodies_kept points.0) (bodies_telling points.0) (are_bodies_counted points.0) points.1 sequential)
+left-shown (Sparse sequential tasks points) = left-opened (Sparse sequential tasks points) (sparse-shows sequential tasks points)
 left-shown (Pool stream active waiting closed) =
     left-opened (Pool stream active.0 waiting closed)
     (pool-shows (bodies_kept active.0) (bodies_telling active.0) (are_bodies_counted active.0) active.1 stream.level stream.container waiting closed)

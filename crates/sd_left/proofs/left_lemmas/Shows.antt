@@ -14,7 +14,7 @@ use Rattle.sd_left.specs.tree.Standing.{ItemLeft, BodyLeft, first_line, first_ki
 use Rattle.sd_left.proofs.tree_lemmas.Points.{any-count}
 use Rattle.sd_left.proofs.tree_lemmas.Sequence.{first_count, sequence-counted}
 use Rattle.sd_left.specs.left.Waits.{Told, all_hold}
-use Rattle.sd_left.specs.left.Tells.{Telling, BodiesTelling, moves_told, unfinished_told, pools_told, flags_told, ready_moves, all_right, counts_tell, count_of_first}
+use Rattle.sd_left.specs.left.Telling.{Telling, BodiesTelling, moves_told, unfinished_told, pools_told, flags_told, ready_moves, all_right, counts_tell, count_of_first}
 use Rattle.sd_left.proofs.left_lemmas.Sameness.{both-true, sum-cons, unfinished-more, were}
 use Rattle.sd_left.proofs.left_lemmas.FirstLeft.{flag-told}
 

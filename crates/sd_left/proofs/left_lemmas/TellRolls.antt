@@ -15,7 +15,11 @@ use Rattle.sd_left.specs.declared.left.left.Left.TheFolds.{fold-roll-Left, fold-
 use Rattle.sd_left.specs.declared.left.left.Bodies.{Bodies as BodiesNow}
 use Rattle.sd_left.specs.declared.left.left.Body.{Body as BodyNow}
 use Rattle.sd_left.specs.declared.left.left.Run.{Run as RunNow}
-use Rattle.sd_left.specs.left.Tells.{Telling, BodiesTelling, map_tells, tells_step, bodies_tell_step, body_tells_step, run_tells_step, tells, bodies_telling, bodies_tell, body_tells, run_tells, leaf_tells, counts_tell, count_of_first, moves_told, unfinished_told, pools_told, flags_told, ready_moves, all_right}
+use Rattle.sd_left.specs.declared.sparse.point.Tasks.{Tasks}
+use Rattle.sd_left.specs.declared.sparse.stretch.Stretch.{Stretch}
+use Rattle.sd_left.specs.sparse.Stretch.{stretch_tells}
+use Rattle.sd_left.specs.left.Telling.{Telling, BodiesTelling, map_tells, leaf_tells, counts_tell, count_of_first, moves_told, unfinished_told, pools_told, flags_told, ready_moves, all_right}
+use Rattle.sd_left.specs.left.Tells.{tells_step, bodies_tell_step, body_tells_step, run_tells_step, tells, bodies_telling, bodies_tell, body_tells, run_tells}
 
 pub instance_tells : (instance : Instance) → tells (shape.Instance instance) ≡ leaf_tells (is_done (instance_left (λ values. Ok []) instance))
 unfolding shape.roll-Left denote.Hole.Carrier.roll
@@ -28,6 +32,10 @@ doing_tells doing = fold-roll-Left Telling BodiesTelling Telling Telling tells_s
 pub points_tell : (sequential : Bool) (points : BodiesNow) → tells (shape.Points sequential points) ≡ map_tells sequential (bodies_telling points)
 unfolding shape.roll-Left denote.Hole.Carrier.roll
 points_tell sequential points = fold-roll-Left Telling BodiesTelling Telling Telling tells_step bodies_tell_step body_tells_step run_tells_step (layer.Points sequential points)
+
+pub sparse_tells : (sequential : Bool) (tasks : Tasks) (points : Stretch) → tells (shape.Sparse sequential tasks points) ≡ stretch_tells sequential tasks points
+unfolding shape.roll-Left denote.Hole.Carrier.roll
+sparse_tells sequential tasks points = fold-roll-Left Telling BodiesTelling Telling Telling tells_step bodies_tell_step body_tells_step run_tells_step (layer.Sparse sequential tasks points)
 
 pub pool_tells : (stream : Station) (active : BodiesNow) (waiting : ℕ) (closed : Bool) → tells (shape.Pool stream active waiting closed)
     ≡ record { is_unfinished = not closed; moves = cond closed 0 ((bodies_tell active).moves + waiting); pools = one_if (not closed) + (bodies_tell active).pools; is_right = (bodies_tell active).is_right }

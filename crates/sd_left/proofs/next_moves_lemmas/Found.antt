@@ -10,7 +10,7 @@ use Rattle.sd_graph.specs.Context.{Context}
 use Rattle.sd_graph.specs.Unfold.{in_any_order}
 use Rattle.sd_left.specs.tree.Standing.{BodyLeft, body_of, point_inside, element_inside, value_at, body_left, point_left, points_left, element_left, active_left}
 use Rattle.sd_left.specs.left.Waits.{Told, all_hold}
-use Rattle.sd_left.specs.left.Tells.{Telling, moves_told, unfinished_told, pools_told, all_right, counts_tell}
+use Rattle.sd_left.specs.left.Telling.{Telling, moves_told, unfinished_told, pools_told, all_right, counts_tell}
 use Rattle.sd_left.proofs.left_lemmas.Sameness.{both-true, sum-cons, Were, were}
 use Rattle.sd_left.proofs.left_lemmas.Shows.{AllBodiesShow}
 use Rattle.sd_left.proofs.next_moves_lemmas.Held.{right-at, held-at, counted-there, as-long}

@@ -14,7 +14,7 @@ use Rattle.sd_graph.specs.declared.place.Place.{Place}
 use Rattle.sd_graph.proofs.InSequence.{ready_in_sequence}
 use Rattle.sd_left.specs.tree.Standing.{BodyLeft, body_of, point_inside, body_left, point_left, points_left}
 use Rattle.sd_left.specs.left.Waits.{Told, all_hold}
-use Rattle.sd_left.specs.left.Tells.{Telling, moves_told, unfinished_told, flags_told, all_right, count_of_first}
+use Rattle.sd_left.specs.left.Telling.{Telling, moves_told, unfinished_told, flags_told, all_right, count_of_first}
 use Rattle.sd_left.proofs.tree_lemmas.Sequence.{one-more}
 use Rattle.sd_left.proofs.left_lemmas.Sameness.{both-true, sum-cons}
 use Rattle.sd_left.proofs.left_lemmas.Shows.{BodyShows, AllBodiesShow, points-flags}

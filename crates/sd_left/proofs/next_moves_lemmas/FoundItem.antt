@@ -9,7 +9,7 @@ use Rattle.sd_graph.specs.PlainTree.{ItemTrees}
 use Rattle.sd_graph.specs.Context.{Context}
 use Rattle.sd_left.specs.tree.Standing.{ItemLeft, first_line, first_kind, others, behind, parts_left}
 use Rattle.sd_left.specs.left.Waits.{Told, all_hold}
-use Rattle.sd_left.specs.left.Tells.{Telling, unfinished_told, pools_told, flags_told, ready_moves, all_right, counts_tell}
+use Rattle.sd_left.specs.left.Telling.{Telling, unfinished_told, pools_told, flags_told, ready_moves, all_right, counts_tell}
 use Rattle.sd_left.proofs.left_lemmas.Sameness.{both-true, sum-cons, Were, were}
 use Rattle.sd_left.proofs.left_lemmas.Shows.{AllItemsShow, parts-flags}
 use Rattle.sd_left.proofs.next_moves_lemmas.Found.{is-here, is-later}

@@ -3,7 +3,7 @@ use Rattle.std.proofs.Common.{◌≡◌, ℕ, zero, suc, ◌<◌, List, [], ◌�
 use Rattle.std.proofs.lemmas.List.{append-nil}
 use Rattle.sd_work.specs.Memory.{Memories}
 use Rattle.sd_left.specs.left.Waits.{Told, all_hold}
-use Rattle.sd_left.specs.left.Tells.{Telling, all_right}
+use Rattle.sd_left.specs.left.Telling.{Telling, all_right}
 use Rattle.sd_left.proofs.left_lemmas.Sameness.{both-true}
 
 module _ {A : Type 0} where

@@ -18,7 +18,8 @@ use Rattle.sd_left.specs.declared.left.left.Body.{Body as BodyNow}
 use Rattle.sd_left.specs.declared.left.left.Left.TheViews.{out-Bodies, out-Body}
 use Rattle.sd_left.specs.left.Kept.{left_of, bodies_kept, body_kept}
 use Rattle.sd_left.specs.left.Waits.{is_counted, are_bodies_counted, is_body_counted}
-use Rattle.sd_left.specs.left.Tells.{Telling, map_tells, tells, bodies_telling, bodies_tell, body_tells, moves_told, unfinished_told, pools_told, all_right, count_of_first}
+use Rattle.sd_left.specs.left.Telling.{Telling, map_tells, moves_told, unfinished_told, pools_told, all_right, count_of_first}
+use Rattle.sd_left.specs.left.Tells.{tells, bodies_telling, bodies_tell, body_tells}
 use Rattle.sd_left.proofs.left_lemmas.Sameness.{were}
 use Rattle.sd_left.proofs.left_lemmas.FirstLeft.{first-within}
 use Rattle.sd_left.proofs.left_lemmas.Rolls.{bodies_opened, body_opened}

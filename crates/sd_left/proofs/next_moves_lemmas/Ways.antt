@@ -17,7 +17,8 @@ use Rattle.sd_left.specs.declared.left.left.Run.{Run as RunNow}
 use Rattle.sd_left.specs.declared.left.left.Left.TheViews.{out-Run}
 use Rattle.sd_left.specs.left.Kept.{body_kept, run_kept}
 use Rattle.sd_left.specs.left.Waits.{is_body_counted, is_run_counted}
-use Rattle.sd_left.specs.left.Tells.{Telling, body_tells, run_tells}
+use Rattle.sd_left.specs.left.Telling.{Telling}
+use Rattle.sd_left.specs.left.Tells.{body_tells, run_tells}
 use Rattle.sd_left.proofs.left_lemmas.Rolls.{run_opened}
 use Rattle.sd_left.proofs.left_lemmas.WaitRolls.{run_counted}
 use Rattle.sd_left.proofs.left_lemmas.TellRolls.{run_told}

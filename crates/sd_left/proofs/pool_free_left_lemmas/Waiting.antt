@@ -6,7 +6,7 @@ use Rattle.sd_left.specs.declared.left.left.Left.{Left as LeftNow}
 use Rattle.sd_left.specs.declared.left.left.Bodies.{Bodies as BodiesNow}
 use Rattle.sd_left.specs.declared.left.left.Body.{Body as BodyNow}
 use Rattle.sd_left.specs.declared.left.left.Run.{Run as RunNow}
-use Rattle.sd_left.specs.declared.left.left.Left.TheOpen.{Left-F, Bodies-F, Body-F, Run-F, Instance, Doing, Points, Pool, Nested}
+use Rattle.sd_left.specs.declared.left.left.Left.TheOpen.{Left-F, Bodies-F, Body-F, Run-F, Instance, Doing, Points, Sparse, Pool, Nested}
 use Rattle.sd_left.specs.declared.left.left.Left.TheViews.{roll-Left, roll-Bodies, roll-Body, roll-Run}
 use Rattle.sd_left.specs.declared.left.left.Left.TheFolds.{map-Left, map-Bodies, map-Body, map-Run, fold-roll-Left, fold-roll-Bodies, fold-roll-Body, fold-roll-Run, ind-Left, ind-Body, ind-Run}
 use Rattle.sd_left.specs.left.Kept.{left_step, bodies_step, body_step, run_step, left_of, bodies_kept, body_kept, run_kept}
@@ -65,6 +65,7 @@ left-shown : (y : Left-F Lefts Many Ones Runs) → LeftWaits (roll-Left (left_la
 left-shown (Instance instance) = left-opened (Instance instance) (λ kind line context memories free. refl)
 left-shown (Doing doing) = left-opened (Doing doing) (λ kind line context memories free. refl)
 left-shown (Points sequential points) = left-opened (Points sequential points.0) (λ kind line context memories free. points.1 kind context memories free)
+left-shown (Sparse sequential tasks points) = left-opened (Sparse sequential tasks points) (λ kind line context memories free. refl)
 left-shown (Pool stream active waiting closed) =
     left-opened (Pool stream active.0 waiting closed) (λ kind line context memories free. closed-waits stream.level stream.container waiting closed (are_bodies_counted active.0) memories free.0)
 left-shown (Nested run) = left-opened (left_layer (Nested run)) (inner-waits (run_kept run.value.0) (is_run_counted run.value.0) run.value.1)

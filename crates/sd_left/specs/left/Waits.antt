@@ -5,7 +5,7 @@ use Rattle.sd_left.specs.declared.left.left.Left.{Left as LeftNow}
 use Rattle.sd_left.specs.declared.left.left.Bodies.{Bodies as BodiesNow}
 use Rattle.sd_left.specs.declared.left.left.Body.{Body as BodyNow}
 use Rattle.sd_left.specs.declared.left.left.Run.{Run as RunNow}
-use Rattle.sd_left.specs.declared.left.left.Left.TheOpen.{Left-F, Bodies-F, Body-F, Run-F, Instance, Doing, Points, Pool, Nested}
+use Rattle.sd_left.specs.declared.left.left.Left.TheOpen.{Left-F, Bodies-F, Body-F, Run-F, Instance, Doing, Points, Sparse, Pool, Nested}
 use Rattle.sd_left.specs.declared.left.left.Left.TheFolds.{fold-Left, fold-Bodies, fold-Body, fold-Run}
 
 -- over these memories
@@ -21,6 +21,7 @@ abbrev pub waits_step : Left-F Told Told Told Told → Told
 waits_step (Instance instance) memories = true
 waits_step (Doing doing) memories = true
 waits_step (Points sequential points) memories = points memories
+waits_step (Sparse sequential tasks points) memories = true
 waits_step (Pool stream active kept closed) memories =
     closed || (nat_eq kept (length (waiting stream.level stream.container memories)) && active memories)
 waits_step (Nested run) memories = run.value memories

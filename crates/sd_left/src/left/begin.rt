@@ -9,7 +9,8 @@ ghost use Rattle.sd_order.specs.table.Told.{told};
 ghost use Rattle.sd_left.specs.tree.Standing.{points_left, element_term, nested_left};
 ghost use Rattle.sd_left.specs.left.Kept.{left_of, bodies_kept, body_kept, run_kept};
 ghost use Rattle.sd_left.specs.left.Waits.{is_counted, is_body_counted, are_bodies_counted, is_run_counted, all_hold};
-ghost use Rattle.sd_left.specs.left.Tells.{tells, bodies_tell, body_tells, run_tells, all_right};
+ghost use Rattle.sd_left.specs.left.Telling.{all_right};
+ghost use Rattle.sd_left.specs.left.Tells.{tells, bodies_tell, body_tells, run_tells};
 
 use crate::left::count::{
     moves_of_each, moves_of_parts, pools_of_each, pools_of_parts, unfinished_bodies,

@@ -3,7 +3,8 @@ ghost use Rattle.std.specs.Prelude.{◌≡◌, ◌<◌, cond, map, length, slice
 ghost use Rattle.sd_work.specs.Residual.{is_ready};
 ghost use Rattle.sd_order.specs.table.Told.{told};
 ghost use Rattle.sd_left.specs.declared.left.left.Left.{Left as LeftNow};
-ghost use Rattle.sd_left.specs.left.Tells.{tells, body_tells, moves_told, unfinished_told, pools_told, flags_told, ready_moves};
+ghost use Rattle.sd_left.specs.left.Telling.{moves_told, unfinished_told, pools_told, flags_told, ready_moves};
+ghost use Rattle.sd_left.specs.left.Tells.{tells, body_tells};
 
 use crate::left::left::{Body, Left};
 use crate::left::tells::{

@@ -1,3 +1,4 @@
+use crate::sparse::{Stretch, Tasks};
 use sd_leaves::{Doing, Instance};
 use sd_list::Tally;
 use sd_mem::{Memory, Station};
@@ -15,6 +16,12 @@ pub enum Left {
     Points {
         sequential: bool,
         points: Bodies,
+    },
+    /// Of a map of tasklets: at each of its points, which are kept as they begin.
+    Sparse {
+        sequential: bool,
+        tasks: Tasks,
+        points: Stretch,
     },
     /// Of a consume scope over this stream: of each element taken, in the order of taking. So many values wait.
     Pool {

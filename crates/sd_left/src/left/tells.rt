@@ -1,9 +1,12 @@
 //! What a tree tells of its next moves and of its open consume scopes by the counts that it keeps.
 ghost use Rattle.std.specs.Prelude.{◌≡◌, ◌+◌, cond, not, IfOk};
 ghost use Rattle.sd_moves.specs.numbered.Counts.{one_if};
-ghost use Rattle.sd_left.specs.left.Tells.{map_tells, tells, bodies_telling, bodies_tell, body_tells, run_tells};
+ghost use Rattle.sd_left.specs.left.Telling.{map_tells};
+ghost use Rattle.sd_left.specs.left.Tells.{tells, bodies_telling, bodies_tell, body_tells, run_tells};
+ghost use Rattle.sd_left.specs.sparse.Stretch.{stretch_tells};
 
 use crate::left::left::{Bodies, Body, Left, Run};
+use crate::sparse::{Stretch, Tasks, first_moves, is_unfinished, moves_in};
 use sd_list::NoMemory;
 
 /// Whether nothing is left of an item.
@@ -14,6 +17,7 @@ pub fn is_finished(left: &Left) -> bool
         Left::Instance(instance) => instance.is_done(),
         Left::Doing(doing) => doing.is_done(),
         Left::Points { points, .. } => are_finished(points),
+        Left::Sparse { tasks, points, .. } => !is_unfinished(tasks, points),
         Left::Pool { closed, .. } => *closed,
         Left::Nested(run) => run.ended,
     }
@@ -41,6 +45,11 @@ pub fn moves_of(left: &Left) -> Result<u64, NoMemory>
         Left::Instance(instance) => Ok(one_if(!instance.is_done())),
         Left::Doing(doing) => Ok(one_if(!doing.is_done())),
         Left::Points { sequential, points } => Ok(moves_of_points(points, *sequential)),
+        Left::Sparse {
+            sequential,
+            tasks,
+            points,
+        } => moves_of_sparse(tasks, points, *sequential),
         Left::Pool {
             active,
             waiting,
@@ -59,6 +68,17 @@ fn moves_of_points(points: &Bodies, sequential: bool) -> u64
         return moves_of_first(points);
     }
     moves_of_bodies(points)
+}
+
+/// How many moves at the points of a map of tasklets come next. Of a sequential one only the first point moves of which something
+/// is left.
+fn moves_of_sparse(tasks: &Tasks, points: &Stretch, sequential: bool) -> Result<u64, NoMemory>
+    ensures { IfOk result (λ moves. moves ≡ (stretch_tells sequential tasks.now points.now).moves) }
+{
+    if sequential {
+        return Ok(first_moves(tasks, points));
+    }
+    moves_in(tasks, points)
 }
 
 /// How many moves at the first point come next of which something is left; 0 where nothing is left.
@@ -122,7 +142,7 @@ pub fn pools_of(left: &Left) -> Result<u64, NoMemory>
     ensures { IfOk result (λ pools. pools ≡ (tells left.now).pools) }
 {
     match left {
-        Left::Instance(_) | Left::Doing(_) => Ok(0),
+        Left::Instance(_) | Left::Doing(_) | Left::Sparse { .. } => Ok(0),
         Left::Points { points, .. } => Ok(pools_of_bodies(points)),
         Left::Pool { active, closed, .. } => pools_of_pool(active, *closed),
         Left::Nested(run) => Ok(pools_of_run(run)),

@@ -10,9 +10,13 @@ ghost use Rattle.sd_graph.specs.declared.place.Place.{Place};
 ghost use Rattle.sd_left.specs.tree.Standing.{body_left, points_left, active_left, run_left};
 ghost use Rattle.sd_left.specs.left.Kept.{left_of, bodies_kept, body_kept, run_kept};
 ghost use Rattle.sd_left.specs.left.Waits.{is_counted, are_bodies_counted, is_body_counted, is_run_counted};
-ghost use Rattle.sd_left.specs.left.Tells.{map_tells, tells, bodies_telling, bodies_tell, body_tells, run_tells};
+ghost use Rattle.sd_left.specs.left.Telling.{map_tells};
+ghost use Rattle.sd_left.specs.left.Tells.{tells, bodies_telling, bodies_tell, body_tells, run_tells};
+ghost use Rattle.sd_left.specs.sparse.Stretch.{points_in, stretch_tells};
+ghost use Rattle.sd_left.specs.sparse.Terms.{bodies_at};
 
 use crate::left::{Bodies, Body, Left, Run, is_body_finished};
+use crate::sparse::{Stretch, Tasks, way_in};
 use sd_list::NoMemory;
 use std::alloc::Global;
 
@@ -34,9 +38,25 @@ fn go_into_item(left: &Left, number: u64, place: &mut Vec<usize>) -> Result<(), 
         Left::Instance(_) => Ok(()),
         Left::Doing(_) => Ok(()),
         Left::Points { points, .. } => go_into_bodies(points, number, place),
+        Left::Sparse { tasks, points, .. } => go_into_sparse(tasks, points, number, place),
         Left::Pool { active, .. } => go_into_pool(active, number, place),
         Left::Nested(run) => go_into_run(run, number, place),
     }
+}
+
+/// The way to the tasklet of a point of which the move of this number is.
+fn go_into_sparse(
+    tasks: &Tasks,
+    points: &Stretch,
+    number: u64,
+    place: &mut Vec<usize>,
+) -> Result<(), NoMemory>
+    ensures { OnOk result ((sequential : Bool) (kind : KindTree) (context : Context) (memories : Memories) → (stretch_tells sequential tasks.now points.now).is_right ≡ true → number < (stretch_tells sequential tasks.now points.now).moves → place.new.items ≡ place.old.items ++ place_of (list Points (order_of_points sequential) (points_left (bodies_at tasks.now (points_in points.now) kind context) kind context)) memories number) }
+{
+    let way = way_in(*place.allocator(), tasks, points, number)?;
+    place.push(way.point)?;
+    place.push(way.task)?;
+    Ok(())
 }
 
 /// The way on in a consume scope: to an element in work, or to a value that waits.

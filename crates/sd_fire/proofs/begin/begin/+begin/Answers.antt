@@ -19,7 +19,8 @@ use Rattle.sd_scope.specs.scope.Standing.{context_of, opening_reach}
 use Rattle.sd_left.specs.declared.left.left.Left.{Left as LeftNow}
 use Rattle.sd_left.specs.declared.left.left.Body.{Body as BodyNow}
 use Rattle.sd_left.specs.left.Kept.{left_of, body_kept, run_kept}
-use Rattle.sd_left.specs.left.Tells.{tells, body_tells, all_right}
+use Rattle.sd_left.specs.left.Telling.{all_right}
+use Rattle.sd_left.specs.left.Tells.{tells, body_tells}
 use Rattle.sd_left.specs.left.Waits.{is_counted, is_body_counted, all_hold}
 use Rattle.sd_fire.specs.begin.Begun.{IsItemBegun}
 use Rattle.sd_fire.proofs.begin_lemmas.ItemKinds.{task_kind, map_kind, consume_kind, nested_kind, reduce_kind, copy_kind, as-kind}
@@ -100,16 +101,16 @@ begin_items-returns-clause-begun t c =
 
 -- ---- maps
 
-pub begin_map-returns-clause-begun : goal.begin_map-returns-clause-begun
-begin_map-returns-clause-begun t c = IfOk-weaker c.points.result _ _ (λ left kept line.
+pub begin_each-returns-clause-begun : goal.begin_each-returns-clause-begun
+begin_each-returns-clause-begun t c = IfOk-weaker c.points.result _ _ (λ left kept line.
     map-begins (context_of (graph_tree c.args.graph.now) c.args.base.now c.args.scope.now) line c.args.sequential c.args.params.now c.args.private.now (item_trees c.args.body.now) (map body_kept c.in_ok-points.points.items) left
     (kept (map_scope c.args.sequential c.args.params.now c.args.private.now (item_trees c.args.body.now)) line (context_of (graph_tree c.args.graph.now) c.args.base.now c.args.scope.now)) c.in_ok-points.ensures.begun) c.points.ensures.kept
 
-pub begin_map-returns-clause-counted : goal.begin_map-returns-clause-counted
-begin_map-returns-clause-counted t c = IfOk-weaker c.points.result _ _ (λ left counted. counted c.args.machine.now.memories ∙ c.in_ok-points.ensures.counted) c.points.ensures.counted
+pub begin_each-returns-clause-counted : goal.begin_each-returns-clause-counted
+begin_each-returns-clause-counted t c = IfOk-weaker c.points.result _ _ (λ left counted. counted c.args.machine.now.memories ∙ c.in_ok-points.ensures.counted) c.points.ensures.counted
 
-pub begin_map-returns-clause-right : goal.begin_map-returns-clause-right
-begin_map-returns-clause-right t c = IfOk-weaker c.points.result _ _ (λ left right. right ∙ c.in_ok-points.ensures.right) c.points.ensures.right
+pub begin_each-returns-clause-right : goal.begin_each-returns-clause-right
+begin_each-returns-clause-right t c = IfOk-weaker c.points.result _ _ (λ left right. right ∙ c.in_ok-points.ensures.right) c.points.ensures.right
 
 pub begin_points-walk-init : goal.begin_points-walk-init
 begin_points-walk-init t c = record {

@@ -3,7 +3,8 @@ use Rattle.sd_range.specs.Points.{points, ranges_of}
 use Rattle.sd_graph.specs.TreeFold.{graph_tree, item_trees}
 use Rattle.sd_scope.specs.scope.Standing.{context_of, IsInside}
 use Rattle.sd_left.specs.left.Kept.{left_of, body_kept}
-use Rattle.sd_left.specs.left.Tells.{tells, body_tells, all_right}
+use Rattle.sd_left.specs.left.Telling.{all_right}
+use Rattle.sd_left.specs.left.Tells.{tells, body_tells}
 use Rattle.sd_left.specs.left.Waits.{is_counted, is_body_counted, all_hold}
 use Rattle.sd_fire.proofs.begin_lemmas.Parts.{AreBegunSoFar, ArePointsBegunSoFar}
 use Rattle.sd_fire.proofs.begin.begin.+begin.Given as goal

@@ -20,7 +20,7 @@ use Rattle.sd_left.specs.left.Tells.{run_tells}
 use Rattle.sd_fire.proofs.begin_lemmas.Bodies.{items_here}
 use Rattle.sd_fire.specs.advance.Right.{ArePointsFired, ArePartsFired, IsNestedFired}
 use Rattle.sd_fire.proofs.fire_lemmas.PlainKinds.{map_here, consume_here}
-use Rattle.sd_fire.proofs.fire_lemmas.Levels.{nested_fired}
+use Rattle.sd_fire.proofs.fire_lemmas.Levels.{sparse_arm, nested_fired}
 use Rattle.sd_fire.proofs.fire_lemmas.Choices.{another_choice, elements_moved}
 use Rattle.sd_fire.proofs.fire_lemmas.Lists.{body_put, part_put, no_point, no_element, no_item, point_counted, element_counted, item_counted}
 use Rattle.sd_fire.proofs.fire_lemmas.Bodies.{items_moved, map_moves, numbers_of}
@@ -37,6 +37,12 @@ fire_left-returns-in-Nested t c = rw c.in-Nested.is (IfOk-weaker c.fire_nested.r
     nested_fired kind c.args.line context c.args.path.now c.args.machine.now c.fire_nested.new.machine end (shape.Nested c.in-Nested.run') right
     c.in-Nested.run' (record c.in-Nested.run' { value = c.fire_nested.new.run }) refl
     (subst (λ (run : RunNow). (run_tells run).is_right ≡ true → IsNestedFired run kind c.args.line context c.args.path.now c.args.machine.now end c.fire_nested.new.machine c.fire_nested.new.run) (c.deref_mut.ensures.value ∙ ap (λ (b : Box RunNow Global). b.value) c.in-Nested.run-is) fires)) c.fire_nested.ensures)
+
+pub fire_left-returns-in-Sparse : goal.fire_left-returns-in-Sparse
+unfolding shape.out-Left denote.Hole.Carrier.out
+fire_left-returns-in-Sparse t c = rw c.in-Sparse.is (IfOk-weaker c.fire_sparse.result _ _ (λ end fires right.
+    sparse_arm (kind_tree c.args.kind.now) c.args.line (context_of (graph_tree c.args.graph.now) c.args.base.now c.args.scope.now) c.args.path.now c.args.machine.now c.fire_sparse.new.machine end
+    (shape.Sparse c.in-Sparse.sequential c.in-Sparse.tasks c.in-Sparse.points) right c.in-Sparse.sequential c.in-Sparse.tasks _ c.in-Sparse.points _ c.fire_sparse.new.points refl c.in-Sparse.tasks-is c.in-Sparse.points-is fires) c.fire_sparse.ensures)
 
 -- ---- points
 

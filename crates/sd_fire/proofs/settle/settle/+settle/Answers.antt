@@ -11,7 +11,7 @@ use Rattle.sd_left.specs.left.Changed.{HasBody, HasPart}
 use Rattle.sd_fire.proofs.settle_lemmas.Points.{points-begin, points-turn, points-none, points-over, all_bodies}
 use Rattle.sd_fire.proofs.settle_lemmas.Elements.{elements-begin, elements-turn, elements-none, elements-over}
 use Rattle.sd_fire.proofs.settle_lemmas.Items.{items-begin, items-turn, items-none, items-over, all_parts}
-use Rattle.sd_fire.proofs.settle_lemmas.Levels.{pool_arm}
+use Rattle.sd_fire.proofs.settle_lemmas.Levels.{sparse_settled, pool_arm}
 use Rattle.sd_fire.proofs.settle_lemmas.Recounted.{one-done, part-done}
 use Rattle.sd_fire.proofs.settle.settle.+settle.Goals as goal
 
@@ -95,6 +95,10 @@ settle_items-returns-clause-settled t c = λ right.
 pub settle_items-returns-in_default-clause-settled : goal.settle_items-returns-in_default-clause-settled
 settle_items-returns-in_default-clause-settled t c = λ right.
     items-none c.args.may_go c.args.clear c.args.machine.now.memories c.args.body.now c.loop.body c.loop.counter c.loop.unit (c.loop.invariant.so_far right) c.in_default.ensures
+
+pub settle_left-returns-in-Sparse-clause-settled : goal.settle_left-returns-in-Sparse-clause-settled
+settle_left-returns-in-Sparse-clause-settled t c = λ right.
+    sparse_settled c.args.may_go c.args.clear c.args.machine.now.memories c.args.left.now right c.in-Sparse.sequential c.in-Sparse.tasks c.in-Sparse.points c.in-Sparse.is
 
 pub settle_left-returns-in-Pool-clause-settled : goal.settle_left-returns-in-Pool-clause-settled
 settle_left-returns-in-Pool-clause-settled t c = on_ok_weaker c.settle_pool.result (λ settles right.

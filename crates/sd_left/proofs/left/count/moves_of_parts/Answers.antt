@@ -1,6 +1,7 @@
 use Rattle.std.proofs.Common.{map, subst, sym, List, ℕ, ◌+◌, arith}
 use Rattle.sd_order.specs.table.Told.{told}
-use Rattle.sd_left.specs.left.Tells.{tells, flags_told, ready_moves}
+use Rattle.sd_left.specs.left.Telling.{flags_told, ready_moves}
+use Rattle.sd_left.specs.left.Tells.{tells}
 use Rattle.sd_left.proofs.left_lemmas.Readiness.{CountedUpTo, one-more, all-counted, member-there}
 use Rattle.sd_left.proofs.left.count.moves_of_parts.Goals as goal
 

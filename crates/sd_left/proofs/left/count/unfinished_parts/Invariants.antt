@@ -1,5 +1,6 @@
 use Rattle.std.proofs.Common.{◌≡◌, map, take}
-use Rattle.sd_left.specs.left.Tells.{tells, unfinished_told}
+use Rattle.sd_left.specs.left.Telling.{unfinished_told}
+use Rattle.sd_left.specs.left.Tells.{tells}
 use Rattle.sd_left.proofs.left.count.unfinished_parts.Given as goal
 
 abbrev pub invariant-loop-part : goal.invariant-loop-part

@@ -12,11 +12,13 @@ use Rattle.sd_left.specs.declared.left.left.Body.{Body as BodyNow}
 use Rattle.sd_left.specs.declared.left.left.Left.TheViews.{out-Bodies, out-Body, out-Run}
 use Rattle.sd_left.specs.left.Kept.{left_of, bodies_kept, body_kept}
 use Rattle.sd_left.specs.left.Waits.{is_counted, are_bodies_counted}
-use Rattle.sd_left.specs.left.Tells.{Telling, map_tells, tells, bodies_telling, bodies_tell}
+use Rattle.sd_left.specs.left.Telling.{Telling, map_tells}
+use Rattle.sd_left.specs.left.Tells.{tells, bodies_telling, bodies_tell}
+use Rattle.sd_left.specs.sparse.Stretch.{stretch_tells}
 use Rattle.sd_work.specs.Memory.{waiting}
-use Rattle.sd_left.proofs.left_lemmas.Rolls.{points_is, pool_is}
+use Rattle.sd_left.proofs.left_lemmas.Rolls.{points_is, sparse_is, pool_is}
 use Rattle.sd_left.proofs.left_lemmas.WaitRolls.{points_counted, pool_counted}
-use Rattle.sd_left.proofs.left_lemmas.TellRolls.{points_tell, pool_tells}
+use Rattle.sd_left.proofs.left_lemmas.TellRolls.{points_tell, sparse_tells, pool_tells}
 use Rattle.sd_left.proofs.left_lemmas.Sameness.{not-not}
 use Rattle.sd_left.proofs.next_moves_lemmas.Held.{nothing-more}
 use Rattle.sd_left.proofs.next_moves_lemmas.Found.{is-here, is-later}
@@ -103,6 +105,18 @@ go_into_item-returns-in-Points t c = on_ok_weaker c.go_into_bodies.result (λ is
     ∙ ap (λ (way : List ℕ). c.args.place.now.items ++ way)
     (sym (ap (λ (left : LeftNow). place_of (left_of left kind line context) memories number) c.in-Points.is
     ∙ ap (λ (term : Term Place). place_of term memories number) (points_is kind line context sequential points)))) c.go_into_bodies.ensures.points
+
+pub go_into_item-returns-in-Sparse : goal.go_into_item-returns-in-Sparse
+go_into_item-returns-in-Sparse t c = on_ok_weaker c.go_into_sparse.result (λ is kind line context memories right held less.
+    let sequential = c.in-Sparse.sequential in
+    let tasks = c.in-Sparse.tasks in
+    let points = c.in-Sparse.points in
+    let number = c.args.number in
+    let telling : tells c.args.left.now ≡ stretch_tells sequential tasks points = ap tells c.in-Sparse.is ∙ sparse_tells sequential tasks points in
+    is sequential kind context memories (sym (ap (λ (t : Telling). t.is_right) telling) ∙ right) (subst (λ (t : Telling). number < t.moves) telling less)
+    ∙ ap (λ (way : List ℕ). c.args.place.now.items ++ way)
+    (sym (ap (λ (left : LeftNow). place_of (left_of left kind line context) memories number) c.in-Sparse.is
+    ∙ ap (λ (term : Term Place). place_of term memories number) (sparse_is kind line context sequential tasks points)))) c.go_into_sparse.ensures
 
 pub go_into_item-returns-in-Pool : goal.go_into_item-returns-in-Pool
 go_into_item-returns-in-Pool t c = on_ok_weaker c.go_into_pool.result (λ is kind line context memories right held less.

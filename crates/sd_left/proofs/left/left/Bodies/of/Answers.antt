@@ -1,5 +1,6 @@
 use Rattle.std.proofs.Common.{◌≡◌, map, ap, ◌∙◌, rules}
-use Rattle.sd_left.specs.left.Tells.{Telling, body_tells, moves_told, unfinished_told, pools_told, all_right}
+use Rattle.sd_left.specs.left.Telling.{Telling, moves_told, unfinished_told, pools_told, all_right}
+use Rattle.sd_left.specs.left.Tells.{body_tells}
 use Rattle.sd_left.proofs.left_lemmas.Sameness.{exact}
 use Rattle.sd_left.proofs.left_lemmas.TellRolls.{bodies_rolled}
 use Rattle.sd_left.proofs.left.left.Bodies.of.Goals as goal

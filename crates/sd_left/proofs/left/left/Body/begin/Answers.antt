@@ -1,6 +1,7 @@
 use Rattle.std.proofs.Common.{◌≡◌, map, ap, ◌∙◌, rules}
 use Rattle.sd_order.specs.table.Told.{told}
-use Rattle.sd_left.specs.left.Tells.{Telling, tells, flags_told, ready_moves, unfinished_told, pools_told, all_right}
+use Rattle.sd_left.specs.left.Telling.{Telling, flags_told, ready_moves, unfinished_told, pools_told, all_right}
+use Rattle.sd_left.specs.left.Tells.{tells}
 use Rattle.sd_left.proofs.left_lemmas.Sameness.{exact}
 use Rattle.sd_left.proofs.left_lemmas.TellRolls.{body_rolled}
 use Rattle.sd_left.proofs.left.left.Body.begin.Goals as goal

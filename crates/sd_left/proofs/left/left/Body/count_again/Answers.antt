@@ -4,7 +4,8 @@ use Rattle.sd_work.specs.Residual.{is_ready}
 use Rattle.sd_moves.specs.numbered.Counts.{one_if}
 use Rattle.sd_order.specs.table.Told.{told}
 use Rattle.sd_left.specs.declared.left.left.Left.{Left as LeftNow}
-use Rattle.sd_left.specs.left.Tells.{tells, flags_told, ready_moves}
+use Rattle.sd_left.specs.left.Telling.{flags_told, ready_moves}
+use Rattle.sd_left.specs.left.Tells.{tells}
 use Rattle.sd_left.proofs.left_lemmas.Sameness.{not-not}
 use Rattle.sd_left.proofs.left_lemmas.Readiness.{one-member}
 use Rattle.sd_left.proofs.left_lemmas.Changes.{put-there, item-again, items-again}

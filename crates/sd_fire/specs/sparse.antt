@@ -1,0 +1,2 @@
+pub mod Tasklets
+pub mod Point

@@ -1,0 +1,7 @@
+pub mod Tasks
+pub mod Counts
+pub mod Stretches
+pub mod Ways
+pub mod Shown
+pub mod Firsts
+pub mod Placed

@@ -1,0 +1,3 @@
+pub mod Point
+pub mod Stretch
+pub mod Terms
