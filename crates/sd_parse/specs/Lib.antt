@@ -1,1 +1,2 @@
 pub mod ErrorNumber
+pub mod grammar

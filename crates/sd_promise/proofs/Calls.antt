@@ -15,7 +15,7 @@ use Rattle.sd_tool.specs.Headline.{Prints, PrintsTraced}
 use Rattle.sd_tool.specs.Statuses.{Statuses, TellsSteps, Runs, ListsGraph, AcceptsGraph, EndsAs}
 use Rattle.sd_tool.specs.Told.{Asks}
 use Rattle.sd_promise.specs.Promise.{FilesSay, PrintsWhatIsSaid, EndsAsSaid, wants_moves, RunWasSaid}
-use Rattle.sd_promise.proofs.Files.{run_is_said, said_is_run, status_told}
+use Rattle.sd_promise.proofs.Files.{read_by_grammar, run_is_said, said_is_run, status_told}
 
 module _ (words : List (List ℕ)) (shelf : ShelfUse) (sink : SinkUse) (status : ℕ) where
   pub printed_is_said : (call : Call) (work : Work) (turns : ℕ) (asks : Asks words shelf call work) → Prints work turns sink status → PrintsWhatIsSaid asks.source asks.arrays turns [] sink status
@@ -51,21 +51,27 @@ module _ (words : List (List ℕ)) (shelf : ShelfUse) (sink : SinkUse) (status :
   none_told work picks to_check moves told none = told
 
   run_was_said : (work : Work) (turns : ℕ) (moves : List (ℕ × ℕ)) (outcome : Outcome Place Left) → Runs words shelf work turns moves outcome → Writes sink (text_of (ran moves work.tree turns outcome)) → RunWasSaid words shelf sink outcome
-  run_was_said work turns moves outcome runs writes = record {
-    call = runs.call;
-    turns = turns;
-    moves = moves;
-    asked = runs.comes.source.asked;
-    asks = runs.asks;
-    alone = none_told work runs.picks runs.call.command moves runs.told;
-    text = runs.comes.source.source;
-    arrays = runs.comes.arrays;
-    text_read = runs.comes.source.reads;
-    arrays_read = runs.comes.reads;
-    printed = end_text work.tree turns outcome;
-    said = run_is_said runs.comes.source.source runs.comes.arrays runs.comes.tree work turns outcome runs.comes.source.is runs.comes.is runs.ends;
-    writes = writes;
-  }
+  run_was_said work turns moves outcome runs writes =
+      let text : List ℕ = runs.comes.source.source in
+      let printed : List ℕ = end_text work.tree turns outcome in
+      let said : FilesSay text runs.comes.arrays turns outcome printed =
+      run_is_said text runs.comes.arrays runs.comes.tree work turns outcome runs.comes.source.is runs.comes.is runs.ends in
+      record {
+        call = runs.call;
+        turns = turns;
+        moves = moves;
+        asked = runs.comes.source.asked;
+        asks = runs.asks;
+        alone = none_told work runs.picks runs.call.command moves runs.told;
+        text = text;
+        arrays = runs.comes.arrays;
+        text_read = runs.comes.source.reads;
+        arrays_read = runs.comes.reads;
+        printed = printed;
+        said = said;
+        accepted = read_by_grammar text runs.comes.tree said.source runs.comes.source.is said.reading;
+        writes = writes;
+      }
 
   pub done_was_said : Statuses words shelf sink status → status ≡ 0 → ((left : Left) × RunWasSaid words shelf sink (Done left)) ⊎ ((work : Work) × ListsGraph words shelf work × Writes sink (text_of (listed work.tree))) ⊎ ((work : Work) × AcceptsGraph words shelf work × Writes sink (text_of (checked work.tree)))
   done_was_said statuses is = elim (statuses.zero is) [

@@ -1,5 +1,6 @@
 -- A source and an arrays file say what the run of their work comes to.
-use Rattle.std.proofs.Common.{◌≡◌, ◌∙◌, ℕ, List, reverse, Result, Ok, refl, ap, sym, subst}
+use Rattle.std.proofs.Common.{◌≡◌, ◌∙◌, ℕ, List, reverse, Some, Result, Ok, refl, ap, sym, subst}
+use Rattle.std.specs.Prelude.{unwrap_or}
 use Rattle.sd_lex.specs.PlainTree.{FunctionTree, ProgramTree}
 use Rattle.sd_work.specs.Memory.{Memory}
 use Rattle.sd_work.specs.Run.{Left, Sequential}
@@ -17,6 +18,8 @@ use Rattle.sd_json.specs.Names.{names_in}
 use Rattle.sd_json.specs.declared.error.InputError.{InputError}
 use Rattle.sd_read.proofs.readable_lemmas.Fields.{well_formed}
 use Rattle.sd_read.proofs.readable_lemmas.kept.Steps.{same_value}
+use Rattle.sd_parse.specs.grammar.Programs.{tree_of}
+use Rattle.sd_parse.proofs.grammar_lemmas.Lines.{read_is_tree}
 use Rattle.sd_elab.specs.elab.Elaboration.{graph_of}
 use Rattle.sd_says.specs.Says.{sizes_of, Says}
 use Rattle.sd_tie.specs.programs.Programs.{AreFitting}
@@ -25,11 +28,12 @@ use Rattle.sd_tie.proofs.meant_lemmas.Texts.{joined_whole, text_is_run, run_of_t
 use Rattle.sd_report.specs.write.RunText.{done_text, end_text}
 use Rattle.sd_tool.specs.Answers.{status_of_end}
 use Rattle.sd_tool.specs.Work.{Work, source_graph, prepared, run_of_work}
+use Rattle.sd_tool.proofs.Prepared.{bound_is, elements_in, opens}
 use Rattle.sd_promise.specs.Promise.{FilesSay}
 use Rattle.sd_promise.specs.Source.{names_sought, file_read, memory_given, lines_of_last, text_said, status_said}
 use Rattle.sd_promise.proofs.Given.{elements_given}
 use Rattle.sd_promise.proofs.Graphs.{names_latest, memory_latest, lines_latest}
-use Rattle.sd_promise.proofs.Prepared.{has_source, own_graph, bound_is, elements_in, opens}
+use Rattle.sd_promise.proofs.Sources.{has_source, own_graph}
 
 -- what a source and an arrays file come to, in the words of the source
 pub record ComesOf (source : ProgramTree) (arrays : List ℕ) (work : Work) : Type 0 where
@@ -71,6 +75,12 @@ status_told (Done left) = refl
 status_told (Faulted fault) = refl
 status_told Spent = refl
 
+-- a text that is a source by the grammar, and that has a graph, is read as this source
+pub read_by_grammar : (text : List ℕ) (tree : GraphTree) (source : ProgramTree) → source_graph text ≡ Ok tree → tree_of text ≡ Some source → reads text ≡ Ok source
+read_by_grammar text tree source is written =
+    let found = has_source text tree is in
+    found.1 ∙ ap Ok (ap (λ read. unwrap_or read source) (sym (read_is_tree text found.0 found.1) ∙ written))
+
 -- ---- both ways
 
 module _ (text arrays : List ℕ) (tree : GraphTree) (work : Work) (turns : ℕ) (outcome : Outcome Place Left) where
@@ -83,7 +93,7 @@ module _ (text arrays : List ℕ) (tree : GraphTree) (work : Work) (turns : ℕ)
       record {
         source = source;
         contents = of.contents;
-        reading = found.1;
+        reading = read_is_tree text source found.1;
         given = of.given;
         says = subst (λ memory. Says source of.contents.sizes memory turns outcome) (sym of.memory) says;
         is = told source arrays work of turns outcome;
@@ -93,11 +103,12 @@ module _ (text arrays : List ℕ) (tree : GraphTree) (work : Work) (turns : ℕ)
       Sequential (run_of_work work) turns outcome × (printed ≡ end_text work.tree turns outcome)
   said_is_run printed is comes said =
       let source : ProgramTree = said.source in
-      let of = comes_of text source arrays work said.reading (subst (λ tree. prepared tree arrays ≡ Ok work) (sym (own_graph text tree source is said.reading)) comes) in
+      let reading : reads text ≡ Ok source = read_by_grammar text tree source is said.reading in
+      let of = comes_of text source arrays work reading (subst (λ tree. prepared tree arrays ≡ Ok work) (sym (own_graph text tree source is reading)) comes) in
       let step : Result Contents InputError = Ok said.contents in
       let same : said.contents ≡ of.contents = same_value step of.contents (sym said.given ∙ of.given) in
       let says : Says source of.contents.sizes work.memory turns outcome =
       subst (λ memory. Says source of.contents.sizes memory turns outcome) of.memory (subst (λ contents. Says source contents.sizes (memory_given source contents) turns outcome) same said.says) in (
-        text_is_run text source of.contents.sizes work.tree work.memory turns outcome said.reading of.bound says,
+        text_is_run text source of.contents.sizes work.tree work.memory turns outcome reading of.bound says,
         said.is ∙ ap (λ (contents : Contents). text_said source contents.sizes turns outcome) same ∙ sym (told source arrays work of turns outcome),
       )

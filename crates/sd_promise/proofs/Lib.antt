@@ -2,7 +2,8 @@ pub mod Arguments
 pub mod Given
 pub mod Widths
 pub mod Graphs
-pub mod Prepared
+pub mod Sources
 pub mod Files
 pub mod Calls
 pub mod Examples
+pub mod SmallFiles

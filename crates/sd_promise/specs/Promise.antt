@@ -1,11 +1,12 @@
 -- What the files of a call say, and that a call prints it.
-use Rattle.std.specs.Prelude.{◌≡◌, ◌⊎◌, ℕ, ◌^◌, List, [], ◌++◌, Bool, false, Ok}
+use Rattle.std.specs.Prelude.{◌≡◌, ◌⊎◌, ℕ, ◌^◌, List, [], ◌++◌, Bool, false, Some, Ok}
 use Rattle.sd_io.specs.Count.{HasRisen}
 use Rattle.sd_lex.specs.PlainTree.{ProgramTree}
 use Rattle.sd_work.specs.Run.{Left}
 use Rattle.sd_work.specs.Step.{Outcome}
 use Rattle.sd_graph.specs.declared.place.Place.{Place}
 use Rattle.sd_source.specs.source.SourceReading.{reads}
+use Rattle.sd_parse.specs.grammar.Programs.{tree_of}
 use Rattle.sd_json.specs.Given.{Contents}
 use Rattle.sd_says.specs.Says.{Says}
 use Rattle.sd_report.specs.write.RunText.{steps_text}
@@ -14,11 +15,11 @@ use Rattle.sd_tool.specs.Answers.{ShelfUse, Reads}
 use Rattle.sd_tool.specs.Ends.{SinkUse, Writes}
 use Rattle.sd_promise.specs.Source.{file_read, memory_given, text_said, status_said}
 
--- the text is a source, the bytes are an arrays file of it, and with these arrays, sizes and turns the source says this outcome, whose text is this
+-- by the grammar the text is a source, the bytes are an arrays file of it, and with these arrays, sizes and turns the source says this outcome, whose text is this
 pub record FilesSay (text arrays : List ℕ) (turns : ℕ) (outcome : Outcome Place Left) (printed : List ℕ) : Type 0 where
   pub source : ProgramTree
   pub contents : Contents
-  pub reading : reads text ≡ Ok source
+  pub reading : tree_of text ≡ Some source
   pub given : file_read source arrays ≡ Ok contents
   pub says : Says source contents.sizes (memory_given source contents) turns outcome
   pub is : printed ≡ text_said source contents.sizes turns outcome
@@ -44,7 +45,7 @@ wants_moves (to_step step) = step.traces
 wants_moves to_print = false
 wants_moves to_check = false
 
--- the words ask for a run, by picks or without, of two files that were read, which say this outcome, and its text was written; lines of moves stand before it where they are asked for, and else none
+-- the words ask for a run, by picks or without, of two files that were read, the source without an error, which say this outcome, and its text was written; lines of moves stand before it where they are asked for, and else none
 pub record RunWasSaid (words : List (List ℕ)) (shelf : ShelfUse) (sink : SinkUse) (outcome : Outcome Place Left) : Type 0 where
   pub call : Call
   pub turns : ℕ
@@ -58,4 +59,5 @@ pub record RunWasSaid (words : List (List ℕ)) (shelf : ShelfUse) (sink : SinkU
   pub arrays_read : Reads shelf call.arrays (2 ^ 26) arrays
   pub printed : List ℕ
   pub said : FilesSay text arrays turns outcome printed
+  pub accepted : reads text ≡ Ok said.source
   pub writes : Writes sink (steps_text moves ++ printed)

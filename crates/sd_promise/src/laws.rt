@@ -12,8 +12,11 @@ ghost use Rattle.sd_tool.specs.Answers.{ShelfUse, listed, checked, text_of};
 ghost use Rattle.sd_tool.specs.Ends.{SinkUse, Writes};
 ghost use Rattle.sd_tool.specs.Headline.{Prints, PrintsTraced};
 ghost use Rattle.sd_tool.specs.Statuses.{Statuses, ListsGraph, AcceptsGraph};
-ghost use Rattle.sd_tool.specs.Told.{Asks};
+ghost use Rattle.sd_tool.specs.Accepted.{IsRaceFree};
+ghost use Rattle.sd_tool.specs.Told.{Asks, Presents};
+ghost use Rattle.sd_parse.specs.grammar.Small.{small_source};
 ghost use Rattle.sd_promise.specs.Promise.{FilesSay, PrintsWhatIsSaid, EndsAsSaid, RunWasSaid};
+ghost use Rattle.sd_promise.specs.Small.{small_arrays, small_words, small_call, TellsSmall, small_outcome, small_printed};
 
 /// Where a text has a graph and an arrays file fits it, the files say exactly what the sequential run of
 /// their work comes to, and the text of that is the one that is told of the run.
@@ -44,4 +47,16 @@ pub fn run_prints_what_the_source_says()
     ensures fault { (words : List (List ℕ)) (shelf : ShelfUse) (sink : SinkUse) (status : ℕ) → Statuses words shelf sink status → status ≡ 7
         → (fault : Fault Place) × RunWasSaid words shelf sink (Faulted fault) }
     ensures spent { (words : List (List ℕ)) (shelf : ShelfUse) (sink : SinkUse) (status : ℕ) → Statuses words shelf sink status → status ≡ 8 → RunWasSaid words shelf sink Spent }
+{}
+
+/// A small source with its arrays, from bytes to bytes, which the checker computes: where a shelf tells both files, all
+/// that is asked of a run holds (`asked`, and `presented` of the headline), the files say that 1 was added to each
+/// element (`said`), and the text of this is printed (`printed`).
+pub fn a_small_source_and_its_arrays_say_what_is_printed()
+    ensures asked { (shelf : ShelfUse) → TellsSmall shelf → (work : Work) × Asks small_words shelf small_call work }
+    ensures presented { (shelf : ShelfUse) → TellsSmall shelf
+        → (work : Work) × Presents small_words shelf small_call work × IsRaceFree work.tree }
+    ensures said { FilesSay small_source small_arrays 10000000 small_outcome small_printed }
+    ensures printed { (shelf : ShelfUse) → TellsSmall shelf → (sink : SinkUse) (status : ℕ)
+        → Statuses small_words shelf sink status → EndsAsSaid small_outcome small_printed sink status }
 {}

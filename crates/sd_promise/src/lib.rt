@@ -5,4 +5,7 @@
 
 mod laws;
 
-pub use laws::{files_say_what_their_graph_runs, run_prints_what_the_source_says};
+pub use laws::{
+    a_small_source_and_its_arrays_say_what_is_printed, files_say_what_their_graph_runs,
+    run_prints_what_the_source_says,
+};

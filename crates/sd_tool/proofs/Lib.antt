@@ -11,3 +11,6 @@ pub mod OnlyPicks
 pub mod StatusRows
 pub mod StatusAt
 pub mod StatusEnds
+pub mod AcceptedScopes
+pub mod Prepared
+pub mod Presented

@@ -19,6 +19,10 @@ pub record Prints (work : Work) (turns : ℕ) (sink : SinkUse) (status : ℕ) : 
   pub ends : Sequential (run_of_work work) turns outcome
   pub printed : ((status ≡ status_of_end outcome) × Writes sink (end_text work.tree turns outcome)) ⊎ (status ≡ 1)
 
+-- the outcome of the sequential run is printed; or the source (3) or the arrays file (4) is refused, for what stands against it; or memory was wanting
+abbrev pub PrintsUnlessRefused : Work → (turns : ℕ) → SinkUse → (status : ℕ) → Type 0
+PrintsUnlessRefused work turns sink status = Prints work turns sink status ⊎ (status ≡ 3) ⊎ (status ≡ 4) ⊎ (status ≡ 1)
+
 -- the work has a run by these picks, which has this trace; a line for each of its steps and then the text of the sequential run is written whole, and the status is that of the sequential run, or memory was wanting
 pub record PrintsTraced (work : Work) (picks : List ℕ) (turns : ℕ) (sink : SinkUse) (status : ℕ) : Type 0 where
   pub picked : Outcome Place Left

@@ -6,6 +6,7 @@ pub mod Ends
 pub mod Ending
 pub mod Report
 pub mod Written
+pub mod Accepted
 pub mod Told
 pub mod Headline
 pub mod Statuses

@@ -1,10 +1,15 @@
 -- Calls whose files are told, and whose counts did not rise.
 use Rattle.std.specs.Prelude.{◌≡◌, ℕ, ◌^◌, ◌≤◌, List, [], length, Some, Ok}
 use Rattle.sd_io.specs.Count.{HasRisen}
+use Rattle.sd_lex.specs.PlainTree.{ProgramTree}
 use Rattle.sd_graph.specs.PlainTree.{GraphTree}
+use Rattle.sd_parse.specs.grammar.Programs.{tree_of}
+use Rattle.sd_elab.specs.elab.Elaboration.{graph_of}
 use Rattle.sd_chain.specs.Picks.{picks_reading}
+use Rattle.serde_json.specs.Data.{Members}
+use Rattle.sd_json.specs.ArraysReading.{entries_of}
 use Rattle.sd_words.specs.Command.{Command, to_run, to_step, to_print, to_check, Call, IsCall}
-use Rattle.sd_tool.specs.Work.{Work, source_graph, prepared}
+use Rattle.sd_tool.specs.Work.{Work, source_graph, prepared, work_of}
 use Rattle.sd_tool.specs.Answers.{ShelfUse}
 
 -- the source is told and its count did not rise
@@ -29,6 +34,21 @@ pub record Asks (words : List (List ℕ)) (shelf : ShelfUse) (call : Call) (work
   pub tells : TellsArrays words shelf call source tree arrays
   pub within : length arrays ≤ 2 ^ 26
   pub comes : prepared tree arrays ≡ Ok work
+
+-- the words are this call; both files are told, no count of theirs rose, and they are within their limits; by the grammar the source is a program; the arrays file is an object, and this work is the program's graph with its sizes and arrays
+pub record Presents (words : List (List ℕ)) (shelf : ShelfUse) (call : Call) (work : Work) : Type 0 where
+  pub source : List ℕ
+  pub program : ProgramTree
+  pub arrays : List ℕ
+  pub tells : TellsSource words shelf call source
+  pub within : length source ≤ 2 ^ 20
+  pub is : tree_of source ≡ Some program
+  pub told : shelf.told call.arrays ≡ Some arrays
+  pub quiet : ¬ HasRisen (shelf.faults_before call.arrays) (shelf.faults_after call.arrays)
+  pub arrays_within : length arrays ≤ 2 ^ 26
+  pub entries : Members
+  pub has : entries_of arrays ≡ Some entries
+  pub comes : work_of (graph_of program) entries ≡ work
 
 -- a picks file is told and its count did not rise
 pub record TellsPicks (shelf : ShelfUse) (name : List ℕ) (file : List ℕ) : Type 0 where

@@ -1,16 +1,17 @@
 -- What a source and an arrays file come to: a graph that is bound, and the memory that its run begins with.
-use Rattle.std.specs.Prelude.{ℕ, List, Some, None, Result, Ok, Err}
+use Rattle.std.specs.Prelude.{ℕ, List, map, Some, None, Result, Ok, Err}
 use Rattle.sd_work.specs.Memory.{Memory}
 use Rattle.sd_work.specs.Residual.{Term}
 use Rattle.sd_graph.specs.PlainTree.{GraphTree}
-use Rattle.sd_graph.specs.Unfold.{run_of}
+use Rattle.sd_graph.specs.Unfold.{run_of, opening_memory}
 use Rattle.sd_graph.specs.declared.place.Place.{Place}
 use Rattle.sd_mem.specs.mem.Shaped.{Shaped}
-use Rattle.sd_valid.specs.Binding.{binding}
+use Rattle.sd_valid.specs.Binding.{binding, with_sizes}
 use Rattle.sd_valid.specs.declared.error.BindError.{BindError}
 use Rattle.sd_valid.specs.declared.error.BindError.TheVariants.{MissingSize, BadSize, OverLimit}
 use Rattle.sd_valid.specs.declared.error.BindError.TheVariants as binds
-use Rattle.sd_json.specs.ArraysReading.{arrays_reading}
+use Rattle.serde_json.specs.Data.{Members}
+use Rattle.sd_json.specs.ArraysReading.{arrays_reading, contents_in}
 use Rattle.sd_json.specs.Given.{Contents}
 use Rattle.sd_json.specs.GivenMemory.{memory_given}
 use Rattle.sd_json.specs.Names.{names_in}
@@ -77,6 +78,13 @@ given tree (Err error) = Err (input_refusal error)
 -- what a graph and an arrays file come to: the file is read for the graph, its sizes are bound, and its arrays become the memory; the first that refuses decides
 abbrev pub prepared : GraphTree → (arrays : List ℕ) → Result Work ArraysRefusal
 prepared tree arrays = given tree (arrays_reading (names_in tree) arrays)
+
+-- the graph with the sizes of a file's entries, and the memory with its arrays, whether or not they fit
+abbrev pub work_of : GraphTree → Members → Work
+work_of tree entries =
+    let contents : Contents = contents_in (names_in tree) entries in
+    let sized : GraphTree = with_sizes tree contents.sizes in
+    record { tree = sized; memory = opening_memory sized (map (λ array. array.elements) contents.arrays) }
 
 -- ---- the run
 

@@ -2,13 +2,14 @@ ghost use Rattle.std.specs.Prelude.{◌≡◌, ◌≤◌, ℕ, true, false, List
 ghost use Rattle.sd_io.specs.Count.{HasRisen};
 ghost use Rattle.sd_race.specs.race.Pairs.{IsGraphAccepted};
 ghost use Rattle.sd_words.specs.Command.{Call, Step, to_run, to_step, to_print, to_check, MakesRaceCheck};
+ghost use Rattle.sd_tool.specs.Accepted.{IsRaceFree};
 ghost use Rattle.sd_tool.specs.Answers.{ShelfUse, Answers, shelf_use};
 ghost use Rattle.sd_tool.specs.Ending.{answer_of};
 ghost use Rattle.sd_tool.specs.Ends.{Ends, sink_use};
-ghost use Rattle.sd_tool.specs.Headline.{Prints, PrintsTraced, Lists, Accepts, TellsItsRace};
+ghost use Rattle.sd_tool.specs.Headline.{Prints, PrintsUnlessRefused, PrintsTraced, Lists, Accepts, TellsItsRace};
 ghost use Rattle.sd_tool.specs.Report.{reported, Says};
 ghost use Rattle.sd_tool.specs.Statuses.{Statuses};
-ghost use Rattle.sd_tool.specs.Told.{Asks, GivesPicks};
+ghost use Rattle.sd_tool.specs.Told.{Asks, Presents, GivesPicks};
 ghost use Rattle.sd_tool.specs.Work.{Work};
 ghost use Rattle.sd_tool.specs.Written.{written_status};
 
@@ -102,11 +103,21 @@ pub fn sdfg<R, S: Shelf, K: Sink, G: Gate>(
     out: &mut K,
     _gate: &G,
 ) -> u8
-    // The words ask for a run of two files that are told, within their limits and in their forms; the race check
-    // accepts the source's graph with its sizes; no count of the files or of the sink rises. Then the sequential run
-    // of this graph over its arrays has an outcome; its text is appended and the status is its own, or memory is
-    // wanting.
+    // The words ask for a run of two files that are told and within their limits; by the grammar the source is a
+    // program, and the arrays file is an object; the scopes of the program's graph with the sizes are free of races;
+    // no count of the files or of the sink rises. Then the sequential run of this graph over the arrays has an outcome;
+    // its text is appended and the status is its own; or the source (3) or the arrays file (4) is refused, which
+    // `statuses` tells exactly; or memory is wanting.
     ensures headline { (call : Call) (turns : ℕ) (work : Work)
+        → Presents (map string_bytes words.now) (shelf_use S.told S.faults S.overruns shelf.old shelf.new) call work
+        → call.command ≡ to_run turns
+        → IsRaceFree work.tree
+        → ¬ HasRisen (K.faults out.old) (K.faults out.new)
+        → PrintsUnlessRefused work turns (sink_use K.taken K.faults out.old out.new) result }
+
+    // Where the source is read as a program, so that nothing stands against it, the outcome is printed or memory is
+    // wanting.
+    ensures run { (call : Call) (turns : ℕ) (work : Work)
         → Asks (map string_bytes words.now) (shelf_use S.told S.faults S.overruns shelf.old shelf.new) call work
         → call.command ≡ to_run turns
         → IsGraphAccepted work.tree

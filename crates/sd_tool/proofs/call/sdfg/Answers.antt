@@ -1,14 +1,16 @@
 use Rattle.std.proofs.Common.{[]}
 use Rattle.sd_tool.specs.Answers.{listed, checked}
 use Rattle.sd_tool.proofs.EndLemmas.{prints_from_end, traced_from_end, written_from_end, race_from_end}
+use Rattle.sd_tool.proofs.Presented.{asked_prints, presented_prints}
 use Rattle.sd_tool.proofs.RunOutcome.{ends_somehow, steps_somehow}
-use Rattle.sd_tool.proofs.StatusEnds.{one_race, asked_run, asked_step, asked_text, asked_check, statuses}
+use Rattle.sd_tool.proofs.StatusEnds.{one_race, asked_step, asked_text, asked_check, statuses}
 use Rattle.sd_tool.proofs.call.sdfg.Goals as goal
 
 pub returns-clause-headline : goal.returns-clause-headline
-returns-clause-headline g c = λ call turns work asks is accepted quiet.
-    let ended = ends_somehow asks.source asks.tree asks.arrays work turns asks.tells.has_graph asks.comes in
-    prints_from_end _ _ _ c.perform.result work turns ended.0 ended.1 (asked_run _ _ call work turns ended.0 asks is accepted ended.1) quiet c.perform.ensures.ends
+returns-clause-headline g c = λ call turns work presents is free quiet. presented_prints _ _ _ c.perform.result call turns work presents is free quiet c.perform.ensures.ends
+
+pub returns-clause-run : goal.returns-clause-run
+returns-clause-run g c = λ call turns work asks is accepted quiet. asked_prints _ _ _ c.perform.result call turns work asks is accepted quiet c.perform.ensures.ends
 
 pub returns-clause-interleaving : goal.returns-clause-interleaving
 returns-clause-interleaving g c = λ call step picks work asks is traces gives accepted quiet.

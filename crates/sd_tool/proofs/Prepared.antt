@@ -1,42 +1,43 @@
--- What a source and an arrays file come to, taken apart.
+-- What a graph and an arrays file come to, taken apart.
 use Rattle.std.proofs.Common.{◌≡◌, ◌∙◌, ℕ, ℤ, List, map, Option, Some, None, Result, Ok, Err, refl, ap, sym, subst}
+use Rattle.std.specs.Prelude.{⊤}
 use Rattle.std.specs.Option.{option_map_or}
-use Rattle.sd_lex.specs.PlainTree.{ProgramTree}
+use Rattle.serde_json.specs.Data.{Members}
+use Rattle.sd_work.specs.Memory.{Memory}
 use Rattle.sd_graph.specs.PlainTree.{GraphTree}
 use Rattle.sd_graph.specs.TreeParts.{containers_of}
 use Rattle.sd_graph.specs.Unfold.{opening_memory}
 use Rattle.sd_mem.specs.mem.GraphContents.{opened_with}
-use Rattle.sd_context.specs.declared.blocks.refusal.Refusal.{Refusal}
-use Rattle.sd_source.specs.source.SourceReading.{reads}
 use Rattle.sd_valid.specs.Binding.{unless_refused, within_limits, with_sizes, binding}
 use Rattle.sd_valid.specs.Limits.{all_containers, tally}
 use Rattle.sd_valid.specs.SizeValues.{NamedSizes, symbols_of, first_name, has_no_size, has_bad_size}
 use Rattle.sd_valid.specs.declared.error.BindError.{BindError}
 use Rattle.sd_valid.specs.declared.error.BindError.TheVariants.{MissingSize, BadSize}
-use Rattle.sd_json.specs.ArraysReading.{arrays_reading}
+use Rattle.sd_json.specs.ArraysReading.{entries_of, refusal_of, contents_in, entries_reading, arrays_reading}
 use Rattle.sd_json.specs.Given.{Contents}
 use Rattle.sd_json.specs.GivenMemory.{wrong_shape}
 use Rattle.sd_json.specs.Names.{names_in}
 use Rattle.sd_json.specs.declared.array.Array.{Array}
 use Rattle.sd_json.specs.declared.error.InputError.{InputError}
 use Rattle.sd_json.specs.declared.error.InputError.TheVariants.{WrongShape}
-use Rattle.sd_read.proofs.readable_lemmas.kept.Steps.{refused_is_none, same_value}
-use Rattle.sd_elab.specs.elab.Elaboration.{graph_of}
+use Rattle.sd_json.specs.declared.names.Names.{Names}
 use Rattle.sd_tool.specs.Work as come
-use Rattle.sd_tool.specs.Work.{Work, graph_read, source_graph, prepared}
+use Rattle.sd_tool.specs.Work.{Work, prepared, work_of}
 
--- ---- a source
+abbrev IsRefused : {A E : Type 0} → Result A E → Type 0
+IsRefused (Ok value) = ⊥
+IsRefused (Err refusal) = ⊤
 
--- a text with a graph is a source
-pub has_source : (text : List ℕ) (tree : GraphTree) → source_graph text ≡ Ok tree → (source : ProgramTree) × (reads text ≡ Ok source)
-has_source text tree is = by_reading (reads text) is where
-  by_reading : (reading : Result ProgramTree Refusal) → graph_read reading ≡ Ok tree → (source : ProgramTree) × (reading ≡ Ok source)
-  by_reading (Ok source) is = (source, refl)
-  by_reading (Err refusal) is = refused_is_none refusal tree is
+-- what is refused comes to nothing
+refused_is_none : {A E P : Type 0} (refusal : E) (value : A) → Err refusal ≡ Ok value → P
+refused_is_none refusal value is = absurd (subst IsRefused is tt)
 
--- and the graph is its own
-pub own_graph : (text : List ℕ) (tree : GraphTree) (source : ProgramTree) → source_graph text ≡ Ok tree → reads text ≡ Ok source → graph_of source ≡ tree
-own_graph text tree source is reading = same_value (graph_read (Ok source)) tree (sym (ap graph_read reading) ∙ is)
+abbrev value_in : {A E : Type 0} → A → Result A E → A
+value_in other (Ok value) = value
+value_in other (Err refusal) = other
+
+same_value : {A E : Type 0} (step : Result A E) (b : A) → step ≡ Ok b → value_in b step ≡ b
+same_value step b is = ap (value_in b) is
 
 -- ---- sizes
 
@@ -90,3 +91,32 @@ opens tree arrays work is = by_file (arrays_reading (names_in tree) arrays) refl
   by_file : (file : Result Contents InputError) → arrays_reading (names_in tree) arrays ≡ file → come.given tree file ≡ Ok work → Opened tree arrays work
   by_file (Ok contents) given is = by_sizes contents (binding tree contents.sizes) given refl is
   by_file (Err error) given is = refused_is_none _ work is
+
+abbrev work_at : GraphTree → Memory → Work
+work_at tree memory = record { tree = tree; memory = memory }
+
+abbrev work_with : GraphTree → Contents → Work
+work_with tree contents = work_at (with_sizes tree contents.sizes) (opening_memory (with_sizes tree contents.sizes) (elements_in contents.arrays))
+
+abbrev entries_ok : Contents → Result Contents InputError
+entries_ok contents = Ok contents
+
+-- ---- entries
+
+-- what a file's entries give, where no case refuses them
+entries_give : (names : Names) (entries : Members) (contents : Contents) → entries_reading names (Some entries) ≡ Ok contents → contents_in names entries ≡ contents
+entries_give names entries contents is = by_refusal (refusal_of names entries) is where
+  by_refusal : (refusal : Option InputError) → option_map_or Err refusal (Ok (contents_in names entries)) ≡ Ok contents → contents_in names entries ≡ contents
+  by_refusal None is = same_value (entries_ok (contents_in names entries)) contents is
+  by_refusal (Some error) is = refused_is_none error contents is
+
+-- what fits comes to the graph with its sizes and the memory with its arrays
+pub prepared_is : (tree : GraphTree) (arrays : List ℕ) (entries : Members) (work : Work) → entries_of arrays ≡ Some entries → prepared tree arrays ≡ Ok work → work_of tree entries ≡ work
+prepared_is tree arrays entries work has is =
+    let opened = opens tree arrays work is in
+    let contents : Contents = opened.contents in
+    let gives : contents_in (names_in tree) entries ≡ contents = entries_give (names_in tree) entries contents (sym (ap (entries_reading (names_in tree)) has) ∙ opened.given) in
+    let sized : with_sizes tree contents.sizes ≡ work.tree = bound_is tree work.tree contents.sizes opened.bound in
+    ap (work_with tree) gives
+    ∙ ap (λ (tree : GraphTree). work_at tree (opening_memory tree (elements_in contents.arrays))) sized
+    ∙ ap (work_at work.tree) opened.memory
