@@ -8,3 +8,13 @@ pub mod Numbering
 pub mod Performing
 pub mod Merging
 pub mod examples
+pub mod Turned
+pub mod Undoing
+pub mod Sounds
+pub mod Within
+pub mod Committed
+pub mod Merged
+pub mod Prepared
+pub mod PlacingLemmas
+pub mod Fresh
+pub mod Asking

@@ -20,16 +20,17 @@ use Rattle.sd_pieces.proofs.cut_lemmas.Merging.{effects_on, element-after, at-no
 use Rattle.sd_mem.specs.mem.Shaped.{Shaped, alone, contents_at, width_at, element}
 use Rattle.sd_cut.specs.declared.elements.CutElement.{CutElement}
 use Rattle.sd_cut.specs.declared.elements.ElementMark.{ElementMark}
-use Rattle.sd_cut.specs.declared.elements.ElementMark.TheVariants.{Untouched, Kept, Gathered}
+use Rattle.sd_cut.specs.declared.elements.ElementMark.TheVariants.{Untouched, Kept, Replaced, Gathered}
 use Rattle.sd_cut.specs.Elements.{IfKept, IsAsCut, AreAsCut, AreAllAsCut, effect_of, effects_from, all_effects, all_changed, cut_at, AreNumbered, mark_of, mark_if, marking_of, AreFound}
 use Rattle.sd_cut.proofs.Performing.{alone-changed}
 
 -- ---- one effect
 
 -- what an effect makes of its own element
-abbrev marked_by : Width → ElementMark → (left old : ℤ) → ℤ
+abbrev pub marked_by : Width → ElementMark → (left old : ℤ) → ℤ
 marked_by w Untouched left old = old
 marked_by w Kept left old = wrapped_to w left
+marked_by w Replaced left old = wrapped_to w left
 marked_by w (Gathered by) left old = stored w (Some by) old left
 
 at-two : (d c p e : ℕ) (f : ℤ → ℤ) (x : ℤ) → (d ≡ c → p ≡ e → ⊥) → at d c (at p e f) x ≡ x
@@ -42,6 +43,7 @@ at-two d c p e f x n = on (same_or_two d c)
 effect-other : (w : Width) (c e d p : ℕ) (mark : ElementMark) (left x : ℤ) → (d ≡ c → p ≡ e → ⊥) → effect_on w 0 c e (effect_of mark (element d p) left) x ≡ x
 effect-other w c e d p Untouched left x n = refl
 effect-other w c e d p Kept left x n = at-two d c p e (written w None left) x n
+effect-other w c e d p Replaced left x n = at-two d c p e (written w None left) x n
 effect-other w c e d p (Gathered by) left x n = at-two d c p e (written w (Some by) left) x n
 
 at-both : (c e p : ℕ) (f : ℤ → ℤ) (x : ℤ) → p ≡ e → at c c (at p e f) x ≡ f x
@@ -50,6 +52,7 @@ at-both c e p f x q = at-same c c refl (at p e f) x ∙ at-same p e q f x
 effect-own : (w : Width) (c e p : ℕ) (mark : ElementMark) (left x : ℤ) → p ≡ e → effect_on w 0 c e (effect_of mark (element c p) left) x ≡ marked_by w mark left x
 effect-own w c e p Untouched left x q = refl
 effect-own w c e p Kept left x q = at-both c e p (written w None left) x q
+effect-own w c e p Replaced left x q = at-both c e p (written w None left) x q
 effect-own w c e p (Gathered by) left x q = at-both c e p (written w (Some by) left) x q
 
 -- ---- the effects of an array
@@ -73,7 +76,7 @@ abbrev or_this : {A : Type 0} → A → Option A → A
 or_this d None = d
 or_this d (Some x) = x
 
-same-some : {A : Type 0} (x y : A) → Some x ≡ Some y → x ≡ y
+pub same-some : {A : Type 0} (x y : A) → Some x ≡ Some y → x ≡ y
 same-some x y e = ap (or_this x) e
 
 one-here : (w : Width) (c e n : ℕ) (left : Shaped) (cuts : List CutElement) (k : ℕ) (cut : CutElement) (x : ℤ) → slice_get cuts k ≡ Some cut → cut.place ≡ e →
@@ -95,7 +98,7 @@ one-here w c e n left (first ∷ cuts) (suc k) cut x is place one =
 
 -- ---- the effects of all arrays
 
-effects-append : (w : Width) (c e : ℕ) (xs ys : List Change) (x : ℤ) → effects_on w 0 c e (xs ++ ys) x ≡ effects_on w 0 c e ys (effects_on w 0 c e xs x)
+pub effects-append : (w : Width) (c e : ℕ) (xs ys : List Change) (x : ℤ) → effects_on w 0 c e (xs ++ ys) x ≡ effects_on w 0 c e ys (effects_on w 0 c e xs x)
 effects-append w c e [] ys x = refl
 effects-append w c e (change ∷ xs) ys x = effects-append w c e xs ys (effect_on w 0 c e change x)
 
@@ -121,7 +124,7 @@ own-array w c e d (suc m) left (cuts ∷ arrays) x h =
 -- ---- one element of the memory
 
 -- an element by its container's contents
-element-at : (memory : Shaped) (c e : ℕ) → element_found (outermost c e) (alone memory) ≡ slice_get (elements_of (contents_at memory c)) e
+pub element-at : (memory : Shaped) (c e : ℕ) → element_found (outermost c e) (alone memory) ≡ slice_get (elements_of (contents_at memory c)) e
 element-at memory c e = on (contents_found 0 c (alone memory)) ∙ ap (λ (k : Contents). slice_get (elements_of k) e) (sym (contents-found 0 c (alone memory)))
   where
     on : (o : Option Contents) → option_and_then (λ (k : Contents). slice_get (elements_of k) e) o ≡ slice_get (elements_of (or_default (stream W64 []) o)) e
@@ -142,7 +145,7 @@ after-effects left memory arrays c e =
 -- ---- by its number
 
 -- how an element is marked, and what it is behind all effects: it was not cut, or stands so among the elements that were
-abbrev Stands : (naming : Naming) → (arrays : List (List CutElement)) → (left memory : Shaped) → (c e : ℕ) → Type 0
+abbrev pub Stands : (naming : Naming) → (arrays : List (List CutElement)) → (left memory : Shaped) → (c e : ℕ) → Type 0
 Stands naming arrays left memory c e =
     (((marking_of naming arrays).element c e ≡ untouched) × (element_found (outermost c e) (alone (all_changed (all_effects 0 left arrays) memory)) ≡ element_found (outermost c e) (alone memory)))
     ⊎ ((k : ℕ) × (cut : CutElement) × (naming c e ≡ Some k) × (cut_at arrays c k ≡ Some cut) × (cut.place ≡ e) × ((marking_of naming arrays).element c e ≡ mark_of cut.mark)
@@ -159,7 +162,7 @@ not-cut naming arrays left memory c e never =
     ∙ sym (unchanged (effects_on (width_at memory c) 0 c e (effects_from c 0 left (slice_index_or arrays c [])))
     (λ x. none-here (width_at memory c) c e c 0 left (slice_index_or arrays c []) x (λ k cut q p r. never k cut q r)) (element_found (outermost c e) (alone memory)))
 
-stands : (naming : Naming) (arrays : List (List CutElement)) (left memory : Shaped) → AreNumbered naming arrays → IsOneToOne naming → (c e : ℕ) → Stands naming arrays left memory c e
+pub stands : (naming : Naming) (arrays : List (List CutElement)) (left memory : Shaped) → AreNumbered naming arrays → IsOneToOne naming → (c e : ℕ) → Stands naming arrays left memory c e
 stands naming arrays left memory numbered one c e = by_number (naming c e) refl
   where
     by_cut : (k : ℕ) → naming c e ≡ Some k → (o : Option CutElement) → cut_at arrays c k ≡ o → Stands naming arrays left memory c e
@@ -196,39 +199,42 @@ stands naming arrays left memory numbered one c e = by_number (naming c e) refl
 
 -- ---- marks
 
-abbrev IsUntouched : Mark → Type 0
+abbrev pub IsUntouched : Mark → Type 0
 IsUntouched untouched = Unit
 IsUntouched kept = ⊥
 IsUntouched (gathered by) = ⊥
 
-abbrev IsKept : Mark → Type 0
+abbrev pub IsKept : Mark → Type 0
 IsKept untouched = ⊥
 IsKept kept = Unit
 IsKept (gathered by) = ⊥
 
-abbrev IsGathered : Resolution → Mark → Type 0
+abbrev pub IsGathered : Resolution → Mark → Type 0
 IsGathered by untouched = ⊥
 IsGathered by kept = ⊥
 IsGathered by (gathered other) = other ≡ by
 
-untouched-stays : (w : Width) (mark : ElementMark) (left : ℤ) → mark_of mark ≡ untouched → (x : ℤ) → marked_by w mark left x ≡ x
+pub untouched-stays : (w : Width) (mark : ElementMark) (left : ℤ) → mark_of mark ≡ untouched → (x : ℤ) → marked_by w mark left x ≡ x
 untouched-stays w Untouched left m x = refl
 untouched-stays w Kept left m x = elim (subst IsUntouched (sym m) tt) [ ]
+untouched-stays w Replaced left m x = elim (subst IsUntouched (sym m) tt) [ ]
 untouched-stays w (Gathered by) left m x = elim (subst IsUntouched (sym m) tt) [ ]
 
-kept-replaces : (w : Width) (mark : ElementMark) (left : ℤ) → mark_of mark ≡ kept → (x : ℤ) → marked_by w mark left x ≡ wrapped_to w left
+pub kept-replaces : (w : Width) (mark : ElementMark) (left : ℤ) → mark_of mark ≡ kept → (x : ℤ) → marked_by w mark left x ≡ wrapped_to w left
 kept-replaces w Untouched left m x = elim (subst IsKept (sym m) tt) [ ]
 kept-replaces w Kept left m x = refl
+kept-replaces w Replaced left m x = refl
 kept-replaces w (Gathered by) left m x = elim (subst IsKept (sym m) tt) [ ]
 
-gathered-stores : (w : Width) (mark : ElementMark) (left : ℤ) (by : Resolution) → mark_of mark ≡ gathered by → (x : ℤ) → marked_by w mark left x ≡ stored w (Some by) x left
+pub gathered-stores : (w : Width) (mark : ElementMark) (left : ℤ) (by : Resolution) → mark_of mark ≡ gathered by → (x : ℤ) → marked_by w mark left x ≡ stored w (Some by) x left
 gathered-stores w Untouched left by m x = elim (subst (IsGathered by) (sym m) refl) [ ]
 gathered-stores w Kept left by m x = elim (subst (IsGathered by) (sym m) refl) [ ]
+gathered-stores w Replaced left by m x = elim (subst (IsGathered by) (sym m) refl) [ ]
 gathered-stores w (Gathered other) left by m x = let same : other ≡ by = subst (IsGathered by) (sym m) refl in ap (λ r. stored w (Some r) x left) same
 
 -- ---- what is merged
 
-found-there : (memory : Shaped) (c e : ℕ) → e < length (elements_of (contents_at memory c)) → element_found (outermost c e) (alone memory) ≡ Some (look (element c e) (alone memory))
+pub found-there : (memory : Shaped) (c e : ℕ) → e < length (elements_of (contents_at memory c)) → element_found (outermost c e) (alone memory) ≡ Some (look (element c e) (alone memory))
 found-there memory c e less = element-at memory c e ∙ slice_get-get_or (elements_of (contents_at memory c)) e (pos 0) less
 
 -- a change that is no push and no take leaves streams
@@ -239,6 +245,7 @@ effects-spare w c d n left (cut ∷ cuts) rest h xs = ap (stream_effects w 0 c (
     on : (mark : ElementMark) → stream_effect w 0 c (effect_of mark (element d cut.place) (look (element d n) (alone left))) xs ≡ xs
     on Untouched = refl
     on Kept = at-nothing d c xs
+    on Replaced = at-nothing d c xs
     on (Gathered by) = at-nothing d c xs
 
 all-spare : (w : Width) (c d : ℕ) (left : Shaped) (arrays : List (List CutElement)) (xs : List ℤ) → stream_effects w 0 c (all_effects d left arrays) xs ≡ xs
@@ -250,7 +257,7 @@ IsUnused unused = Unit
 IsUnused drained = ⊥
 IsUnused appended = ⊥
 
-streams-stay : (left memory : Shaped) (arrays : List (List CutElement)) (c : ℕ) → stream_found 0 c (alone (all_changed (all_effects 0 left arrays) memory)) ≡ stream_found 0 c (alone memory)
+pub streams-stay : (left memory : Shaped) (arrays : List (List CutElement)) (c : ℕ) → stream_found 0 c (alone (all_changed (all_effects 0 left arrays) memory)) ≡ stream_found 0 c (alone memory)
 streams-stay left memory arrays c =
     ap (stream_found 0 c) (alone-changed (all_effects 0 left arrays) memory)
     ∙ stream-after 0 c (all_effects 0 left arrays) (alone memory)
@@ -325,26 +332,16 @@ all-kept memory d m [] c k cut h all is = cc
 all-kept memory d zero (cuts ∷ arrays) c k cut h all is = let here : d ≡ c = omega (arith, h) in subst (λ d. IsAsCut (elements_of (contents_at memory d)) cut) here (cut-kept (elements_of (contents_at memory d)) cuts k cut all.0 is)
 all-kept memory d (suc m) (cuts ∷ arrays) c k cut h all is = all-kept memory (suc d) m arrays c k cut (omega (arith, h)) all.1 is
 
-as-kept : (mark : ElementMark) (A : Type 0) → mark_of mark ≡ kept → IfKept mark A → A
-as-kept Untouched A m h = elim (subst IsKept (sym m) tt) [ ]
-as-kept Kept A m h = h
-as-kept (Gathered by) A m h = elim (subst IsKept (sym m) tt) [ ]
+as-kept : (mark : ElementMark) (A : Type 0) → mark ≡ Kept → IfKept mark A → A
+as-kept mark A m h = subst (λ mark. IfKept mark A) m h
 
 -- a kept element, as it is found
-kept-is : (naming : Naming) (arrays : List (List CutElement)) (memory : Shaped) → AreNumbered naming arrays → IsOneToOne naming → AreAllAsCut memory 0 arrays → (c e : ℕ) → (k : ℕ) (cut : CutElement) → cut_at arrays c k ≡ Some cut → cut.place ≡ e → mark_of cut.mark ≡ kept →
-    element_found (outermost c e) (alone memory) ≡ Some cut.opening
-kept-is naming arrays memory numbered one all c e k cut is place m =
+pub kept-is : (arrays : List (List CutElement)) (memory : Shaped) → AreAllAsCut memory 0 arrays → (c k : ℕ) (cut : CutElement) → cut_at arrays c k ≡ Some cut → cut.mark ≡ Kept →
+    element_found (outermost c cut.place) (alone memory) ≡ Some cut.opening
+kept-is arrays memory all c k cut is m =
     let here : 0 + c ≡ c = omega arith in
-    element-at memory c e
-    ∙ ap (slice_get (elements_of (contents_at memory c))) (sym place)
-    ∙ as-kept cut.mark (slice_get (elements_of (contents_at memory c)) cut.place ≡ Some cut.opening) m (all-kept memory 0 c arrays c k cut here all is)
+    element-at memory c cut.place ∙ as-kept cut.mark (slice_get (elements_of (contents_at memory c)) cut.place ≡ Some cut.opening) m (all-kept memory 0 c arrays c k cut here all is)
 
-pub kept-agree : (naming : Naming) (arrays : List (List CutElement)) (memory other : Shaped) → AreNumbered naming arrays → IsOneToOne naming → AreAllAsCut memory 0 arrays → AreAllAsCut other 0 arrays →
-    ((c : ℕ) → width_at memory c ≡ width_at other c) → (c e : ℕ) → (marking_of naming arrays).element c e ≡ kept → AgreeAt (reads_element (outermost c e)) (alone memory) (alone other)
-kept-agree naming arrays memory other numbered one all others widths c e m = (on (stands naming arrays memory memory numbered one c e), widths c)
-  where
-    on : Stands naming arrays memory memory c e → element_found (outermost c e) (alone memory) ≡ element_found (outermost c e) (alone other)
-    on (inl h) = elim (subst IsUntouched (sym h.0 ∙ m) tt) [ ]
-    on (inr h) =
-        kept-is naming arrays memory numbered one all c e h.0 h.1 h.3 h.4 (sym h.5 ∙ m)
-        ∙ sym (kept-is naming arrays other numbered one others c e h.0 h.1 h.3 h.4 (sym h.5 ∙ m))
+pub kept-agree : (arrays : List (List CutElement)) (memory other : Shaped) → AreAllAsCut memory 0 arrays → AreAllAsCut other 0 arrays → ((c : ℕ) → width_at memory c ≡ width_at other c) →
+    (c k : ℕ) (cut : CutElement) → cut_at arrays c k ≡ Some cut → cut.mark ≡ Kept → AgreeAt (reads_element (outermost c cut.place)) (alone memory) (alone other)
+kept-agree arrays memory other all others widths c k cut is m = (kept-is arrays memory all c k cut is m ∙ sym (kept-is arrays other others c k cut is m), widths c)

@@ -1,2 +1,3 @@
 pub mod CellExamples
 pub mod OverlayExamples
+pub mod StreamExamples

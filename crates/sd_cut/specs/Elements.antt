@@ -9,7 +9,7 @@ use Rattle.sd_mem.specs.mem.Shaped.{Shaped, alone, changed, contents_at, shape_a
 use Rattle.sd_windows.specs.Windows.{Window}
 use Rattle.sd_cut.specs.declared.elements.CutElement.{CutElement}
 use Rattle.sd_cut.specs.declared.elements.ElementMark.{ElementMark}
-use Rattle.sd_cut.specs.declared.elements.ElementMark.TheVariants.{Untouched, Kept, Gathered}
+use Rattle.sd_cut.specs.declared.elements.ElementMark.TheVariants.{Untouched, Kept, Replaced, Gathered}
 use Rattle.sd_cut.specs.Cells.{subset_within, value_at}
 
 -- ---- what is cut
@@ -46,6 +46,7 @@ IsEven (Some window) = length window.shift ≡ length window.extents
 abbrev pub IfKept : ElementMark → Type 0 → Type 0
 IfKept Untouched asked = ⊤
 IfKept Kept asked = asked
+IfKept Replaced asked = ⊤
 IfKept (Gathered by) asked = ⊤
 
 -- a kept element is among an array's elements as it was
@@ -64,10 +65,11 @@ AreAllAsCut memory container (cuts ∷ arrays) = AreAsCut (elements_of (contents
 
 -- ---- what comes of what is left
 
--- what is left of a kept element replaces it, of a gathered one is resolved with it
+-- what is left of a kept or replaced element replaces it, of a gathered one is resolved with it
 abbrev pub effect_of : ElementMark → Reference → (left : ℤ) → Change
 effect_of Untouched to left = nothing
 effect_of Kept to left = write to None left
+effect_of Replaced to left = write to None left
 effect_of (Gathered by) to left = write to (Some by) left
 
 -- the effects of an array's elements, in order; what is left of them is in a memory of the cut, by their numbers from this one on
@@ -103,6 +105,7 @@ AreNumbered naming arrays = (container number : ℕ) (cut : CutElement) → cut_
 abbrev pub mark_of : ElementMark → Mark
 mark_of Untouched = untouched
 mark_of Kept = kept
+mark_of Replaced = kept
 mark_of (Gathered by) = gathered by
 
 -- the mark of an element that was cut, if it was

@@ -2,5 +2,12 @@ pub mod Windowed
 pub mod Cells
 pub mod Marked
 pub mod Elements
+pub mod Turning
+pub mod Streams
 pub mod Overlaid
 pub mod Overlay
+pub mod Undo
+pub mod Using
+pub mod Cutting
+pub mod Fits
+pub mod Placing

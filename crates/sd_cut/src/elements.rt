@@ -1,8 +1,8 @@
 ghost use Rattle.std.specs.Prelude.{◌≡◌, ◌↔◌, ◌<◌, ◌^◌, length, IsTrue};
 ghost use Rattle.sd_work.specs.Memory.{elements_of};
 ghost use Rattle.sd_mem.specs.mem.Cells.{array_lent};
-ghost use Rattle.sd_mem.specs.mem.Shaped.{changed, contents_at, element};
-ghost use Rattle.sd_cut.specs.Elements.{IsAsCut, AreAsCut, AreAllAsCut, all_changed, effect_of, effects_from, all_effects};
+ghost use Rattle.sd_mem.specs.mem.Shaped.{contents_at};
+ghost use Rattle.sd_cut.specs.Elements.{IsAsCut, AreAsCut, AreAllAsCut};
 
 use sd_list::Sequence;
 use sd_mem::{Elements, Memory};
@@ -13,9 +13,11 @@ use sd_num::Resolution;
 pub enum ElementMark {
     /// Nothing touched it.
     Untouched,
-    /// It was read or replaced, or may have been.
+    /// It was read, or may have been. It may have been replaced.
     Kept,
-    /// Values were resolved with it, by this resolution alone.
+    /// It was replaced, and not read.
+    Replaced,
+    /// Values were resolved with it, by this resolution alone, and it was not read.
     Gathered(Resolution),
 }
 
@@ -34,7 +36,7 @@ fn is_as_cut(elements: Elements, cut: CutElement) -> bool
     ensures { IsTrue result ↔ IsAsCut (elements_of (array_lent elements.entry)) cut }
 {
     match cut.mark {
-        ElementMark::Untouched | ElementMark::Gathered(_) => true,
+        ElementMark::Untouched | ElementMark::Replaced | ElementMark::Gathered(_) => true,
         ElementMark::Kept => match elements.get(cut.place as usize) {
             Some(value) => value == cut.opening,
             None => false,
@@ -66,36 +68,4 @@ pub(crate) fn are_all_as_cut(memory: &Memory, arrays: &[Sequence<CutElement>]) -
         }
     }
     true
-}
-
-/// Performs what came of an element: what is left of a kept one replaces it, of a gathered one is resolved with it.
-fn perform(memory: &mut Memory, container: u32, cut: CutElement, left: i64)
-    ensures { memory.new ≡ changed (effect_of cut.mark (element container cut.place) left) memory.old }
-{
-    match cut.mark {
-        ElementMark::Untouched => {}
-        ElementMark::Kept => memory.set(container, cut.place, None, left),
-        ElementMark::Gathered(resolution) => {
-            memory.set(container, cut.place, Some(resolution), left);
-        }
-    }
-}
-
-/// The same for each element of an array; what is left of them is in a memory of the cut, by their numbers in order.
-fn perform_each(memory: &mut Memory, container: u32, cuts: &[CutElement], left: &Memory)
-    ensures { memory.new ≡ all_changed (effects_from container 0 left.now cuts.now) memory.old }
-{
-    for (number, cut) in cuts.iter().enumerate() {
-        perform(memory, container, *cut, left.cell(container, number as u64));
-    }
-}
-
-/// The same for each array, by the containers' numbers.
-pub(crate) fn perform_all(memory: &mut Memory, arrays: &[Sequence<CutElement>], left: &Memory)
-    requires few { length arrays.now < 2 ^ 32 }
-    ensures { memory.new ≡ all_changed (all_effects 0 left.now arrays.now) memory.old }
-{
-    for (container, cuts) in arrays.iter().enumerate() {
-        perform_each(memory, container as u32, cuts.as_slice(), left);
-    }
 }

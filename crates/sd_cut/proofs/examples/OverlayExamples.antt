@@ -7,7 +7,7 @@ use Rattle.sd_num.specs.declared.width.Width.TheVariants.{W32}
 use Rattle.sd_work.specs.Memory.{array}
 use Rattle.sd_mem.specs.mem.Shaped.{Shaped}
 use Rattle.sd_cut.specs.declared.elements.CutElement.{CutElement}
-use Rattle.sd_cut.specs.declared.elements.ElementMark.TheVariants.{Untouched, Kept, Gathered}
+use Rattle.sd_cut.specs.declared.elements.ElementMark.TheVariants.{Untouched, Kept, Replaced, Gathered}
 use Rattle.sd_cut.specs.Cells.{subset_within}
 use Rattle.sd_cut.specs.Elements.{told, told_at, AreAllAsCut, all_effects, all_changed}
 
@@ -51,3 +51,16 @@ the_kept_one_is_replaced_and_the_gathered_one_is_added :
     ≡ record { shapes = (3 ∷ 3 ∷ []) ∷ []; contents = array W32 (pos 0 ∷ pos 0 ∷ pos 0 ∷ pos 11 ∷ pos 112 ∷ pos 0 ∷ pos 70 ∷ pos 80 ∷ pos 0 ∷ []) ∷ [] }
 unfolding int_wrap
 the_kept_one_is_replaced_and_the_gathered_one_is_added = refl
+
+-- an element that was replaced has not to be as it was, and is replaced when it is committed
+abbrev replaced_cuts : List CutElement
+replaced_cuts = record { place = 4; opening = pos 5; mark = Replaced } ∷ []
+
+the_replaced_one_may_differ : AreAllAsCut later 0 (replaced_cuts ∷ [])
+the_replaced_one_may_differ = ((tt, tt), tt)
+
+the_replaced_one_is_replaced :
+    all_changed (all_effects 0 left (replaced_cuts ∷ [])) later
+    ≡ record { shapes = (3 ∷ 3 ∷ []) ∷ []; contents = array W32 (pos 0 ∷ pos 0 ∷ pos 0 ∷ pos 4 ∷ pos 11 ∷ pos 0 ∷ pos 70 ∷ pos 80 ∷ pos 0 ∷ []) ∷ [] }
+unfolding int_wrap
+the_replaced_one_is_replaced = refl
