@@ -1,5 +1,5 @@
 -- The memory that a run of a graph opens with has elements of its containers' widths.
-use Rattle.std.proofs.Common.{◌≡◌, ℕ, zero, suc, ℤ, pos, List, [], ◌∷◌, map, replicate, Option, Some, None, Bool, true, false, if◌then◌else◌, slice_get, slice_index_or, subst, arith}
+use Rattle.std.proofs.Common.{◌≡◌, ℕ, zero, suc, ℤ, pos, List, [], ◌∷◌, map, replicate, Some, Bool, true, false, if◌then◌else◌, slice_get, slice_index_or, subst, arith}
 use Rattle.std.specs.Prelude.{option_and_then}
 use Rattle.sd_range.specs.Points.{product}
 use Rattle.sd_num.specs.Width.{wrapped_to, IsElement}

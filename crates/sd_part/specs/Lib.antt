@@ -1,1 +1,11 @@
-pub mod PartEnd
+pub mod Part
+pub mod Boxes
+pub mod Hulls
+pub mod Marks
+pub mod Sides
+pub mod Outline
+pub mod Store
+pub mod Follow
+pub mod Whole
+pub mod Marking
+pub mod Cut
