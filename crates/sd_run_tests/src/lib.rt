@@ -1,9 +1,11 @@
 //! Tests of what runs stand on, where no command shows it: the size of an instruction, flat code that reads an array, the
-//! memories of a run, maps whose points are ordered, and containers of 32 bits. They are in a crate of their own so that the crates of runs are proved without them.
+//! memories of a run, maps whose points are ordered, containers of 32 bits, transitions one by one, and that fast ways are taken. They are in a crate of their own so that the crates of runs are proved without them.
 #![tactic(auto)]
 
 #[cfg(test)]
 mod building;
+#[cfg(test)]
+mod fast_ways;
 #[cfg(test)]
 mod flat_code;
 #[cfg(test)]
@@ -13,6 +15,10 @@ mod machines;
 #[cfg(test)]
 mod neighbours;
 #[cfg(test)]
+mod sources;
+#[cfg(test)]
 mod sure;
+#[cfg(test)]
+mod transitions;
 #[cfg(test)]
 mod widths;
