@@ -17,3 +17,4 @@ pub mod SomeMarked
 pub mod Frames
 pub mod Quiet
 pub mod CutStore
+pub mod JustCut

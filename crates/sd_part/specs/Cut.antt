@@ -1,17 +1,23 @@
 -- What was cut of a memory as a store: what it was cut of, what it stands for, and when boxes may be lent of it.
-use Rattle.std.specs.Prelude.{◌≡◌, ℕ, List, [], map, Some}
+use Rattle.std.specs.Prelude.{◌≡◌, ◌<◌, ℕ, List, [], map, length, Some, None, false, slice_index_or}
+use Rattle.std.specs.List.{All, Contains}
 use Rattle.sd_num.specs.Width.{wrapped_to}
+use Rattle.sd_pieces.specs.course.Shape.{stack_shape}
 use Rattle.sd_pieces.specs.cut.Merged.{AreElementsOfWidth}
-use Rattle.sd_graph.specs.ContainerParts.{Containers}
-use Rattle.sd_mem.specs.mem.Shaped.{Shaped, alone, width_at}
+use Rattle.sd_graph.specs.ContainerParts.{Containers, container_at, extents_of}
+use Rattle.sd_mem.specs.mem.Shaped.{Shaped, alone, shape_at, width_at, HasStream, IsHere}
+use Rattle.sd_windows.specs.Windows as windows
 use Rattle.sd_cut.specs.declared.streams.CutStream.{CutStream}
 use Rattle.sd_cut.specs.declared.streams.StreamUse.TheVariants.{Unused}
-use Rattle.sd_cut.specs.Windowed.{numbers_in}
+use Rattle.sd_cut.specs.Windowed.{numbers_in, window_at}
+use Rattle.sd_cut.specs.Elements.{AreOfWindows, IsUntouched}
+use Rattle.sd_cut.specs.Cutting.{all_begun, is_wanted, IsCutOf}
 use Rattle.sd_cut.specs.Using.{stream_at, pushed_to, committed, Agrees}
 use Rattle.sd_cut.specs.Fits.{Fits, IsWhole, IsReady, AreValuesOfWidth}
 use Rattle.sd_cut.specs.Overlaid.{Overlaid}
 use Rattle.sd_part.specs.Boxes.{NumberBox}
-use Rattle.sd_part.specs.Hulls.{AreEven, AreWindowsFor}
+use Rattle.sd_part.specs.Hulls.{is_of_elements, has_elements, AreEven, AreWindowsFor}
+use Rattle.sd_part.specs.Marks.{streams_of}
 use Rattle.sd_part.specs.Marking.{AreStreamsCut, IsFresh}
 
 -- a cut was made of a memory such as this one, which has these containers: what was cut is there, and all is of its width
@@ -48,3 +54,30 @@ pub record IsCutFor (boxes : List NumberBox) (cut : Overlaid) : Type 0 where
   pub unused : (container : ℕ) (stream : CutStream) → stream_at cut container ≡ Some stream → IsUnused cut container stream
   pub elements : AreElementsOfWidth (alone cut.left)
   pub values : AreValuesOfWidth (alone cut.left)
+
+-- ---- what is just cut
+
+-- a cut was just made of a memory for boxes, as `Overlay::cut` tells it of their windows and streams
+pub record IsJustCut (boxes : List NumberBox) (memory : Shaped) (cut : Overlaid) : Type 0 where
+  pub windows : AreWindowsFor boxes cut.windows
+  pub untouched : (container : ℕ) → All IsUntouched (slice_index_or cut.arrays container [])
+  pub arrays : AreOfWindows memory (window_at cut.windows) cut.arrays
+  pub count : length cut.streams ≡ length cut.windows
+  pub streams : (container : ℕ) → container < length cut.windows
+      → IsCutOf memory container (is_wanted (slice_index_or cut.windows container None) (streams_of boxes) container) (slice_index_or cut.streams container None)
+  pub left : cut.left ≡ all_begun memory 0 cut.windows cut.arrays cut.streams (record { shapes = []; contents = [] })
+
+-- the boxes that are of streams are of streams of a memory, and no box touches elements of these
+abbrev pub AreOfStreams : List NumberBox → Shaped → Overlaid → Type 0
+AreOfStreams boxes memory cut =
+    (box : NumberBox) → Contains boxes box → is_of_elements box.mode ≡ false
+    → (box.container < length cut.windows) × HasStream memory box.container × (has_elements boxes box.container ≡ false)
+
+-- a memory has the shape of another one: the same extents and widths, and as many elements in each array
+abbrev pub HasShapeOf : Shaped → Shaped → Type 0
+HasShapeOf memory other = (memory.shapes ≡ other.shapes) × (stack_shape (alone memory) ≡ stack_shape (alone other))
+
+-- the containers with windows are arrays of a memory, with the extents that they have in the graph
+abbrev pub AreArraysOf : Containers → Shaped → Overlaid → Type 0
+AreArraysOf containers memory cut =
+    (container : ℕ) (window : windows.Window) → window_at cut.windows container ≡ Some window → (shape_at memory container ≡ extents_of (container_at containers container)) × IsHere memory container

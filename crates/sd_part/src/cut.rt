@@ -9,6 +9,8 @@ use std::alloc::Global;
 
 impl Store for Overlay {
     ghost use Rattle.sd_cut.specs.Fits.{marking_in, with_left};
+    ghost use Rattle.std.specs.Prelude.{◌≡◌};
+    ghost use Rattle.sd_part.specs.Marking.{with_boxes};
     ghost use Rattle.sd_part.specs.Cut.{IsCutFor, IsMadeFor, MayBeLent, StandsFor};
 
     ghost stands = { λ cut over now. StandsFor cut over now };
@@ -24,6 +26,10 @@ impl Store for Overlay {
     ghost marking = { λ cut naming. marking_in naming cut };
 
     ghost holds = { λ cut boxes. IsCutFor boxes cut };
+
+    ghost lends = { λ cut boxes lent then. with_left lent then ≡ with_boxes boxes cut };
+
+    ghost takes = { λ cut left then. then ≡ with_left left cut };
 
     fn windows(&self) -> &[Option<Window>] {
         Overlay::windows(self)

@@ -25,10 +25,11 @@ ghost use Rattle.sd_cut.specs.Marked.{AreAccessesMarked};
 ghost use Rattle.sd_part.specs.declared.outline.Outline.{Outline};
 ghost use Rattle.sd_part.specs.Outline.{IsOutline, piece_accesses};
 ghost use Rattle.sd_part.specs.Boxes.{NumberBox, number_box, intervals_at, IsInIntervals};
-ghost use Rattle.sd_part.specs.Hulls.{AreWindowsFor};
+ghost use Rattle.sd_part.specs.Hulls.{AreEven, AreWindowsFor};
+ghost use Rattle.sd_part.specs.Cut.{AreArraysOf, AreOfStreams, HasShapeOf, IsCutFor, IsJustCut, IsMadeFor};
 ghost use Rattle.sd_part.specs.Marks.{marking_by};
 ghost use Rattle.sd_part.specs.Marking.{with_boxes, AreStreamsCut, IsFresh};
-ghost use Rattle.sd_mem.specs.mem.Shaped.{Shaped};
+ghost use Rattle.sd_mem.specs.mem.Shaped.{Shaped, alone};
 
 /// A run of a graph opens with elements of its containers' widths, whatever is given, and what work leaves behind are such elements again.
 pub fn elements_are_of_their_widths()
@@ -86,4 +87,14 @@ pub fn a_marked_cut_is_marked_as_accesses_ask()
     ensures fresh { (memory : Shaped) (windows : List (Option Window)) (cut : Overlaid)
         → ((container : ℕ) → IsEven (window_at windows container)) → ((container : ℕ) → All IsUntouched (slice_index_or cut.arrays container []))
         → AreOfWindows memory (window_at windows) cut.arrays → IsFresh windows cut }
+{}
+
+/// What was just cut of a memory, as `Overlay::cut` tells it, may be lent for the boxes of its windows and streams. It was made for each memory
+/// of the same shape.
+pub fn what_is_just_cut_may_be_lent()
+    ensures holds { (boxes : List NumberBox) (memory : Shaped) (cut : Overlaid)
+        → IsJustCut boxes memory cut → AreEven boxes → AreOfStreams boxes memory cut → AreValuesOfWidth (alone memory) → IsCutFor boxes cut }
+    ensures fits { (boxes : List NumberBox) (containers : Containers) (memory over : Shaped) (cut : Overlaid)
+        → IsJustCut boxes memory cut → HaveDimensions containers cut.windows → AreArraysOf containers memory cut → HasShapeOf over memory
+        → AreElementsOfWidth (alone over) → AreValuesOfWidth (alone over) → IsMadeFor cut containers over }
 {}

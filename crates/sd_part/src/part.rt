@@ -39,6 +39,7 @@ pub fn run_part<S: Store>(
     requires boxes { (nodes : List ℕ) × (boxes.now ≡ map (number_box (containers_of (graph_tree graph.now)) values.now) (kind_accesses (item_tree item.now).1 (containers_of (graph_tree graph.now)) nodes)) }
     requires holds { S.holds store.old boxes.now }
     ensures windows { S.windows store.new ≡ S.windows store.old }
+    ensures store { IfOk result (λ end. (lent left : Shaped) × (between : S) × S.lends store.old boxes.now lent between × S.takes between left store.new) }
     ensures end { IfOk result (λ end. (over after : Shaped) → S.fits store.old (containers_of (graph_tree graph.now)) over → S.stands store.new over after
         → (before : Shaped) × S.stands store.old over before × ((most : ℕ) → PartComesTo end turns (alone after)
         (big_step (part_term (graph_tree graph.now) (own_reach (containers_of (graph_tree graph.now))) state values.now (item_tree item.now).1 (item_tree item.now).0) most (alone before) turns))) }

@@ -40,6 +40,12 @@ pub trait Store {
     /// It has what the accesses of these boxes may touch.
     ghost holds: { Self → List plain.NumberBox → Type 0 };
 
+    /// For these boxes it lends this memory, and is that store then.
+    ghost lends: { Self → List plain.NumberBox → (lent : Shaped) → Self → Type 0 };
+
+    /// It takes this memory back, and is that store then.
+    ghost takes: { Self → (left : Shaped) → Self → Type 0 };
+
     /// The windows of the containers; one without a window is reached as it is.
     fn windows(&self) -> &[Option<Window>]
         ensures { result.now ≡ windows self.now };
@@ -49,6 +55,7 @@ pub trait Store {
     fn lend(&mut self, alloc: Global, boxes: &[NumberBox]) -> Result<Memory, NoMemory>
         requires holds { holds self.old boxes.now }
         ensures windows { windows self.new ≡ windows self.old }
+        ensures lends { IfOk result (λ lent. lends self.old boxes.now lent self.new) }
         ensures fits { IfOk result (λ lent. (containers : Containers) (over : Shaped) → fits self.old containers over → fits_with self.new containers lent over) }
         ensures marked { IfOk result (λ lent. (containers : Containers) → AreMarkedFor boxes.now containers (windows self.new) (marking self.new (numbers_in containers (windows self.new)))) }
         ensures stands { IfOk result (λ lent. (containers : Containers) (over now : Shaped) → fits self.old containers over → stands_with self.new lent over now
@@ -57,6 +64,7 @@ pub trait Store {
 
     /// Takes back what work left of what was lent.
     fn take_back(&mut self, left: Memory)
+        ensures takes { takes self.old left self.new }
         ensures windows { windows self.new ≡ windows self.old }
         ensures stands { (containers : Containers) (lent over after : Shaped) → fits_with self.old containers lent over → stands self.new over after
             → (now : Shaped) × stands_with self.old lent over now

@@ -25,6 +25,10 @@ impl Store for Memory {
 
     ghost holds = { λ memory boxes. IsOfWidths memory };
 
+    ghost lends = { λ memory boxes lent then. (lent ≡ memory) × (then.shapes ≡ memory.shapes) };
+
+    ghost takes = { λ memory left then. MayAllHave memory.shapes left.contents → then ≡ with_contents left.contents memory };
+
     fn windows(&self) -> &[Option<Window>] {
         &[]
     }
