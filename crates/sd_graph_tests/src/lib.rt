@@ -13,6 +13,8 @@ mod loops;
 #[cfg(test)]
 mod memories;
 #[cfg(test)]
+mod sure;
+#[cfg(test)]
 mod validity;
 #[cfg(test)]
 mod written;
