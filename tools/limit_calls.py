@@ -1,6 +1,6 @@
 """What a call of run_limits.py is, the cases by their names, and how their sources, files and answers are written.
 
-A case is a function that yields its calls (limit_cases.py, limit_sources.py). Nothing asks the program: sums, products and differences
+A case is a function that yields its calls (limit_cases.py, limit_sources.py, limit_shapes.py). Nothing asks the program: sums, products and differences
 are those of Python taken modulo 2^64, and orders of moves are kept as lists.
 """
 from __future__ import annotations
@@ -17,7 +17,7 @@ TURNS = ["--turns", str(2**40)]
 
 @dataclass
 class Call:
-    """A call, and what is wanted of it; with a limit on seconds and on MiB of addresses, or without."""
+    """A call, and what is wanted of it; with a limit on seconds, on MiB of addresses and on seconds of a processor, or without."""
 
     place: str
     words: list[str]
@@ -26,6 +26,7 @@ class Call:
     status: int = 0
     seconds: int = 0
     megabytes: int = 0
+    processor: int = 0
 
 
 Calls = Iterator[Call]

@@ -466,13 +466,35 @@ def a_copy_far_outside() -> Calls:
     yield small("a copy of 2^40 elements", [f"B[0:{END}] = A[0:{END}]"], FOUR, 7, b"fault subscript at line 3\n")
 
 
-@far
+@case
 def points_that_never_begin() -> Calls:
-    source = program(["for i in dace.map[0:1000000000]:", "    B[0] += 1"], "B: dace.int64[1]")
-    words = ["step", "a.py", "a.json", "picks"]
-    found = files(source, {"B": [0]}, b"")
-    yield Call("a billion points by picks, with 1,000 turns", [*words, "--turns", "1000"], found, b"turns spent 1000\n", 8, 20, 512)
+    """Maps of tasklets by picks whose points are far more than memory holds, and whose turns are spent long before the end."""
+    words = ["step", "a.py", "a.json", "picks", "--turns", "1000"]
+    draw = random.Random(7)
+    picks = [draw.randrange(2**64) for _ in range(3000)]
+    one = ["for i in dace.map[0:1000000000]:", "    B[0] += 1"]
+    two = ["for i, j in dace.map[0:40000, 0:40000]:", "    B[0] += i", "    C[0] += j"]
+    for place, body in (("a billion points", one), ("1.6 billion points of two statements", two)):
+        source = program(body, "B: dace.int64[1], C: dace.int64[1]")
+        for how, given in (("in their order", b""), ("by picks", picks)):
+            found = files(source, {"B": [0], "C": [0]}, given)
+            yield Call(f"{place} {how}, with 1,000 turns", words, found, b"turns spent 1000\n", 8, 20, 512)
+
+
+@case
+def private_arrays_that_are_not_made() -> Calls:
+    """Points by picks whose private arrays are more than memory holds: the turns are spent before a second one begins."""
     body = ["for i in dace.map[0:N]:", "    T = dace.define_local([1048576], dtype=dace.int64)", "    T[i] = A[i] + 1", "    B[i] = T[i]"]
     source = program(body, "A: dace.int64[N], B: dace.int64[N]", "N")
     found = files(source, {"N": 400, "A": [1] * 400, "B": [0] * 400}, b"")
+    words = ["step", "a.py", "a.json", "picks", "--turns", "3"]
+    yield Call("400 points with private arrays of 2^20, with 3 turns", words, found, b"turns spent 3\n", 8, 20, 512)
+
+
+@far
+def private_arrays_that_are_kept() -> Calls:
+    body = ["for i in dace.map[0:N]:", "    T = dace.define_local([1048576], dtype=dace.int64)", "    T[i] = A[i] + 1", "    B[i] = T[i]"]
+    source = program(body, "A: dace.int64[N], B: dace.int64[N]", "N")
+    found = files(source, {"N": 400, "A": [1] * 400, "B": [0] * 400}, b"")
+    words = ["step", "a.py", "a.json", "picks"]
     yield Call("400 points with private arrays of 2^20", words, found, printed(A=[1] * 400, B=[2] * 400), 0, 60, 512)

@@ -1,16 +1,15 @@
 #!/usr/bin/env python3
 """Runs calls at the limits of the language and of its files, and compares what is written with what Python works out.
 
-limit_cases.py and limit_sources.py have the calls.
+limit_cases.py, limit_sources.py and limit_shapes.py have the calls.
 
 Each call runs in a new folder, with no input, within 120 seconds. Its status and its output are compared byte for byte, and how the
 output is written: each line is one write, and one of more than 4,096 bytes goes in pieces of 4,096. Where the system has no pipes that
 keep writes apart, a line says so, and bytes alone are compared. Standard error must be empty. Each call that differs has a line, and
 the last line is 'N passed, M failed'. The status is 0 where there are calls and none failed.
 
-With --far it runs cases with far more points than any memory holds too, each with little time and memory: the program does not answer
-these as it should yet. With --times each call has a line with its seconds. A word more picks the calls in whose
-place it stands.
+With --far it runs a case too that wants more memory than it has: the program does not answer it as it should yet, since finished points
+keep their private arrays. With --times each call has a line with its seconds. A word more picks the calls in whose place it stands.
 """
 from __future__ import annotations
 
@@ -25,6 +24,7 @@ from pathlib import Path
 from threading import Timer
 
 import limit_cases  # noqa: F401
+import limit_shapes  # noqa: F401
 import limit_sources  # noqa: F401
 from limit_calls import CASES, FAR, Call
 
@@ -35,8 +35,9 @@ NOT_BUILT = 70
 SECONDS = 120
 PIECE = 4096
 SHOWN = 80
-# Starts a program with at most so many KiB of addresses.
-WITHIN = 'ulimit -v "$1" && shift && exec "$@"'
+# Starts a program with at most so many KiB of addresses and so many seconds of a processor.
+WITHIN = 'ulimit -v "$1" && ulimit -t "$2" && shift 2 && exec "$@"'
+NO_LIMIT = "unlimited"
 
 
 def has_packets() -> bool:
@@ -76,8 +77,9 @@ def difference(call: Call, program: Path = PROGRAM) -> str:
             file.parent.mkdir(parents=True, exist_ok=True)
             file.write_bytes(content)
         words = [str(program), *call.words]
-        if call.megabytes:
-            words = ["/bin/sh", "-c", WITHIN, "sh", str(call.megabytes * 1024), *words]
+        if call.megabytes or call.processor:
+            limits = [str(call.megabytes * 1024 or NO_LIMIT), str(call.processor or NO_LIMIT)]
+            words = ["/bin/sh", "-c", WITHIN, "sh", *limits, *words]
         reader, writer = os.pipe2(os.O_CLOEXEC | (os.O_DIRECT if PACKETS else 0))
         how = {"cwd": folder, "stdin": subprocess.DEVNULL, "stdout": writer, "stderr": subprocess.PIPE}
         with subprocess.Popen(words, **how) as child, open(reader, "rb", buffering=0):
@@ -109,7 +111,7 @@ def told(call: Call, status: int, found: list[bytes], error: bytes) -> str:
 
 def main() -> int:
     words = argparse.ArgumentParser(description=__doc__, formatter_class=argparse.RawDescriptionHelpFormatter)
-    words.add_argument("--far", action="store_true", help="run the cases with far more points than any memory holds too")
+    words.add_argument("--far", action="store_true", help="run the case too that wants more memory than it has")
     words.add_argument("--times", action="store_true", help="show how long each call took")
     words.add_argument("words", nargs="*", metavar="WORD", help="run the calls in whose place each of these stands")
     words = words.parse_args()

@@ -56,6 +56,8 @@ class Runs(unittest.TestCase):
     def test_a_call_has_its_time_and_its_memory(self):
         self.assertIn("the status is -9", self.said("exec sleep 60", seconds=1))
         self.assertEqual(self.said('test "$(ulimit -v)" = 524288 && cat text', megabytes=512), "")
+        self.assertEqual(self.said('test "$(ulimit -v) $(ulimit -t)" = "unlimited 7" && cat text', processor=7), "")
+        self.assertIn("the status is -", self.said("while :; do :; done", processor=1))
 
 
 class Counts(unittest.TestCase):

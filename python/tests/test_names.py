@@ -370,6 +370,8 @@ class Edited(Calls):
         self.assertEqual(luthkemb.run(module.make(), A=[1]), {"A": [2]})
         self.write(self.HEAD, inner.replace("def one", "def won"))
         self.assert_told(module.make())
+        self.write(self.HEAD, inner.replace("(A:", "(B:"))
+        self.assert_told(module.make())
 
     def test_a_new_import_has_the_new_text(self) -> None:
         self.imported(self.HEAD, self.ONE)
