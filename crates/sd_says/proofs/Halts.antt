@@ -15,7 +15,7 @@ use Rattle.sd_work.specs.New.{PushesNothing}
 use Rattle.sd_work.specs.Step.{Outcome, Done, Faulted, Spent}
 use Rattle.sd_work.specs.BigStep.{Reached, Coming, reached, faulted, and_then, spending, after_move, big_doing, big_evaluated, after_read, big_reading, big_leaf, leaving, after_oldest, big_takes}
 use Rattle.sd_graph.specs.declared.place.Place.{Place}
-use Rattle.sd_says.specs.Ways.{one_by_one, if_passed, rounds}
+use Rattle.sd_says.proofs.ByLeaves.{one_by_one, if_passed, rounds}
 use Rattle.sd_says.proofs.Follows.{Follows}
 use Rattle.sd_says.proofs.Bounds.{Comes, comes-step, comes-then, comes-stop}
 

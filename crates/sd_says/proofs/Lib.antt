@@ -1,7 +1,11 @@
+pub mod ByLeaves
+pub mod SamePieces
+pub mod Same
 pub mod Follows
 pub mod Bounds
 pub mod Halts
 pub mod Total
 pub mod More
 pub mod Unique
+pub mod Outcomes
 pub mod Examples

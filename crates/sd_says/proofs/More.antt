@@ -6,7 +6,7 @@ use Rattle.sd_work.specs.Move.{Fault}
 use Rattle.sd_work.specs.Step.{Outcome, Done, Faulted, Spent}
 use Rattle.sd_work.specs.BigStep.{Reached, Coming, reached, and_then, spending, leaving, after_oldest, big_takes}
 use Rattle.sd_graph.specs.declared.place.Place.{Place}
-use Rattle.sd_says.specs.Ways.{one_by_one, if_passed, rounds}
+use Rattle.sd_says.proofs.ByLeaves.{one_by_one, if_passed, rounds}
 
 -- what comes to an end comes to the same
 abbrev pub Extends : Coming Place → Coming Place → Type 0

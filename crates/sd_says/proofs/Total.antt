@@ -26,14 +26,16 @@ use Rattle.sd_says.specs.Declared.{Declaration, declared_of, own_held, scope_mem
 use Rattle.sd_says.specs.Setting.{Setting, taken_in, held_by, frames_at, place_at, with_container, inside_showing, at_point}
 use Rattle.sd_says.specs.Parts.{Part, part_in, part_extents, part_elements, part_element}
 use Rattle.sd_says.specs.Operators.{resolution_of}
-use Rattle.sd_says.specs.Elements.{reads_of, value_of}
+use Rattle.sd_says.specs.Elements.{reads_of}
 use Rattle.sd_says.specs.Connectors.{Inlet, Outlet, elements_read, inputs_with, element_inlet, inlets_of, outlets_of}
-use Rattle.sd_says.specs.Tasklets.{task_lines, task_with}
-use Rattle.sd_says.specs.Leaves.{target_place, assignment, taking_tasklet}
+use Rattle.sd_says.specs.Tasklets.{task_lines}
+use Rattle.sd_says.specs.Pieces.{target_place}
+use Rattle.sd_says.specs.AsLeaves.{value_of, assignment, task_with, taking_tasklet}
 use Rattle.sd_says.specs.Behind.{own_of, behind, behind_one, behind_all}
-use Rattle.sd_says.specs.Items.{Calls, parts_passed, says_item, says_body}
-use Rattle.sd_says.specs.Statements.{tested, in_round, says_one, says_block}
-use Rattle.sd_says.specs.Says.{setting_of, says_function, shape_at, reach_passed, says_call, sizes_of, says_last, Says}
+use Rattle.sd_says.specs.Items.{Calls, parts_passed}
+use Rattle.sd_says.specs.Statements.{in_round}
+use Rattle.sd_says.specs.Says.{setting_of, shape_at, reach_passed, sizes_of}
+use Rattle.sd_says.proofs.ByLeaves.{tested, says_item, says_body, says_one, says_block, says_function, says_call, says_last, Says}
 use Rattle.sd_says.proofs.Follows.{Follows}
 use Rattle.sd_says.proofs.Halts.{copy-halts, reduction-halts, Halts, halts-here, halts-then, halts-leaving, instance-halts, points-halt, branch-halts, rounds-halt, takes-halt}
 

@@ -21,9 +21,10 @@ use Rattle.sd_says.specs.Declared.{Declaration, declared_of, own_held, scope_mem
 use Rattle.sd_says.specs.Setting.{Setting, held_by, frames_at, with_container, inside_showing, at_point}
 use Rattle.sd_says.specs.Parts.{Part}
 use Rattle.sd_says.specs.Behind.{own_of, behind, behind_one, behind_all}
-use Rattle.sd_says.specs.Items.{Calls, parts_passed, says_item, says_body}
-use Rattle.sd_says.specs.Statements.{tested, in_round, says_one, says_block}
-use Rattle.sd_says.specs.Says.{setting_of, says_function, shape_at, reach_passed, says_call, sizes_of, says_last, said_within, Says}
+use Rattle.sd_says.specs.Items.{Calls, parts_passed}
+use Rattle.sd_says.specs.Statements.{in_round}
+use Rattle.sd_says.specs.Says.{setting_of, shape_at, reach_passed, sizes_of}
+use Rattle.sd_says.proofs.ByLeaves.{tested, says_item, says_body, says_one, says_block, says_function, says_call, says_last, said_within, Says}
 use Rattle.sd_says.proofs.Total.{element-work, point-work}
 use Rattle.sd_says.proofs.More.{Extends, more-then, more-leaving, more-cond, more-if, more-points, more-rounds, more-takes}
 

@@ -1,6 +1,7 @@
 -- The containers that a program declares, in the order of the text, and the memories that hold them.
-use Rattle.std.specs.Prelude.{ℕ, suc, nat_eq, ℤ, List, [], ◌∷◌, ◌++◌, map, Bool, true, false, cond, if◌then◌else◌, slice_index_or}
-use Rattle.std.specs.List.{list_any}
+use Rattle.std.specs.Prelude.{ℕ, suc, nat_eq, ℤ, pos, List, [], ◌∷◌, ◌++◌, map, Bool, true, false, ◌&&◌, cond, if◌then◌else◌, slice_index_or}
+use Rattle.std.specs.List.{list_any, list_all}
+use Rattle.std.specs.Ordering.{int_eq}
 use Rattle.sd_lex.specs.PlainTree.{Expressions, StatementTree, argument_array, local_array, local_stream, map_scope, consume_scope, for_loop, while_loop, branch, Block, no_statement, and_statement, FunctionTree}
 use Rattle.sd_lex.specs.StatementKind.{has_connector}
 use Rattle.sd_num.specs.declared.width.Width.{Width}
@@ -8,12 +9,9 @@ use Rattle.sd_num.specs.declared.width.Width.TheVariants.{W64}
 use Rattle.sd_work.specs.Memory.{Memory, absent}
 use Rattle.sd_work.specs.Change.{changed_at}
 use Rattle.sd_program.specs.Names.{Name, Named}
-use Rattle.sd_task.specs.in_force.Names.{with_numbered}
-use Rattle.sd_task.specs.in_force.Ranges as affine
-use Rattle.sd_task.specs.in_force.Subsets.{are_units}
 use Rattle.sd_graph.specs.Context.{Reach}
 use Rattle.sd_graph.specs.Unfold.{one_element}
-use Rattle.sd_says.specs.Exact.{extents_in}
+use Rattle.sd_says.specs.Exact.{exact_all, extents_in}
 use Rattle.sd_says.specs.Held.{Shape, array_of, a_stream, Held, opening_contents, own_reach}
 use Rattle.sd_says.specs.Setting.{taken_in}
 
@@ -35,9 +33,13 @@ abbrev pub owner_in : (in_scope : Bool) → Owner
 owner_in true = of_scope
 owner_in false = of_run
 
--- the extents are the constant 1 each, whatever the sizes are
+-- the extents are 1 each, with these sizes
+abbrev pub are_ones : (sizes : Named ℤ) → Expressions → Bool
+are_ones sizes extents = list_all (int_eq (pos 1)) (exact_all sizes extents)
+
+-- the extents are the constant 1 each, whatever the sizes are: so it is of affine expressions that are 1 where each size is 0, and where one of them is 1 and the others are 0
 abbrev pub is_unit : (symbols : List Name) → Expressions → Bool
-is_unit symbols extents = are_units (affine.extents_of (with_numbered symbols 0 []) extents)
+is_unit symbols extents = are_ones [] extents && list_all (λ symbol. are_ones ((symbol, pos 1) ∷ []) extents) symbols
 
 -- the element of a consume scope: an array with one element
 abbrev pub element_declared : Declaration

@@ -3,11 +3,14 @@ pub mod Held
 pub mod Declared
 pub mod Setting
 pub mod Operators
+pub mod Work
+pub mod Effects
 pub mod Parts
 pub mod Elements
 pub mod Connectors
 pub mod Tasklets
-pub mod Leaves
+pub mod Pieces
+pub mod AsLeaves
 pub mod Behind
 pub mod Ways
 pub mod Items

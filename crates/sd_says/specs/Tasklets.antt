@@ -3,13 +3,12 @@ use Rattle.std.specs.Prelude.{◌-◌, ℤ, List, [], ◌∷◌, ◌++◌, lengt
 use Rattle.sd_lex.specs.PlainTree.{Expression, number, named, element_at, one, two, choice, Expressions, no_expression, and_expression, StatementTree, set, set_at, tasklet_branch, Block, no_statement, and_statement}
 use Rattle.sd_num.specs.Wrapped.{wrapped}
 use Rattle.sd_work.specs.declared.fault.FaultKind.TheVariants.{Subscript}
-use Rattle.sd_work.specs.Leaf.{Pending, Leaf, instance_of}
+use Rattle.sd_work.specs.Leaf.{Pending}
 use Rattle.sd_graph.specs.TaskletMeaning.{Meaning, holds, and_then, checked}
 use Rattle.sd_program.specs.Names.{Name, Named, in_force}
 use Rattle.sd_says.specs.Exact.{variable_in}
-use Rattle.sd_says.specs.Setting.{taken_in}
 use Rattle.sd_says.specs.Operators.{one_value, two_sides}
-use Rattle.sd_says.specs.Connectors.{Inlet, Input, Outlet, elements_read, inputs_with, value_at}
+use Rattle.sd_says.specs.Connectors.{Input, Outlet, value_at}
 
 -- what a tasklet has come to: the values of its locals, the newest first, and what is to be done, in order
 pub record Progress : Type 0 where
@@ -88,10 +87,3 @@ module _ (variables : Named ℤ) (inputs : Named Input) (outlets : Named Outlet)
     pub task_lines : Block → Progress → Meaning Progress
     task_lines no_statement now = Ok now
     task_lines (and_statement first rest) now = and_then (task_line first now) (task_lines rest)
-
--- a tasklet with these connectors: its elements are read, its lines are done, and then what they gave
-abbrev pub task_with : (variables : Named ℤ) → List (Name × Inlet) → List (Name × Outlet) → Block → Leaf
-task_with variables inlets outlets body =
-    instance_of (elements_read inlets) (λ read.
-    and_then (task_lines variables (taken_in (inputs_with inlets read) []) (taken_in outlets []) body (record { locals = []; effects = [] }))
-    (λ now. Ok now.effects))

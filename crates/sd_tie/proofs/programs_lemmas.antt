@@ -2,6 +2,7 @@ pub mod Lists
 pub mod CallsMade
 pub mod Fitting
 pub mod Sizes
+pub mod Units
 pub mod Declaring
 pub mod Elements
 pub mod Names

@@ -25,7 +25,8 @@ use Rattle.sd_task.specs.task.ElementCode.{input_name, elements_in, links_with}
 use Rattle.sd_says.specs.Exact.{exact_all}
 use Rattle.sd_says.specs.Held.{nothing_held, element_in}
 use Rattle.sd_says.specs.Setting.{Setting, held_by}
-use Rattle.sd_says.specs.Elements.{element_named, reads_of, reads_in}
+use Rattle.sd_says.specs.Elements.{element_named, reads_of}
+use Rattle.sd_says.specs.AsLeaves.{reads_in}
 use Rattle.sd_tie.specs.elements.Tied.{held_at, Tied, AreNumbered}
 use Rattle.sd_tie.proofs.elements_lemmas.Lookups.{in_force_made}
 use Rattle.sd_tie.proofs.elements_lemmas.Affines.{affines_exact}

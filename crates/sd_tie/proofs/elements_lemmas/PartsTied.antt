@@ -21,8 +21,8 @@ use Rattle.sd_task.specs.task.Links.{subset_link, memlet_link}
 use Rattle.sd_says.specs.Held.{extents_of}
 use Rattle.sd_says.specs.Setting.{Setting, held_by, place_at}
 use Rattle.sd_says.specs.Parts.{Part, axes_in, connector_axes, axis_values, part_in, memlet_part, part_extents, part_elements, part_element, index_at}
-use Rattle.sd_says.specs.Leaves as said
-use Rattle.sd_says.specs.Leaves.{copy_statement, reduce_statement}
+use Rattle.sd_says.specs.Pieces as said
+use Rattle.sd_says.specs.AsLeaves.{copy_statement, reduce_statement}
 use Rattle.sd_tie.specs.elements.Tied.{held_at, Tied, AreNumbered}
 use Rattle.sd_tie.proofs.elements_lemmas.LinkReads.{held_found}
 use Rattle.sd_tie.proofs.elements_lemmas.Places.{axes_of, values_of_dims, extents_of_dims, index_of_dims, subset_tied, connector_tied}

@@ -33,8 +33,7 @@ use Rattle.sd_task.specs.task.ElementCode as task
 use Rattle.sd_says.specs.Exact.{exact_all}
 use Rattle.sd_says.specs.Held.{array_of, a_stream, pending_in}
 use Rattle.sd_says.specs.Setting.{Setting, held_by, place_at}
-use Rattle.sd_says.specs.Elements.{value_of, condition_in}
-use Rattle.sd_says.specs.Leaves.{assignment, element_statement}
+use Rattle.sd_says.specs.AsLeaves.{value_of, condition_in, assignment, element_statement}
 use Rattle.sd_tie.specs.elements.Tied.{shape_of, Tied, AreNumbered}
 use Rattle.sd_tie.proofs.elements_lemmas.LinkReads.{held_found, subscripts, one_place, no_extents, links_count, reads_tied, AreSingle, singles}
 use Rattle.sd_tie.proofs.elements_lemmas.Used.{all_used}

@@ -15,7 +15,7 @@ use Rattle.sd_task.specs.task.ElementCode.{elements_in, code_of}
 use Rattle.sd_says.specs.Exact.{variable_in}
 use Rattle.sd_says.specs.Setting.{with_each}
 use Rattle.sd_says.specs.Operators.{one_value, two_sides}
-use Rattle.sd_says.specs.Elements.{reads_in, value_of}
+use Rattle.sd_says.specs.AsLeaves.{reads_in, value_of}
 use Rattle.sd_tie.proofs.elements_lemmas.Lookups.{in_force_made}
 use Rattle.sd_tie.proofs.elements_lemmas.Used.{IsUsed, AllUsed, place_found}
 use Rattle.sd_tie.proofs.elements_lemmas.LinkReads.{count_same}

@@ -9,7 +9,7 @@ use Rattle.sd_work.specs.Step.{Outcome, Done, Faulted, Spent}
 use Rattle.sd_work.specs.BigStep.{Reached, Coming, reached, and_then, leaving, big_step, big_parts}
 use Rattle.sd_graph.specs.Unfold.{point_terms}
 use Rattle.sd_graph.specs.declared.place.Place.{Place}
-use Rattle.sd_says.specs.Ways.{one_by_one}
+use Rattle.sd_says.proofs.ByLeaves.{one_by_one}
 use Rattle.sd_tie.specs.items.Follows.{Follows}
 
 pub at-once : (work : Coming Place) (o : Outcome Place Reached) → work ≡ Some o → Follows (λ m. work) o

@@ -46,10 +46,10 @@ use Rattle.sd_says.specs.Setting as setting
 use Rattle.sd_says.specs.Declared as declared
 use Rattle.sd_says.specs.Declared.{Declaration, own_held, scope_memory}
 use Rattle.sd_says.specs.Parts.{part_in}
-use Rattle.sd_says.specs.Leaves.{element_statement, tasklet_statement, taking_tasklet, copy_statement, reduce_statement}
+use Rattle.sd_says.specs.AsLeaves.{element_statement, tasklet_statement, taking_tasklet, copy_statement, reduce_statement}
 use Rattle.sd_says.specs.Behind as said
-use Rattle.sd_says.specs.Ways.{one_by_one}
-use Rattle.sd_says.specs.Items.{Calls, parts_passed, says_item, says_body}
+use Rattle.sd_says.specs.Items.{Calls, parts_passed}
+use Rattle.sd_says.proofs.ByLeaves.{one_by_one, says_item, says_body}
 use Rattle.sd_tie.specs.elements.Tied.{held_at}
 use Rattle.sd_tie.proofs.elements_lemmas.Affines.{ranges_exact}
 use Rattle.sd_tie.proofs.elements_lemmas.LinkReads.{held_found}

@@ -31,7 +31,7 @@ use Rattle.sd_elab.specs.items.Graphs.{graph_named}
 use Rattle.sd_elab.specs.elab.Elaboration.{function_graph, graphs_with, latest, graph_of}
 use Rattle.sd_elab.proofs.elab_lemmas.FunctionLemmas.{graphs_grown}
 use Rattle.sd_says.specs.Says.{says_last, Says}
-use Rattle.sd_says.proofs.Total.{source-comes}
+use Rattle.sd_says.proofs.Outcomes.{source-comes}
 use Rattle.sd_tie.specs.items.Standing.{IsJoined, variables_named_all}
 use Rattle.sd_tie.specs.programs.Joined.{HasPlainElement, IsJoinedWhole}
 use Rattle.sd_tie.specs.items.Extents.{HasExtentsThroughout}

@@ -29,7 +29,10 @@ use Rattle.sd_says.specs.Declared as declared
 use Rattle.sd_says.specs.Declared.{declared_of}
 use Rattle.sd_says.specs.Parts.{Part, view_of}
 use Rattle.sd_says.specs.Items.{Calls}
-use Rattle.sd_says.specs.Says.{shape_at, argument_reach, reach_passed, says_function, says_call, says_last}
+use Rattle.sd_says.specs.Says.{shape_at, argument_reach, reach_passed, says_last}
+use Rattle.sd_says.proofs.ByLeaves as leaves
+use Rattle.sd_says.proofs.ByLeaves.{says_function, says_call}
+use Rattle.sd_says.proofs.Same.{last-same}
 use Rattle.sd_tie.specs.items.Passed.{through, passed_reach}
 use Rattle.sd_tie.specs.items.Follows.{Follows}
 use Rattle.sd_tie.specs.items.Called.{IsCalled}
@@ -153,12 +156,18 @@ module _ (named : Named ℤ) where
 
   -- ---- a source
 
-  pub source_follows : (functions : List FunctionTree) → AreFitting functions → HasExtentsThroughout (values_of named) (source_graph named functions) → (most : ℕ) (memory : Memory) (turns : ℕ) (outcome : Outcome shown.Place Left) →
-      left_by (says_last named functions most (memory ∷ []) turns) ≡ Some outcome →
+  leaves_follow : (functions : List FunctionTree) → AreFitting functions → HasExtentsThroughout (values_of named) (source_graph named functions) → (most : ℕ) (memory : Memory) (turns : ℕ) (outcome : Outcome shown.Place Left) →
+      left_by (leaves.says_last named functions most (memory ∷ []) turns) ≡ Some outcome →
       (least : ℕ) × ((more : ℕ) → big_run (sized_run (values_of named) (source_graph named functions) memory) (least + more) turns ≡ Some outcome)
-  source_follows [] fine sized most memory turns outcome says = (1, λ more. ap (λ (count : ℕ). big_run (sized_run (values_of named) no_graph memory) count turns) (one_more more) ∙ says)
+  leaves_follow [] fine sized most memory turns outcome says = (1, λ more. ap (λ (count : ℕ). big_run (sized_run (values_of named) no_graph memory) count turns) (one_more more) ∙ says)
     where
       one_more : (more : ℕ) → 1 + more ≡ suc more
       one_more more = omega arith
-  source_follows (function ∷ above) fine sized most memory turns outcome says =
+  leaves_follow (function ∷ above) fine sized most memory turns outcome says =
       last_follows named above (graphs_of above) (says_call named above) (calls_do above fine.1) function fine.0 sized most memory turns outcome says
+
+  pub source_follows : (functions : List FunctionTree) → AreFitting functions → HasExtentsThroughout (values_of named) (source_graph named functions) → (most : ℕ) (memory : Memory) (turns : ℕ) (outcome : Outcome shown.Place Left) →
+      left_by (says_last named functions most (memory ∷ []) turns) ≡ Some outcome →
+      (least : ℕ) × ((more : ℕ) → big_run (sized_run (values_of named) (source_graph named functions) memory) (least + more) turns ≡ Some outcome)
+  source_follows functions fine sized most memory turns outcome says =
+      leaves_follow functions fine sized most memory turns outcome ((λ i. left_by (last-same named functions most i (memory ∷ []) turns)) ∙ says)

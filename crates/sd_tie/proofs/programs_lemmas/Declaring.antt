@@ -33,6 +33,7 @@ use Rattle.sd_tie.specs.items.Standing.{owner_of, declared_by}
 use Rattle.sd_tie.specs.programs.Programs.{symbols_of, values_of}
 use Rattle.sd_tie.specs.items.Extents.{HasExtents, HaveExtents}
 use Rattle.sd_tie.proofs.programs_lemmas.Sizes.{numbered, extents_said, extents_stay}
+use Rattle.sd_tie.proofs.programs_lemmas.Units.{units_tied}
 
 -- numbers none of which is negative
 whole_again : (extent : ℤ) → int_lt extent (pos 0) ≡ false → pos (unsigned_abs extent) ≡ extent
@@ -93,9 +94,9 @@ module _ (named : Named ℤ) where
   as_array kind owner e of name extents affine = record { declared = made kind e of; right = right_array kind e extents affine }
     where
       made : (kind : ContainerKind) → is_stream kind ≡ false → owner_of kind ≡ owner → declared_by sizes (name, record { extents = extents_of (numbered named) extents; kind = kind; width = W64 }) ≡ array_declared named extents owner
-      made Argument e of = λ i. record { shape = array_of (extents_said named extents affine i); width = W64; unit = said.is_unit (symbols_of named) extents; owner = of i }
-      made Transient e of = λ i. record { shape = array_of (extents_said named extents affine i); width = W64; unit = said.is_unit (symbols_of named) extents; owner = of i }
-      made Private e of = λ i. record { shape = array_of (extents_said named extents affine i); width = W64; unit = said.is_unit (symbols_of named) extents; owner = of i }
+      made Argument e of = λ i. record { shape = array_of (extents_said named extents affine i); width = W64; unit = units_tied (symbols_of named) extents affine i; owner = of i }
+      made Transient e of = λ i. record { shape = array_of (extents_said named extents affine i); width = W64; unit = units_tied (symbols_of named) extents affine i; owner = of i }
+      made Private e of = λ i. record { shape = array_of (extents_said named extents affine i); width = W64; unit = units_tied (symbols_of named) extents affine i; owner = of i }
       made Stream e of = cc
       made PrivateStream e of = cc
 

@@ -27,7 +27,8 @@ use Rattle.sd_made.proofs.elab_lemmas.ContainersMade.{begins_itself, all_made}
 use Rattle.sd_made.proofs.loops_shown_lemmas.FunctionShown.{function_shown, none_shown_first}
 use Rattle.sd_says.specs.Declared.{declared_of}
 use Rattle.sd_says.specs.Items.{Calls}
-use Rattle.sd_says.specs.Says.{setting_of, says_function}
+use Rattle.sd_says.specs.Says.{setting_of}
+use Rattle.sd_says.proofs.ByLeaves.{says_function}
 use Rattle.sd_tie.specs.items.Called.{IsCalled}
 use Rattle.sd_tie.specs.items.CallsDo.{CallsDo}
 use Rattle.sd_tie.specs.items.Follows.{Follows}

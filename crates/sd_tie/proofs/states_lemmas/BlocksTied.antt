@@ -43,9 +43,9 @@ use Rattle.sd_says.specs.Setting as settings
 use Rattle.sd_says.specs.Setting.{Setting}
 use Rattle.sd_says.specs.Declared.{Declaration, own_held}
 use Rattle.sd_says.specs.Behind as said
-use Rattle.sd_says.specs.Ways.{if_passed, rounds}
-use Rattle.sd_says.specs.Items.{Calls, says_item}
-use Rattle.sd_says.specs.Statements.{tested, in_round, says_one, says_block}
+use Rattle.sd_says.specs.Items.{Calls}
+use Rattle.sd_says.specs.Statements.{in_round}
+use Rattle.sd_says.proofs.ByLeaves.{if_passed, rounds, tested, says_item, says_one, says_block}
 use Rattle.sd_tie.proofs.elements_lemmas.Affines.{zero_value, affine_or_exact}
 use Rattle.sd_tie.proofs.elements_lemmas.Statements.{condition_tied}
 use Rattle.sd_tie.specs.items.Follows.{Follows}

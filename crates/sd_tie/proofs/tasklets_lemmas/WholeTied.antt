@@ -30,9 +30,9 @@ use Rattle.sd_says.specs.Setting.{Setting, taken_in, place_at, held_by}
 use Rattle.sd_says.specs.Parts.{Part, memlet_part}
 use Rattle.sd_says.specs.Parts as parts
 use Rattle.sd_says.specs.Connectors.{Inlet, Outlet, inputs_with, inlets_of, outlets_of, outlet_of, element_inlet}
-use Rattle.sd_says.specs.Leaves.{tasklet_statement, taking_tasklet}
+use Rattle.sd_says.specs.AsLeaves.{task_with, tasklet_statement, taking_tasklet}
 use Rattle.sd_says.specs.Tasklets as said
-use Rattle.sd_says.specs.Tasklets.{task_lines, task_with}
+use Rattle.sd_says.specs.Tasklets.{task_lines}
 use Rattle.sd_tie.specs.elements.Tied.{held_at, Tied, AreNumbered}
 use Rattle.sd_tie.proofs.elements_lemmas.LinkReads.{held_found}
 use Rattle.sd_tie.proofs.elements_lemmas.Affines.{zero_value}

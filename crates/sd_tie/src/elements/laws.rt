@@ -18,8 +18,7 @@ ghost use Rattle.sd_task.specs.task.ElementCode as task;
 ghost use Rattle.sd_says.specs.Exact.{exact};
 ghost use Rattle.sd_says.specs.Setting.{Setting, with_each, place_at};
 ghost use Rattle.sd_says.specs.Parts.{part_in};
-ghost use Rattle.sd_says.specs.Elements.{condition_in};
-ghost use Rattle.sd_says.specs.Leaves.{element_statement, copy_statement, reduce_statement};
+ghost use Rattle.sd_says.specs.AsLeaves.{condition_in, element_statement, copy_statement, reduce_statement};
 ghost use Rattle.sd_tie.specs.elements.Tied.{Tied, AreNumbered};
 
 /// The value of an affine expression by the numbers of its variables is its value by their names.

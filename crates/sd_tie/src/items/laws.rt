@@ -26,7 +26,7 @@ pub fn a_statement_does_what_it_says()
         → Stands sizes all place.containers container variable table setting context
         → StandsInScope statement → EveryAt (Fits (IsCalled sizes graphs above)) place statement
         → StandsAt [] context.names (variables_named statement) variable → HasElements context.containers statement container
-        → ItemsFollow sizes (items_with graphs statement in_scope table container variable no_item) context (says_item calls all statement in_scope container setting most) }
+        → ItemsFollow sizes (items_with graphs statement in_scope table container variable no_item) context (says_item calls all most statement in_scope container setting) }
 {}
 
 /// What the block of a scope says is what its items come to, where the containers that the block
@@ -39,5 +39,5 @@ pub fn a_block_of_a_scope_does_what_it_says()
         → ((number : ℕ) → has_number (own_of body container) number ≡ true → context.reach number ≡ own_reach context.containers number)
         → EveryFrom (Fits (IsCalled sizes graphs above)) place body
         → StandsAt [] context.names (variables_named_all body) variable → HaveElements context.containers body container
-        → ItemsFollow sizes (items_of_body graphs body table container variable) context (says_body calls all body container setting most) }
+        → ItemsFollow sizes (items_of_body graphs body table container variable) context (says_body calls all most body container setting) }
 {}

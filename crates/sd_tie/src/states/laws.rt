@@ -34,6 +34,6 @@ pub fn a_block_of_a_program_does_what_it_says()
         → StandsAt [] names (variables_named_all block) variable → HaveElements containers block container → EveryFrom (Fits (IsCalled sizes graphs above)) place block
         → AreMade graphs states (loops_at sizes containers names states reach around) block table container variable loops from to
         → loops_at sizes containers names states reach around from ≡ loops
-        → (memories : Memories) (turns : ℕ) (outcome : Outcome shown.Place Reached) → says_block calls all block container setting most memories turns ≡ Some outcome
+        → (memories : Memories) (turns : ℕ) (outcome : Outcome shown.Place Reached) → says_block calls all most block container setting memories turns ≡ Some outcome
         → Goes sizes containers names states reach around from to variable values memories turns outcome }
 {}

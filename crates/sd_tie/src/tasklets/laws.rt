@@ -12,7 +12,7 @@ ghost use Rattle.sd_task.specs.task.Links.{link_to};
 ghost use Rattle.sd_task.specs.tasklets.Item.{tasklet_item, task_with, inputs_of, outputs_of};
 ghost use Rattle.sd_says.specs.Held.{Held};
 ghost use Rattle.sd_says.specs.Setting.{Setting, place_at};
-ghost use Rattle.sd_says.specs.Leaves.{tasklet_statement, taking_tasklet};
+ghost use Rattle.sd_says.specs.AsLeaves.{tasklet_statement, taking_tasklet};
 ghost use Rattle.sd_tie.specs.elements.Tied.{Tied, AreNumbered};
 ghost use Rattle.sd_tie.specs.tasklets.Connected.{AreConnected, AreLinesKnown, inputs_named, outputs_named};
 

@@ -1,5 +1,4 @@
-use Rattle.sd_says.proofs.Total.{source-comes}
-use Rattle.sd_says.proofs.Unique.{source-once}
+use Rattle.sd_says.proofs.Outcomes.{source-comes, source-once}
 use Rattle.sd_says.proofs.laws.every_source_says_one_outcome.Goals as goal
 
 pub returns-clause-comes : goal.returns-clause-comes
