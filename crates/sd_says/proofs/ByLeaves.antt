@@ -16,7 +16,7 @@ use Rattle.sd_work.specs.BigRun.{left_by}
 use Rattle.sd_graph.specs.Context.{Reach}
 use Rattle.sd_graph.specs.declared.place.Frame.{Frame}
 use Rattle.sd_graph.specs.declared.place.Place.{Place}
-use Rattle.sd_program.specs.Names.{Name, Named}
+use Rattle.sd_program.specs.Names.{Named}
 use Rattle.sd_program.specs.Declared.{containers_in, containers_in_all}
 use Rattle.sd_says.specs.Exact.{exact_or, step_or_one, ranges_in}
 use Rattle.sd_says.specs.Held.{own_reach}

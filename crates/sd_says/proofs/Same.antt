@@ -1,5 +1,5 @@
 -- What a source says is what it says by leaves.
-use Rattle.std.proofs.Common.{◌≡◌, ◌∙◌, ℕ, zero, suc, ◌+◌, ℤ, pos, ◌+ℤ◌, List, [], ◌∷◌, reverse, drop, Option, Some, None, Ok, Bool, true, false, cond, if◌then◌else◌, bytes_eq, slice_get, refl, ap, sym}
+use Rattle.std.proofs.Common.{◌≡◌, ◌∙◌, ℕ, zero, suc, ◌+◌, ℤ, pos, ◌+ℤ◌, List, [], ◌∷◌, reverse, drop, Some, None, Ok, Bool, true, false, cond, if◌then◌else◌, bytes_eq, slice_get, refl}
 use Rattle.std.specs.List.{zip}
 use Rattle.sd_lex.specs.PlainTree.{Expression, named, two, StatementTree, assign, copy, reduce, map_scope, tasklet, consume_scope, call, for_loop, while_loop, branch, Block, no_statement, and_statement, FunctionTree, ProgramTree}
 use Rattle.sd_lex.specs.StatementKind.{has_connector}
@@ -8,12 +8,10 @@ use Rattle.sd_range.specs.Points.{tuples}
 use Rattle.sd_range.specs.Subset.{whole}
 use Rattle.sd_work.specs.Memory.{Memory, Memories, waiting}
 use Rattle.sd_work.specs.Change.{without, with_values, with_contents, take, apply}
-use Rattle.sd_work.specs.Leaf.{transfer}
 use Rattle.sd_work.specs.Step.{Outcome}
 use Rattle.sd_work.specs.Run.{Left}
-use Rattle.sd_work.specs.BigStep.{Coming, reached, and_then, after_oldest, big_takes, big_leaf, leaving}
+use Rattle.sd_work.specs.BigStep.{reached, and_then, after_oldest, big_takes, big_leaf, leaving}
 use Rattle.sd_work.specs.BigRun.{left_by}
-use Rattle.sd_graph.specs.Context.{Reach}
 use Rattle.sd_graph.specs.TaskletMeaning as meaning
 use Rattle.sd_graph.specs.declared.place.Frame.{Frame}
 use Rattle.sd_graph.specs.declared.place.Place.{Place}
@@ -22,18 +20,18 @@ use Rattle.sd_program.specs.Declared.{containers_in, containers_in_all}
 use Rattle.sd_says.specs.Exact.{exact_or, step_or_one, ranges_in}
 use Rattle.sd_says.specs.Held.{Held, own_reach}
 use Rattle.sd_says.specs.Declared.{Declaration, declared_of, own_held, scope_memory, element_memory, run_memory}
-use Rattle.sd_says.specs.Setting.{Setting, taken_in, held_by, frames_at, place_at, with_container, inside_showing, at_point}
+use Rattle.sd_says.specs.Setting.{Setting, taken_in, held_by, place_at, with_container, inside_showing, at_point}
 use Rattle.sd_says.specs.Parts.{Part, part_in, part_extents, part_elements, part_element}
 use Rattle.sd_says.specs.Operators.{resolution_of}
 use Rattle.sd_says.specs.Work.{Doing, followed_by, within, spending_one}
-use Rattle.sd_says.specs.Effects.{effects_at, instance_at}
+use Rattle.sd_says.specs.Effects.{instance_at}
 use Rattle.sd_says.specs.Connectors.{element_inlet, elements_read, inputs_with, inlets_of, outlets_of}
 use Rattle.sd_says.specs.Tasklets.{task_lines}
-use Rattle.sd_says.specs.Pieces.{tasklet_effects, target_place}
+use Rattle.sd_says.specs.Pieces.{tasklet_effects, copied, target_place}
 use Rattle.sd_says.specs.AsLeaves.{tasklet_statement, taking_tasklet}
 use Rattle.sd_says.specs.Behind.{own_of, behind, behind_one, behind_all}
-use Rattle.sd_says.specs.Ways.{one_by_one, for_oldest, takes, if_holds, rounds}
-use Rattle.sd_says.specs.Items.{Calls, parts_passed, says_item, says_body}
+use Rattle.sd_says.specs.Ways.{one_by_one, for_oldest, takes, rounds}
+use Rattle.sd_says.specs.Items.{Calls, says_item, says_body}
 use Rattle.sd_says.specs.Statements.{in_round, says_one, says_block}
 use Rattle.sd_says.specs.Says.{shape_at, argument_reach, reach_passed, setting_of, says_function, says_call, says_last, sizes_of, said_within, Says}
 use Rattle.sd_says.proofs.ByLeaves as leaves
@@ -87,11 +85,27 @@ either-same : (alone : Bool) (leaf block this other : Doing) → leaf ≡ this �
 either-same true leaf block this other e f = e
 either-same false leaf block this other e f = f
 
+-- nothing is passed
+abbrev nobody : List Part
+nobody = []
+
 module _ (calls : Calls) (all : List Declaration) (most : ℕ) where
+  -- what is done for a value that was taken
+  taken-same : (line : ℕ) (element : Name) (body : Block) (next : ℕ) (inside : Setting) →
+      leaves.says_body calls all body (next + 1) (with_container element (own_held all next) inside) most ≡ says_body calls all most body (next + 1) (with_container element (own_held all next) inside) →
+      (λ own turns. cond (has_connector body) (big_leaf (place_at inside line) (taking_tasklet inside element (own_held all next) body) own turns)
+      (leaves.says_body calls all body (next + 1) (with_container element (own_held all next) inside) most own turns))
+      ≡ (if has_connector body then instance_at (place_at inside line) (tasklet_effects inside ((element, element_inlet (own_held all next)) ∷ []) body)
+      else says_body calls all most body (next + 1) (with_container element (own_held all next) inside))
+  taken-same line element body next inside e =
+      either-same (has_connector body) (big_leaf (place_at inside line) (taking_tasklet inside element (own_held all next) body)) (leaves.says_body calls all body (next + 1) (with_container element (own_held all next) inside) most)
+      (instance_at (place_at inside line) (tasklet_effects inside ((element, element_inlet (own_held all next)) ∷ []) body)) (says_body calls all most body (next + 1) (with_container element (own_held all next) inside))
+      (λ i memories turns. taking-same inside line element (own_held all next) body memories turns i) e
+
   mutual
     pub item-same : (first : StatementTree) (in_scope : Bool) (next : ℕ) (setting : Setting) → leaves.says_item calls all first in_scope next setting most ≡ says_item calls all most first in_scope next setting
     item-same (assign line name at add value) in_scope next setting = λ i memories turns. element-statement-same setting (place_at setting line) in_scope name at add value memories turns i
-    item-same (copy line to to_dimensions from from_dimensions) in_scope next setting = λ i memories turns. doing-same (place_at setting line) _ memories turns i
+    item-same (copy line to to_dimensions from from_dimensions) in_scope next setting = λ i memories turns. doing-same (place_at setting line) (copied (part_in setting from from_dimensions) (part_in setting to to_dimensions)) memories turns i
     item-same (reduce line lambda from to axis identity) in_scope next setting = λ i memories turns.
         reduction-same (place_at setting line) (resolution_of lambda) identity (part_elements (part_in setting to [])) (λ place. part_element (part_in setting from []) place)
         (λ place. part_element (part_in setting to []) (target_place axis place)) (whole (part_extents (part_in setting from []))) memories turns i
@@ -102,24 +116,14 @@ module _ (calls : Calls) (all : List Declaration) (most : ℕ) where
         ∙ points-same (λ point. within (scope_memory all (own_of body next)) (says_body calls all most body next (at_point (zip parameters point) setting))) (tuples (ranges_in setting.variables ranges))
     item-same (consume_scope line stream size name element worker body) in_scope next setting =
         (λ i. big_takes most (held_by setting stream).reach.level (held_by setting stream).reach.container
-        (λ value memories turns. leaving (taken-same line element body next (inside_showing ((element, value) ∷ []) setting) i
+        (λ value memories turns. leaving (taken-same line element body next (inside_showing ((element, value) ∷ []) setting)
+        (body-same body (next + 1) (with_container element (own_held all next) (inside_showing ((element, value) ∷ []) setting))) i
         (element_memory all next (own_of body (next + 1)) value ∷ memories) turns)))
         ∙ takes-same (held_by setting stream).reach.level (held_by setting stream).reach.container
         (λ value. within (element_memory all next (own_of body (next + 1)) value)
         (if has_connector body then instance_at (place_at (inside_showing ((element, value) ∷ []) setting) line) (tasklet_effects (inside_showing ((element, value) ∷ []) setting) ((element, element_inlet (own_held all next)) ∷ []) body)
         else says_body calls all most body (next + 1) (with_container element (own_held all next) (inside_showing ((element, value) ∷ []) setting)))) most
     item-same statement in_scope next setting = refl
-
-    -- what is done for a value that was taken
-    taken-same : (line : ℕ) (element : Name) (body : Block) (next : ℕ) (inside : Setting) →
-        (λ own turns. cond (has_connector body) (big_leaf (place_at inside line) (taking_tasklet inside element (own_held all next) body) own turns)
-        (leaves.says_body calls all body (next + 1) (with_container element (own_held all next) inside) most own turns))
-        ≡ (if has_connector body then instance_at (place_at inside line) (tasklet_effects inside ((element, element_inlet (own_held all next)) ∷ []) body)
-        else says_body calls all most body (next + 1) (with_container element (own_held all next) inside))
-    taken-same line element body next inside =
-        either-same (has_connector body) (big_leaf (place_at inside line) (taking_tasklet inside element (own_held all next) body)) (leaves.says_body calls all body (next + 1) (with_container element (own_held all next) inside) most)
-        (instance_at (place_at inside line) (tasklet_effects inside ((element, element_inlet (own_held all next)) ∷ []) body)) (says_body calls all most body (next + 1) (with_container element (own_held all next) inside))
-        (λ i memories turns. taking-same inside line element (own_held all next) body memories turns i) (body-same body (next + 1) (with_container element (own_held all next) inside))
 
     pub body-same : (body : Block) (next : ℕ) (setting : Setting) → leaves.says_body calls all body next setting most ≡ says_body calls all most body next setting
     body-same no_statement next setting = refl
@@ -174,8 +178,9 @@ module _ (sizes : Named ℤ) where
   nothing-passed : (all : List Declaration) → (λ number. own_reach (shape_at all number) number) ≡ reach_passed all []
   nothing-passed all = λ i number. argument_reach (shape_at all number) number (none number i)
     where
-      none : (number : ℕ) → None ≡ slice_get {Part} [] number
-      none number = refl
+      none : (number : ℕ) → None ≡ slice_get nobody number
+      none zero = refl
+      none (suc number) = refl
 
   pub last-same : (functions : List FunctionTree) (most : ℕ) → leaves.says_last sizes functions most ≡ says_last sizes functions most
   last-same [] most = refl

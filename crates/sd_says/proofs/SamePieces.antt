@@ -1,15 +1,14 @@
 -- Statements that are done in one piece are the same as leaves.
-use Rattle.std.proofs.Common.{◌≡◌, ◌∙◌, ℕ, zero, suc, ◌+◌, ℤ, pos, List, [], ◌∷◌, ◌++◌, map, length, drop, Option, Some, None, is_some, option_map, unwrap_or, Ok, Err, Bool, true, false, cond, ◌&&◌, if◌then◌else◌, refl, ap, sym, arith, append_assoc, append-nil}
+use Rattle.std.proofs.Common.{◌≡◌, ◌∙◌, ℕ, zero, suc, ◌+◌, ℤ, pos, List, [], ◌∷◌, ◌++◌, map, length, drop, Option, Some, None, is_some, option_map, unwrap_or, Ok, Err, Bool, true, false, if◌then◌else◌, refl, ap, sym, arith, append_assoc, append-nil}
 use Rattle.std.specs.List.{list_all}
 use Rattle.sd_lex.specs.PlainTree.{Expression, number, named, element_at, one, two, choice, Expressions}
 use Rattle.sd_lex.specs.declared.syntax.operator.TwoSign.TheVariants.{Add}
 use Rattle.sd_num.specs.declared.resolution.Resolution.{Resolution}
 use Rattle.sd_num.specs.declared.resolution.Resolution.TheVariants.{Sum}
-use Rattle.sd_work.specs.declared.fault.FaultKind.{FaultKind}
 use Rattle.sd_work.specs.declared.fault.FaultKind.TheVariants.{Subscript}
 use Rattle.sd_work.specs.Memory.{Memories, Reference, look}
 use Rattle.sd_work.specs.Change.{write, push, apply}
-use Rattle.sd_work.specs.Leaf.{Pending, write_value, transfer, push_to, Evaluation, Leaf, instance_of, copy_of, identities, reduction_of}
+use Rattle.sd_work.specs.Leaf.{Pending, write_value, transfer, push_to, Evaluation, instance_of, identities, reduction_of}
 use Rattle.sd_work.specs.Exit.{with_value, all_seen, placed, decided}
 use Rattle.sd_work.specs.BigStep.{Coming, big_doing, big_evaluated, big_reading, big_leaf}
 use Rattle.sd_work.specs.BigStep as work
@@ -21,11 +20,11 @@ use Rattle.sd_says.specs.Held.{pending_in}
 use Rattle.sd_says.specs.Setting.{Setting, held_by, place_at}
 use Rattle.sd_says.specs.Operators.{one_value, two_sides}
 use Rattle.sd_says.specs.Work.{Doing, at_place, spending_one}
-use Rattle.sd_says.specs.Effects.{element_value, element_values, all_done, effects_at, instance_at}
+use Rattle.sd_says.specs.Effects.{element_value, element_values, effects_at, instance_at}
 use Rattle.sd_says.specs.Elements.{element_named, reads_of, value_in, value_read}
 use Rattle.sd_says.specs.Pieces.{assigned, element_effects}
 use Rattle.sd_says.specs.Ways.{if_holds}
-use Rattle.sd_says.specs.AsLeaves.{reads_in, value_of, assignment, element_statement}
+use Rattle.sd_says.specs.AsLeaves.{reads_in, value_of, condition_in, assignment, element_statement}
 use Rattle.sd_says.proofs.ByLeaves.{if_passed, tested}
 
 pub spending-same : (turns : ℕ) (rest : ℕ → Coming Place) → work.spending true turns rest ≡ spending_one turns rest
@@ -144,8 +143,8 @@ drop-twice (suc first) next (member ∷ members) =
     drop-twice first next members ∙ ap (λ count. drop count (member ∷ members)) e
 
 length-both : (reads more : List (Option Reference)) → length (reads ++ more) ≡ length reads + length more
-length-both [] more = refl
-length-both (read ∷ reads) more = ap suc (length-both reads more)
+length-both [] more = omega arith
+length-both (read ∷ reads) more = omega (arith, length-both reads more)
 
 module _ (setting : Setting) where
   count-same : (expression : Expression) → length (reads_of setting expression) ≡ reads_in expression
@@ -276,7 +275,7 @@ identities-same None targets = refl
 identities-same (Some value) targets = refl
 
 resolved-same : {A : Type 0} (from to : A → Option Reference) (by : Option Resolution) (places : List A) →
-    map (λ pair. transfer pair.0 pair.1 by) (map (λ place. (from place, to place)) places) ≡ map (λ place. transfer (from place) (to place) by) places
+    map (λ (pair : Option Reference × Option Reference). transfer pair.0 pair.1 by) (map (λ place. (from place, to place)) places) ≡ map (λ place. transfer (from place) (to place) by) places
 resolved-same from to by [] = refl
 resolved-same from to by (place ∷ places) = ap (λ rest. transfer (from place) (to place) by ∷ rest) (resolved-same from to by places)
 
@@ -284,5 +283,5 @@ pub reduction-same : {A : Type 0} (place : Place) (resolution : Resolution) (ide
     big_leaf place (reduction_of resolution identity targets (map (λ place. (from place, to place)) places)) memories turns
     ≡ effects_at place (unwrap_or (option_map (λ value. map (λ target. write_value value target None) targets) identity) [] ++ map (λ place. transfer (from place) (to place) (Some resolution)) places) memories turns
 reduction-same place resolution identity targets from to places memories turns =
-    doing-same place (identities identity targets ++ map (λ pair. transfer pair.0 pair.1 (Some resolution)) (map (λ place. (from place, to place)) places)) memories turns
+    doing-same place (identities identity targets ++ map (λ (pair : Option Reference × Option Reference). transfer pair.0 pair.1 (Some resolution)) (map (λ place. (from place, to place)) places)) memories turns
     ∙ (λ i. effects_at place (identities-same identity targets i ++ resolved-same from to (Some resolution) places i) memories turns)

@@ -1,5 +1,5 @@
 -- Elements that are read, and effects on memories.
-use Rattle.std.specs.Prelude.{ℕ, ℤ, List, [], ◌∷◌, Option, Some, None, Ok, Err}
+use Rattle.std.specs.Prelude.{ℤ, List, [], ◌∷◌, Option, Some, None, Ok, Err}
 use Rattle.sd_num.specs.Resolution.{stored}
 use Rattle.sd_num.specs.declared.resolution.Resolution.{Resolution}
 use Rattle.sd_work.specs.declared.fault.FaultKind.TheVariants.{Subscript}

@@ -1,7 +1,9 @@
 //! What a source says: the meaning of its statements, by recursion on its plain syntax tree, with no
 //! graph in it. `specs/Says.antt` has the whole; `Exact` and `Parts` are affine places and parts of
-//! containers, `Elements`, `Connectors` and `Tasklets` what one statement reads and gives, `Items` and
-//! `Statements` the blocks. By the law below each source says exactly one outcome.
+//! containers, `Work`, `Effects` and `Ways` what becomes of memories, `Elements`, `Connectors`,
+//! `Tasklets` and `Pieces` what one statement reads and gives, `Items` and `Statements` the blocks.
+//! `AsLeaves` is no part of it: it has the same statements as leaves of graphs. By the law below each
+//! source says exactly one outcome.
 #![tactic(auto)]
 
 mod laws;
