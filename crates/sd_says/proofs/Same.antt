@@ -69,13 +69,13 @@ module _ (at : ℤ → Setting) (line : ℕ) (when : Expression) (block : Settin
 
 -- ---- statements
 
-tasklet-same : (setting : Setting) (line : ℕ) (body : Block) (memories : Memories) (turns : ℕ) →
+pub tasklet-same : (setting : Setting) (line : ℕ) (body : Block) (memories : Memories) (turns : ℕ) →
     big_leaf (place_at setting line) (tasklet_statement setting body) memories turns ≡ instance_at (place_at setting line) (tasklet_effects setting [] body) memories turns
 tasklet-same setting line body memories turns =
     instance-same (place_at setting line) (elements_read (inlets_of setting body))
     (λ read. meaning.and_then (task_lines setting.variables (taken_in (inputs_with (inlets_of setting body) read) []) (taken_in (outlets_of setting body) []) body (record { locals = []; effects = [] })) (λ now. Ok now.effects)) memories turns
 
-taking-same : (setting : Setting) (line : ℕ) (element : Name) (held : Held) (body : Block) (memories : Memories) (turns : ℕ) →
+pub taking-same : (setting : Setting) (line : ℕ) (element : Name) (held : Held) (body : Block) (memories : Memories) (turns : ℕ) →
     big_leaf (place_at setting line) (taking_tasklet setting element held body) memories turns ≡ instance_at (place_at setting line) (tasklet_effects setting ((element, element_inlet held) ∷ []) body) memories turns
 taking-same setting line element held body memories turns =
     instance-same (place_at setting line) (elements_read ((element, element_inlet held) ∷ inlets_of setting body))

@@ -222,20 +222,24 @@ module _ (setting : Setting) where
       go true = refl
       go false = refl
 
-  -- what is decided of the values that were seen
-  seen-same : (line : ℕ) (when : Expression) (memories : Memories) (left right : Coming Place) →
-      if_passed (tested setting line when memories) left right ≡ at_place (place_at setting line) (value_read setting memories when) (λ value. if holds value then left else right)
-  seen-same line when memories left right = go (list_all is_some (reads_of setting when)) refl
+  -- a condition holds where its guard does
+  pub guard-same : (line : ℕ) (when : Expression) (memories : Memories) →
+      tested setting line when memories ≡ placed (place_at setting line) (and_then (value_read setting memories when) (λ value. Ok (holds value)))
+  guard-same line when memories = go (list_all is_some (reads_of setting when)) refl
     where
       go : (inside : Bool) → list_all is_some (reads_of setting when) ≡ inside →
-          if_passed (tested setting line when memories) left right
-          ≡ at_place (place_at setting line) (if inside then value_in setting memories when else Err Subscript) (λ value. if holds value then left else right)
+          tested setting line when memories ≡ placed (place_at setting line) (and_then (if inside then value_in setting memories when else Err Subscript) (λ value. Ok (holds value)))
       go true h =
-          ap (λ seen. if_passed (decided (condition_in setting line when) seen) left right) (all-seen (reads_of setting when) memories h)
-          ∙ ap (λ made. if_passed (placed (place_at setting line) (and_then made (λ value. Ok (holds value)))) left right)
+          ap (decided (condition_in setting line when)) (all-seen (reads_of setting when) memories h)
+          ∙ ap (λ made. placed (place_at setting line) (and_then made (λ value. Ok (holds value))))
           (ap (λ read. value_of setting.variables read when) (sym (append-nil (map (looked memories) (reads_of setting when)))) ∙ value-same memories when h [])
-          ∙ decided-same line (value_in setting memories when) left right
-      go false h = ap (λ seen. if_passed (decided (condition_in setting line when) seen) left right) (none-seen (reads_of setting when) memories h)
+      go false h = ap (decided (condition_in setting line when)) (none-seen (reads_of setting when) memories h)
+
+  -- what is done where it holds, and where not
+  seen-same : (line : ℕ) (when : Expression) (memories : Memories) (left right : Coming Place) →
+      if_passed (tested setting line when memories) left right ≡ at_place (place_at setting line) (value_read setting memories when) (λ value. if holds value then left else right)
+  seen-same line when memories left right =
+      ap (λ held. if_passed held left right) (guard-same line when memories) ∙ decided-same line (value_read setting memories when) left right
 
   pub condition-same : (line : ℕ) (when : Expression) (this other : Doing) (memories : Memories) (turns : ℕ) →
       if_passed (tested setting line when memories) (this memories turns) (other memories turns) ≡ if_holds setting line when this other memories turns

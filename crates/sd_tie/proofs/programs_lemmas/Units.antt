@@ -1,5 +1,5 @@
 -- Extents are 1 whatever the sizes are, by the names of the sizes as by their numbers.
-use Rattle.std.proofs.Common.{◌≡◌, ◌≢◌, ◌∙◌, ◌⊎◌, inl, inr, ℕ, zero, suc, ◌+◌, ◌<◌, ℤ, pos, neg_ℤ, ◌+ℤ◌, ◌*ℤ◌, List, [], ◌∷◌, Option, Some, None, option_map, unwrap_or, Bool, true, false, cond, ◌&&◌, bytes_eq, refl, ap, sym, subst, arith}
+use Rattle.std.proofs.Common.{◌≡◌, ◌≢◌, ◌∙◌, ◌⊎◌, inl, inr, ℕ, zero, suc, ◌+◌, ℤ, pos, neg_ℤ, ◌+ℤ◌, ◌*ℤ◌, List, [], ◌∷◌, Option, Some, None, option_map, unwrap_or, Bool, true, false, cond, ◌&&◌, bytes_eq, refl, ap, sym, subst, arith}
 use Rattle.std.specs.Prelude.{⊤}
 use Rattle.std.specs.Ordering.{int_eq}
 use Rattle.std.specs.List.{AllByRecursion, list_all}
@@ -25,7 +25,7 @@ use Rattle.sd_program.specs.IsAffine.{IsAffine}
 use Rattle.sd_task.specs.in_force.Names.{with_numbered}
 use Rattle.sd_task.specs.in_force.Ranges.{extents_of}
 use Rattle.sd_task.specs.in_force.Subsets.{has_no_term, are_units}
-use Rattle.sd_says.specs.Exact.{variable_in, exact_one, exact_two, exact, exact_all}
+use Rattle.sd_says.specs.Exact.{variable_in, exact_one, exact_two, exact}
 use Rattle.sd_says.specs.Setting.{with_each}
 use Rattle.sd_says.specs.Declared.{are_ones, is_unit}
 use Rattle.sd_tie.specs.items.Standing.{AreBelow}
@@ -233,9 +233,15 @@ one_name : (P : Name → Type 0) (variable : ℕ) (entries : Named ℕ) → Fall
 one_name P variable [] fall all = inl (λ name. refl)
 one_name P variable (entry ∷ entries) fall all =
     by_same variable entry.1
-    (λ is. inr (entry.0, (all.0, λ name.
-    (ap (λ value. variable_in ((entry.0, value) ∷ told_alone variable entries) name) (ap (variable_value (alone variable)) (sym is) ∙ variable_set variable (pos 1) [])
-    ∙ one_before entry.0 name (told_alone variable entries) (all_zero variable entries (subst (λ bound. AreBelow bound entries) (sym is) fall.0) name)))))
+    (λ is. inr (
+      entry.0,
+      (
+        all.0,
+        λ name.
+            (ap (λ value. variable_in ((entry.0, value) ∷ told_alone variable entries) name) (ap (variable_value (alone variable)) (sym is) ∙ variable_set variable (pos 1) [])
+            ∙ one_before entry.0 name (told_alone variable entries) (all_zero variable entries (subst (λ bound. AreBelow bound entries) (sym is) fall.0) name)),
+      ),
+    ))
     (λ apart. subst (λ value. IsOneName P ((entry.0, value) ∷ told_alone variable entries)) (sym (other_zero variable entry.1 apart)) (before (one_name P variable entries fall.1 all.1)))
   where
     before : IsOneName P (told_alone variable entries) → IsOneName P ((entry.0, pos 0) ∷ told_alone variable entries)
