@@ -57,6 +57,7 @@ FLOWS = {
     "races": "graph to accesses",
     "tasklets": "code to effects",
     "running": "memory to memory",
+    "workers": "graph to boards",
     "moves": "picks to moves",
     "program": "files to text",
     "tests": "cases to verdicts",
