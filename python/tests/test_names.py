@@ -148,6 +148,17 @@ class Programs(Calls):
         self.assertEqual((refused.exception.number, refused.exception.name), (11, "Z"))
         self.assertEqual(luthkemb.run(both, X=[0], Z=1, A1=2), {"X": [3]})
 
+    def test_two_symbols_of_one_name_are_one_size(self) -> None:
+        same = dace.symbol("Z")
+
+        @dace.program
+        def twice(X: dace.int64[1]):
+            # fake: X = [2 * Z]
+            X[0] = Z + same
+
+        self.assertEqual(source_of(twice).text().count(b"Z = dace.symbol('Z')"), 1)
+        self.assertEqual(luthkemb.run(twice, X=[0], Z=3), {"X": [6]})
+
     def test_a_name_with_other_signs_is_told(self) -> None:
         for name in ('a"b', "a b", "ä", "a\nb", "", "$"):
             with self.subTest(name), self.assertRaises(luthkemb.ArraysRefused) as refused:
