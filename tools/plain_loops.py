@@ -1,5 +1,5 @@
 #!/usr/bin/env python3
-"""The programs that bench.py times, as plain loops over lists: each is a function, and each statement of its source stands in
+"""The programs that bench.py and run_fast_ways.py time, as plain loops over lists: each is a function, and each statement of its source stands in
 the same loops there.
 
 The words are a program's name and its arrays file. It prints the arrays after the run as sdfg does. Nothing wraps here:
@@ -47,7 +47,13 @@ def inc(N, A, B):
         B[i] = A[i] + 1
 
 
-PROGRAMS = {it.__name__: it for it in (product, heat, histogram, fib, inc)}
+def two(N, A, B, C):
+    for i in range(N):
+        B[i] = A[i] + 1
+        C[i] = A[i] * 2
+
+
+PROGRAMS = {it.__name__: it for it in (product, heat, histogram, fib, inc, two)}
 
 
 def line(name, array):
