@@ -10,5 +10,5 @@ mod op;
 mod tcode;
 
 pub use columns::{Columns, Spaced, add_products};
-pub use op::{Array, Log, Op, run_ops};
+pub use op::{Array, Log, Op, Source, run_ops};
 pub use tcode::{Code, Frame, Layout, run, run_plain, what_a_frame_has, what_is_given_stays_whole};

@@ -8,9 +8,8 @@ use Rattle.sd_work.specs.Memory.{Memories}
 use Rattle.sd_graph.specs.TaskletMeaning.{and_then, checked}
 use Rattle.sd_tasklet.specs.tasklet.Kept.{filled}
 use Rattle.sd_tasklet.specs.declared.tasklet.effect.Effect.{Effect}
-use Rattle.sd_tcode.specs.op.Machine.{State, register, index_in, with_register, with_kept, extents_at, after_one, passed, after_all, state_only}
+use Rattle.sd_tcode.specs.op.Machine.{Held, State, register, index_in, with_register, with_kept, extents_at, after_one, passed, after_all, state_only}
 use Rattle.sd_tcode.specs.op.Within.{Room, IsFree, IsWithin}
-use Rattle.sd_tcode.specs.declared.op.array.Array.{Array}
 use Rattle.sd_tcode.specs.declared.op.op.Op.{Op}
 use Rattle.sd_tcode.specs.declared.op.op.Op.TheVariants as ops
 use Rattle.sd_tcode.specs.declared.columns.spacing.Spaced.{Spaced}
@@ -62,7 +61,7 @@ module _ (accesses : Accesses) (k : ℕ) (memories : Memories) where
       ∙ made_of (λ (numbers : Spaced). value_on numbers k) accesses.variables.items number numbers (pos 0) there
 
   -- the operand stands in its register
-  put_goes : (arrays : List Array) (op : Op) (to : ℕ) (operand : Operand) (state : State) → IsPut accesses op to operand → IsFixed state →
+  put_goes : (arrays : List Held) (op : Op) (to : ℕ) (operand : Operand) (state : State) → IsPut accesses op to operand → IsFixed state →
       after_one arrays op state ≡ Ok (with_register state to (operand_on k memories operand))
   put_goes arrays op to (Read track) state put fixed =
       ap (λ op. after_one arrays op state) put.1 ∙ ap (λ value. Ok (with_register state to value)) (read_held state fixed put.0 track put.2)
@@ -101,14 +100,14 @@ place_checked count place within = ap (λ test. if test && true then Ok (pos pla
 
 -- ---- all of them
 
-next_op : (arrays : List Array) (op : Op) (later : List Op) (state next : State) → after_one arrays op state ≡ Ok next → passed op state ≡ 0 →
+next_op : (arrays : List Held) (op : Op) (later : List Op) (state next : State) → after_one arrays op state ≡ Ok next → passed op state ≡ 0 →
     after_all arrays 0 (op ∷ later) state ≡ after_all arrays 0 later next
 next_op arrays op later state next goes none =
     ap (λ end. and_then end (λ next. after_all arrays (passed op state) later next)) goes ∙ ap (λ pass. after_all arrays pass later next) none
 
 module _ (accesses : Accesses) (k : ℕ) (memories : Memories) (room : Room) (parts : Parts) (index value : Operand) (given : room.given ≡ fixed_count accesses)
     (index_put : IsPut accesses parts.index parts.at index) (value_put : IsPut accesses parts.value parts.to value) (index_within : IsWithin room parts.index) (value_within : IsWithin room parts.value)
-    (differ : parts.at ≢ parts.to) (arrays : List Array) (count place : ℕ) (extents : extents_at arrays parts.connector ≡ count ∷ []) (below : place < count)
+    (differ : parts.at ≢ parts.to) (arrays : List Held) (count place : ℕ) (extents : extents_at arrays parts.connector ≡ count ∷ []) (below : place < count)
     (placed : operand_on k memories index ≡ pos place) (state : State) (many : length state.registers ≡ room.registers) (fixed : IsFixed accesses k memories state) where
   abbrev with_index : State
   with_index = with_register state parts.at (operand_on k memories index)

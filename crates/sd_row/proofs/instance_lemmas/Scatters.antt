@@ -14,9 +14,9 @@ use Rattle.sd_graph.specs.Context.{Context, link_elements, link_extents}
 use Rattle.sd_graph.specs.declared.link.Link.{Link}
 use Rattle.sd_tasklet.specs.tasklet.Kept.{told}
 use Rattle.sd_tasklet.specs.declared.tasklet.effect.Effect.{Effect}
-use Rattle.sd_tcode.specs.op.Machine.{State, after_all, state_only}
+use Rattle.sd_tcode.proofs.tcode_lemmas.Frames.{dims_held}
+use Rattle.sd_tcode.specs.op.Machine.{held, Held, State, after_all, state_only}
 use Rattle.sd_tcode.specs.op.Within.{IsWithin}
-use Rattle.sd_tcode.specs.declared.op.array.Array.{Array}
 use Rattle.sd_tcode.specs.declared.op.op.Op.{Op}
 use Rattle.sd_tcode.specs.tcode.Compiled.{Compiled, room_of}
 use Rattle.sd_tcode.specs.tcode.Held.{IsReady, given, elements_in}
@@ -45,7 +45,7 @@ use Rattle.sd_row.proofs.instance_lemmas.Targets.{extents_there}
 -- ---- what is given
 
 -- scalars are given by their registers, whatever stands behind them
-elements_front : (arrays : List Array) (links : List Link) (rest : List (List ℕ)) (scalars : List ℤ) → map (λ array. array.extents.items) arrays ≡ map (λ link. []) links ++ rest → length scalars ≡ length links →
+elements_front : (arrays : List Held) (links : List Link) (rest : List (List ℕ)) (scalars : List ℤ) → map (λ array. array.extents) arrays ≡ map (λ link. []) links ++ rest → length scalars ≡ length links →
     elements_in arrays scalars ≡ map (λ value. value ∷ []) scalars
 elements_front [] links rest [] same many = refl
 elements_front [] [] rest (value ∷ scalars) same many = absurd (omega (arith, many))
@@ -53,9 +53,9 @@ elements_front [] (link ∷ links) rest (value ∷ scalars) same many = cc
 elements_front (array ∷ arrays) links rest [] same many = refl
 elements_front (array ∷ arrays) [] rest (value ∷ scalars) same many = absurd (omega (arith, many))
 elements_front (array ∷ arrays) (link ∷ links) rest (value ∷ scalars) same many =
-    let here : array.extents.items ≡ [] = cc in
-    let others : map (λ array. array.extents.items) arrays ≡ map (λ link. []) links ++ rest = cc in
-    ap (λ (extents : List ℕ). (if length extents == 0 then value ∷ [] else array.cells.items) ∷ elements_in arrays scalars) here
+    let here : array.extents ≡ [] = cc in
+    let others : map (λ array. array.extents) arrays ≡ map (λ link. []) links ++ rest = cc in
+    ap (λ (extents : List ℕ). (if length extents == 0 then value ∷ [] else array.cells) ∷ elements_in arrays scalars) here
     ∙ ap (λ rest. (value ∷ []) ∷ rest) (elements_front arrays links rest scalars others (omega (arith, many)))
 
 each_alone : {A : Type 0} (made : A → ℤ) (members : List A) → map (λ value. value ∷ []) (map made members) ≡ map (λ member. made member ∷ []) members
@@ -91,8 +91,8 @@ module _ (code : Compiled) (accesses : Accesses) (scatter : Scatter) (is : IsSca
     (written : after.memories ≡ apply (write (reference_on scatter.to place) scatter.by (operand_on k now.memories scatter.value)) now.memories) (kept_turns : after.turns ≡ now.turns)
     (tree : TaskletTree) (ins outs : List Link) (context standing : Context) (scalars : AllByRecursion (λ link. is_scalar link.memlet.subset.dims ≡ true) ins)
     (set : IsSetUp tree ins outs code (given frame) context) (known : AreKnown tree ins outs k context standing accesses) where
-  abbrev arrays : List Array
-  arrays = frame.arrays.items
+  abbrev arrays : List Held
+  arrays = map held frame.arrays.items
 
   abbrev fixed : List ℤ
   fixed = fixed_on accesses k now.memories
@@ -127,7 +127,7 @@ module _ (code : Compiled) (accesses : Accesses) (scatter : Scatter) (is : IsSca
   ins_many = sym (length-map ins (link_elements context)) ∙ ap length known.reads ∙ length-map accesses.reads.items (λ track. Some (reference_on track k) ∷ [])
 
   -- the inputs are scalars
-  extents_all : map (λ array. array.extents.items) arrays ≡ map (λ link. []) ins ++ map (link_extents context) outs
+  extents_all : map (λ array. array.extents) arrays ≡ map (λ link. []) ins ++ map (link_extents context) outs
   extents_all = set.extents ∙ map_both (link_extents context) ins outs ∙ ap (λ front. front ++ map (link_extents context) outs) (no_extents_of_all context ins scalars)
 
   scalars_first : take code.layout.inputs (take front registers) ≡ map (seen_on k now.memories) accesses.reads.items
@@ -187,7 +187,7 @@ module _ (code : Compiled) (accesses : Accesses) (scatter : Scatter) (is : IsSca
 
   goes : meaning_of tree inputs ≡ Ok (map (told inputs) (effect ∷ []))
   goes =
-      let fits : Fits code registers arrays = record { registers_many = registers_many; arrays_dims = ready.fits.arrays } in
+      let fits : Fits code registers arrays = record { registers_many = registers_many; arrays_dims = (dims_held frame.arrays.items ∙ ready.fits.arrays) } in
       run_means tree code registers arrays is.safe fits set.code is.plain (Ok tt) last came
 
   one_place : (told inputs effect).at ≡ pos place ∷ []

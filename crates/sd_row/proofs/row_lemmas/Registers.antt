@@ -2,7 +2,7 @@
 use Rattle.std.proofs.Common.{◌≡◌, ℕ, zero, suc, ◌+◌, ◌<◌, ◌≤◌, ℤ, List, [], ◌∷◌, ◌++◌, map, length, take, drop, replicate, get_or, slice_index_or, pos, None, Vec, slice_set, ◌==◌, if◌then◌else◌, refl, sym, ap, ◌∙◌, arith}
 use Rattle.std.specs.declared.alloc.Global.{Global}
 use Rattle.std.proofs.lemmas.List.{length-map, take_more, take_more_set, map-append}
-use Rattle.sd_tcode.specs.declared.op.array.Array.{Array}
+use Rattle.sd_tcode.specs.op.Machine.{Held}
 use Rattle.sd_tcode.specs.tcode.Held.{elements_in, given_by}
 use Rattle.sd_tcode.specs.declared.columns.columns.Columns.{Columns}
 use Rattle.sd_tcode.specs.declared.columns.spacing.Spaced.{Spaced}
@@ -38,7 +38,7 @@ rest_of [] second = refl
 rest_of (member ∷ first) second = rest_of first second
 
 -- scalars are given by their registers
-elements_one : (arrays : List Array) (connectors : ℕ) (scalars : List ℤ) → map (λ array. array.extents.items) arrays ≡ replicate connectors [] → length scalars ≤ connectors →
+elements_one : (arrays : List Held) (connectors : ℕ) (scalars : List ℤ) → map (λ array. array.extents) arrays ≡ replicate connectors [] → length scalars ≤ connectors →
     elements_in arrays scalars ≡ map (λ value. value ∷ []) scalars
 elements_one [] zero [] none few = refl
 elements_one [] zero (value ∷ scalars) none few = absurd (omega (arith, few))
@@ -46,9 +46,9 @@ elements_one [] (suc connectors) scalars none few = cc
 elements_one (array ∷ arrays) zero scalars none few = cc
 elements_one (array ∷ arrays) (suc connectors) [] none few = refl
 elements_one (array ∷ arrays) (suc connectors) (value ∷ scalars) none few =
-    let here : array.extents.items ≡ [] = cc in
-    let others : map (λ array. array.extents.items) arrays ≡ replicate connectors [] = cc in
-    ap (λ (extents : List ℕ). (if length extents == 0 then value ∷ [] else array.cells.items) ∷ elements_in arrays scalars) here
+    let here : array.extents ≡ [] = cc in
+    let others : map (λ array. array.extents) arrays ≡ replicate connectors [] = cc in
+    ap (λ (extents : List ℕ). (if length extents == 0 then value ∷ [] else array.cells) ∷ elements_in arrays scalars) here
     ∙ ap (λ rest. (value ∷ []) ∷ rest) (elements_one arrays connectors scalars others (omega (arith, few)))
 
 each_alone : {A : Type 0} (made : A → ℤ) (members : List A) → map (λ value. value ∷ []) (map made members) ≡ map (λ member. made member ∷ []) members
@@ -59,12 +59,12 @@ made_many : {A : Type 0} (made : A → ℤ) (members : List A) → length (map m
 made_many made [] = refl
 made_many made (member ∷ members) = ap suc (made_many made members)
 
-module _ {A B : Type 0} (seen : A → ℤ) (reads : List A) (told : B → ℤ) (variables : List B) (inputs connectors : ℕ) (fixed : List ℤ) (arrays : List Array)
+module _ {A B : Type 0} (seen : A → ℤ) (reads : List A) (told : B → ℤ) (variables : List B) (inputs connectors : ℕ) (fixed : List ℤ) (arrays : List Held)
     (many : inputs ≡ length reads) (is : fixed ≡ map seen reads ++ map told variables) where
   same_front : inputs ≡ length (map seen reads)
   same_front = many ∙ sym (made_many seen reads)
 
-  pub values_given : map (λ array. array.extents.items) arrays ≡ replicate connectors [] → inputs ≤ connectors → (given_by inputs fixed arrays).values ≡ map (λ read. seen read ∷ []) reads
+  pub values_given : map (λ array. array.extents) arrays ≡ replicate connectors [] → inputs ≤ connectors → (given_by inputs fixed arrays).values ≡ map (λ read. seen read ∷ []) reads
   values_given none few =
       (λ i. elements_in arrays (take (same_front i) (is i)))
       ∙ ap (elements_in arrays) (front_of (map seen reads) (map told variables))

@@ -12,8 +12,7 @@ use Rattle.sd_work.specs.Memory.{Memories, look, elements_of, contents_of}
 use Rattle.sd_work.specs.Change.{apply, became, write}
 use Rattle.sd_tcode.specs.declared.op.op.Op.{Op}
 use Rattle.sd_tcode.specs.declared.op.op.Op.TheVariants.{Mul}
-use Rattle.sd_tcode.specs.declared.op.array.Array.{Array}
-use Rattle.sd_tcode.specs.op.Machine.{State, after_all, state_only}
+use Rattle.sd_tcode.specs.op.Machine.{Held, State, after_all, state_only}
 use Rattle.sd_tcode.specs.tcode.Compiled.{Compiled, IsCodeOf, IsSafe}
 use Rattle.sd_tcode.specs.tcode.Held.{given_by}
 use Rattle.sd_tcode.specs.tcode.Outputs.{output_effects}
@@ -74,8 +73,8 @@ module _ (row : Row) (compiled : Compiled) (memories : Memories) (k : ℕ) where
         ∙ take-append_seam given (replicate (compiled.registers - (compiled.layout.inputs + compiled.layout.variables)) (pos 0))
 
     -- the code means what its one instruction does
-    pub products_meant : (setting : Setting) (to left right : ℕ) (arrays : List Array) → compiled.ops ≡ Mul to left right ∷ [] → IsCodeOf setting.tree compiled → compiled.plain ≡ Some (order_of row) →
-        map (λ array. length array.extents.items) arrays ≡ compiled.dims → map (λ array. array.extents.items) arrays ≡ replicate compiled.layout.connectors [] →
+    pub products_meant : (setting : Setting) (to left right : ℕ) (arrays : List Held) → compiled.ops ≡ Mul to left right ∷ [] → IsCodeOf setting.tree compiled → compiled.plain ≡ Some (order_of row) →
+        map (λ array. length array.extents) arrays ≡ compiled.dims → map (λ array. array.extents) arrays ≡ replicate compiled.layout.connectors [] →
         IsMeant setting row compiled memories k (output_at to left right)
     products_meant setting to left right arrays only is_code plain dims none =
         let fits : Fits compiled registers_at arrays = record { registers_many = registers_many; arrays_dims = dims } in

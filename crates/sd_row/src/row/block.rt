@@ -1,7 +1,7 @@
 //! Many points of a row at once.
 ghost use Rattle.std.specs.Prelude.{◌≡◌, ℕ, ◌+◌, ◌-◌, ◌<◌, ◌≤◌, ◌^◌, List, [], ◌++◌, length, map, take, replicate, slice_set, Some, IsTrue, IsFalse};
 ghost use Rattle.std.specs.List.{AllByRecursion};
-ghost use Rattle.sd_tcode.specs.declared.op.array.Array.{Array};
+ghost use Rattle.sd_tcode.specs.op.Machine.{Held};
 ghost use Rattle.sd_tcode.specs.tcode.Compiled.{IsSafe};
 ghost use Rattle.sd_mem.specs.machine.ComesTo.{IsEnd};
 ghost use Rattle.sd_mem.specs.declared.machine.end.End.TheVariants as ends;
@@ -123,8 +123,8 @@ pub(crate) fn run_block(
     requires wide { AreWide columns.old }
     ensures kept { AreKept columns.old columns.new }
     ensures not_done { IsFalse result → machine.new ≡ machine.old }
-    ensures done { IsTrue result → (setting : Setting) (arrays : List Array) → IsSetting row.now code.now until setting → IsOver setting.own machine.old
-        → map (λ array. length array.extents.items) arrays ≡ code.now.dims → map (λ array. array.extents.items) arrays ≡ replicate code.now.layout.connectors []
+    ensures done { IsTrue result → (setting : Setting) (arrays : List Held) → IsSetting row.now code.now until setting → IsOver setting.own machine.old
+        → map (λ array. length array.extents) arrays ≡ code.now.dims → map (λ array. array.extents) arrays ≡ replicate code.now.layout.connectors []
         → IsEnd (row_coming setting from (until - from) (below machine.old)) (below machine.old) ends.Finished (below machine.new) }
     ensures own { IsTrue result → (setting : Setting) → IsSetting row.now code.now until setting → IsOver setting.own machine.old → IsOver setting.own machine.new }
 {

@@ -4,7 +4,7 @@ ghost use Rattle.std.specs.Option.{MatchOption};
 ghost use Rattle.std.specs.Bool.{⊤};
 ghost use Rattle.sd_num.specs.Wrapped.{wrapped};
 ghost use Rattle.sd_num.specs.declared.resolution.Resolution.TheVariants as resolutions;
-ghost use Rattle.sd_tcode.specs.declared.op.array.Array.{Array};
+ghost use Rattle.sd_tcode.specs.op.Machine.{Held};
 ghost use Rattle.sd_tcode.specs.declared.op.op.Op.TheVariants as ops;
 ghost use Rattle.sd_mem.specs.machine.ComesTo.{IsEnd};
 ghost use Rattle.sd_mem.specs.declared.machine.end.End.TheVariants as ends;
@@ -125,8 +125,8 @@ pub(crate) fn run_products(
     requires apart { AreApart row.now }
     requires plain { code.now.plain ≡ Some (order_of row.now) }
     ensures not_done { IsFalse result → machine.new ≡ machine.old }
-    ensures done { IsTrue result → (setting : Setting) (arrays : List Array) → IsSetting row.now code.now until setting → IsOver setting.own machine.old
-        → map (λ array. length array.extents.items) arrays ≡ code.now.dims → map (λ array. array.extents.items) arrays ≡ replicate code.now.layout.connectors []
+    ensures done { IsTrue result → (setting : Setting) (arrays : List Held) → IsSetting row.now code.now until setting → IsOver setting.own machine.old
+        → map (λ array. length array.extents) arrays ≡ code.now.dims → map (λ array. array.extents) arrays ≡ replicate code.now.layout.connectors []
         → IsEnd (row_coming setting from (until - from) (below machine.old)) (below machine.old) ends.Finished (below machine.new) }
     ensures own { IsTrue result → (setting : Setting) → IsSetting row.now code.now until setting → IsOver setting.own machine.old → IsOver setting.own machine.new }
 {

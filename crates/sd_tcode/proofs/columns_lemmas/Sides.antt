@@ -8,8 +8,7 @@ use Rattle.std.proofs.lemmas.List.{drop_more, drop-map, get_or-drop, get_or-map,
 use Rattle.sd_graph.specs.TaskletMeaning.{and_then, two_values}
 use Rattle.sd_graph.specs.declared.operator.TwoSign.{TwoSign}
 use Rattle.sd_tcode.specs.declared.op.op.Op.{Op}
-use Rattle.sd_tcode.specs.declared.op.array.Array.{Array}
-use Rattle.sd_tcode.specs.op.Machine.{State, after_one, after_all, passed, combined, with_result, state_only}
+use Rattle.sd_tcode.specs.op.Machine.{Held, State, after_one, after_all, passed, combined, with_result, state_only}
 use Rattle.sd_tcode.specs.declared.columns.columns.Columns.{Columns}
 use Rattle.std.proofs.lemmas.Int.{int_wrap-add_left, int_wrap_fits}
 use Rattle.sd_num.specs.Wrapped.{wrapped}
@@ -61,14 +60,14 @@ combines columns after sign to left right run first second value first_is second
 -- ---- instructions
 
 -- one instruction more
-pub steps_on : (arrays : List Array) (ops : List Op) (number : ℕ) (op : Op) (state next : State) → number < length ops → op ≡ get_or ops number op → after_one arrays op state ≡ Ok next → passed op state ≡ 0 →
+pub steps_on : (arrays : List Held) (ops : List Op) (number : ℕ) (op : Op) (state next : State) → number < length ops → op ≡ get_or ops number op → after_one arrays op state ≡ Ok next → passed op state ≡ 0 →
     after_all arrays 0 (drop number ops) state ≡ after_all arrays 0 (drop (number + 1) ops) next
 steps_on arrays ops number op state next within is done none =
     ap (λ ops. after_all arrays 0 ops state) (drop_more ops number op within ∙ ap (λ first. first ∷ drop (number + 1) ops) (sym is))
     ∙ ap (λ meant. and_then meant (λ next. after_all arrays (passed op state) (drop (number + 1) ops) next)) done
     ∙ ap (λ pass. after_all arrays pass (drop (number + 1) ops) next) none
 
-pub steps_end : (arrays : List Array) (ops : List Op) (number : ℕ) (state : State) → length ops ≤ number → state_only (after_all arrays 0 (drop number ops) state) ≡ Ok state
+pub steps_end : (arrays : List Held) (ops : List Op) (number : ℕ) (state : State) → length ops ≤ number → state_only (after_all arrays 0 (drop number ops) state) ≡ Ok state
 steps_end arrays ops number state over = ap (λ ops. state_only (after_all arrays 0 ops state)) (drop_of_length-le ops over)
 
 -- ---- elements side by side

@@ -11,17 +11,16 @@ use Rattle.sd_tasklet.specs.tasklet.Kept.{filled, told}
 use Rattle.sd_tasklet.specs.declared.tasklet.effect.Effect.{Effect}
 use Rattle.sd_tasklet.proofs.tasklet_lemmas.KeptLemmas.{front_filled}
 use Rattle.sd_tcode.specs.tcode.Named.{count_of, dimensions_of, SetsOf, AllSetsOf}
-use Rattle.sd_tcode.specs.op.Machine.{State, register, index_in, with_kept}
+use Rattle.sd_tcode.specs.op.Machine.{Held, State, register, index_in, with_kept}
 use Rattle.sd_tcode.specs.op.Within.{Room, IsWithin}
 use Rattle.sd_tcode.specs.tcode.Emitted.{output_register, local_register, free_register, either_code, condition_op, condition_code, value_code, values_code, inside_code, act_code, acts_code, layout_of}
-use Rattle.sd_tcode.specs.declared.op.array.Array.{Array}
 use Rattle.sd_tcode.specs.declared.op.op.Op.{Op}
 use Rattle.sd_tcode.specs.declared.op.op.Op.TheVariants.{Keep, Skip}
 use Rattle.sd_tcode.proofs.tcode_lemmas.Flow.{all_front, all_back, Comes, comes_on, comes_not, Jumps, either_first, either_second}
 use Rattle.sd_tcode.proofs.tcode_lemmas.States.{Kept, Leaves}
 use Rattle.sd_tcode.proofs.tcode_lemmas.Runs.{scalar_inside, Holds, Stands, Yields, Decides, ReadsAll, AllIn, value_runs, values_run, condition_runs, still_stands, index_more, index_none}
 
-module _ (code : TaskletTree) (inputs : Inputs) (arrays : List Array) (room : Room) where
+module _ (code : TaskletTree) (inputs : Inputs) (arrays : List Held) (room : Room) where
   abbrev first_free : ℕ
   first_free = free_register (layout_of code)
 

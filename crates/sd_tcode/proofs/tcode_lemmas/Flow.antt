@@ -3,9 +3,8 @@ use Rattle.std.proofs.Common.{◌≡◌, ℕ, zero, suc, ◌+◌, List, [], ◌�
 use Rattle.std.specs.List.{AllByRecursion}
 use Rattle.sd_graph.specs.TaskletMeaning.{Meaning, and_then}
 use Rattle.sd_work.specs.declared.fault.FaultKind.{FaultKind}
-use Rattle.sd_tcode.specs.op.Machine.{State, after_one, passed, after_all}
+use Rattle.sd_tcode.specs.op.Machine.{Held, State, after_one, passed, after_all}
 use Rattle.sd_tcode.specs.tcode.Emitted.{either_code}
-use Rattle.sd_tcode.specs.declared.op.array.Array.{Array}
 use Rattle.sd_tcode.specs.declared.op.op.Op.{Op}
 use Rattle.sd_tcode.specs.declared.op.op.Op.TheVariants.{Skip}
 
@@ -18,7 +17,7 @@ pub all_back : (P : Op → Type 0) (first second : List Op) → AllByRecursion P
 all_back P [] second all = all
 all_back P (op ∷ first) second all = all_back P first second all.1
 
-module _ (arrays : List Array) where
+module _ (arrays : List Held) where
   -- what comes after, with so many instructions still to be passed
   abbrev pub go_on : List Op → State × ℕ → Meaning (State × ℕ)
   go_on ops here = after_all arrays here.1 ops here.0

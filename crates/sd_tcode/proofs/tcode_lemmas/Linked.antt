@@ -13,36 +13,35 @@ use Rattle.sd_work.specs.declared.fault.FaultKind.{FaultKind}
 use Rattle.sd_tasklet.specs.tasklet.Given.{IsWhole}
 use Rattle.sd_tasklet.specs.tasklet.Kept.{told}
 use Rattle.sd_tcode.specs.tcode.Named.{dimensions_of}
-use Rattle.sd_tcode.specs.op.Machine.{State, register, extents_at, cells_at, after_all, state_only, answered}
+use Rattle.sd_tcode.specs.op.Machine.{Held, State, register, extents_at, cells_at, after_all, state_only, answered}
 use Rattle.sd_tcode.specs.op.Within.{IsWithin}
 use Rattle.sd_tcode.specs.op.Memory.{HasCells}
 use Rattle.sd_tcode.specs.tcode.Emitted.{layout_of, tasklet_code, output_register}
 use Rattle.sd_tcode.specs.tcode.Outputs.{output_effects}
 use Rattle.sd_tcode.specs.tcode.Compiled.{Compiled, IsSafe, IsCodeOf, is_plain, room_of}
 use Rattle.sd_tcode.specs.tcode.Held.{elements_in, given_by}
-use Rattle.sd_tcode.specs.declared.op.array.Array.{Array}
 use Rattle.sd_tcode.proofs.tcode_lemmas.Runs.{Holds}
 use Rattle.sd_tcode.proofs.tcode_lemmas.Plains.{plain_set}
 use Rattle.sd_tcode.proofs.tcode_lemmas.Whole.{IsGiven, is_meant, tasklet_runs, plain_runs}
 
-pub extents_same : (arrays : List Array) (connector : ℕ) → extents_at arrays connector ≡ slice_index_or (map (λ array. array.extents.items) arrays) connector []
+pub extents_same : (arrays : List Held) (connector : ℕ) → extents_at arrays connector ≡ slice_index_or (map (λ array. array.extents) arrays) connector []
 extents_same [] connector = refl
 extents_same (array ∷ arrays) zero = refl
 extents_same (array ∷ arrays) (suc connector) = extents_same arrays connector
 
-pub dims_same : (arrays : List Array) (connector : ℕ) → length (extents_at arrays connector) ≡ slice_index_or (map (λ array. length array.extents.items) arrays) connector 0
+pub dims_same : (arrays : List Held) (connector : ℕ) → length (extents_at arrays connector) ≡ slice_index_or (map (λ array. length array.extents) arrays) connector 0
 dims_same [] connector = refl
 dims_same (array ∷ arrays) zero = refl
 dims_same (array ∷ arrays) (suc connector) = dims_same arrays connector
 
-pub elements_same : (arrays : List Array) (scalars : List ℤ) (connector : ℕ) → connector < length scalars → connector < length arrays →
+pub elements_same : (arrays : List Held) (scalars : List ℤ) (connector : ℕ) → connector < length scalars → connector < length arrays →
     slice_index_or (elements_in arrays scalars) connector [] ≡ (if length (extents_at arrays connector) == 0 then slice_index_or scalars connector (pos 0) ∷ [] else cells_at arrays connector)
 elements_same [] scalars connector h g = absurd (omega arith)
 elements_same (array ∷ arrays) [] connector h g = absurd (omega arith)
 elements_same (array ∷ arrays) (value ∷ scalars) zero h g = refl
 elements_same (array ∷ arrays) (value ∷ scalars) (suc connector) h g = elements_same arrays scalars connector (omega arith) (omega arith)
 
-pub elements_there : (arrays : List Array) (scalars : List ℤ) (connector : ℕ) → connector < length scalars → connector < length arrays → connector < length (elements_in arrays scalars)
+pub elements_there : (arrays : List Held) (scalars : List ℤ) (connector : ℕ) → connector < length scalars → connector < length arrays → connector < length (elements_in arrays scalars)
 elements_there [] scalars connector h g = absurd (omega arith)
 elements_there (array ∷ arrays) [] connector h g = absurd (omega arith)
 elements_there (array ∷ arrays) (value ∷ scalars) zero h g = omega arith
@@ -56,17 +55,17 @@ none_empty [] h = refl
 none_empty (first ∷ rest) h = absurd (omega (arith, h))
 
 -- registers and arrays that fit some code
-pub record Fits (code : Compiled) (registers : List ℤ) (arrays : List Array) : Type 0 where
+pub record Fits (code : Compiled) (registers : List ℤ) (arrays : List Held) : Type 0 where
   pub registers_many : length registers ≡ code.registers
-  pub arrays_dims : map (λ array. length array.extents.items) arrays ≡ code.dims
+  pub arrays_dims : map (λ array. length array.extents) arrays ≡ code.dims
 
-abbrev pub given_to : Compiled → List ℤ → List Array → Inputs
+abbrev pub given_to : Compiled → List ℤ → List Held → Inputs
 given_to code registers arrays = given_by code.layout.inputs (take (code.layout.inputs + code.layout.variables) registers) arrays
 
-pub arrays_many : (code : Compiled) (registers : List ℤ) (arrays : List Array) → IsSafe code → Fits code registers arrays → length arrays ≡ code.layout.connectors
-arrays_many code registers arrays safe fits = sym (length-map arrays (λ array. length array.extents.items)) ∙ (ap length fits.arrays_dims ∙ safe.dims)
+pub arrays_many : (code : Compiled) (registers : List ℤ) (arrays : List Held) → IsSafe code → Fits code registers arrays → length arrays ≡ code.layout.connectors
+arrays_many code registers arrays safe fits = sym (length-map arrays (λ array. length array.extents)) ∙ (ap length fits.arrays_dims ∙ safe.dims)
 
-module _ (code : Compiled) (registers : List ℤ) (arrays : List Array) (safe : IsSafe code) (fits : Fits code registers arrays) where
+module _ (code : Compiled) (registers : List ℤ) (arrays : List Held) (safe : IsSafe code) (fits : Fits code registers arrays) where
   abbrev scalars : List ℤ
   scalars = take code.layout.inputs (take (code.layout.inputs + code.layout.variables) registers)
 
@@ -139,7 +138,7 @@ ends_so told_by (Ok here) (Err kind) state e = cc
 ends_so told_by (Err kind) (Ok done) state e = cc
 ends_so told_by (Err kind) (Err other) state e = let same : kind ≡ other = cc in ap Err same
 
-pub run_means : (tree : TaskletTree) (code : Compiled) (registers : List ℤ) (arrays : List Array) → IsSafe code → Fits code registers arrays → IsCodeOf tree code → code.plain ≡ None →
+pub run_means : (tree : TaskletTree) (code : Compiled) (registers : List ℤ) (arrays : List Held) → IsSafe code → Fits code registers arrays → IsCodeOf tree code → code.plain ≡ None →
     (result : Result (Unit {0}) FaultKind) (after : State) → state_only (after_all arrays 0 code.ops (record { registers = registers; effects = [] })) ≡ answered result after →
     meaning_of tree (given_to code registers arrays) ≡ answered result (map (told (given_to code registers arrays)) after.effects)
 run_means tree code registers arrays safe fits is_code none result after e =
@@ -153,7 +152,7 @@ run_means tree code registers arrays safe fits is_code none result after e =
     is_meant tree inputs arrays (room_of code) told_by (tasklet_code false tree) state (meaning_of tree inputs) gives (after_all arrays 0 code.ops state) (ap (λ l. after_all arrays 0 l state) (sym ops))
     ∙ ends_so told_by (after_all arrays 0 code.ops state) result after e
 
-pub plain_means : (tree : TaskletTree) (code : Compiled) (registers : List ℤ) (arrays : List Array) → IsSafe code → Fits code registers arrays → IsCodeOf tree code → (order : List ℕ) → code.plain ≡ Some order →
+pub plain_means : (tree : TaskletTree) (code : Compiled) (registers : List ℤ) (arrays : List Held) → IsSafe code → Fits code registers arrays → IsCodeOf tree code → (order : List ℕ) → code.plain ≡ Some order →
     (result : Result (Unit {0}) FaultKind) (after : State) → state_only (after_all arrays 0 code.ops (record { registers = registers; effects = [] })) ≡ answered result after →
     meaning_of tree (given_to code registers arrays) ≡ answered result (output_effects (λ connector. register after (code.layout.variables + connector)) order)
 plain_means tree code registers arrays safe fits is_code order some result after e =

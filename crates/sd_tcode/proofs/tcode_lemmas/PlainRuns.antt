@@ -8,12 +8,11 @@ use Rattle.sd_graph.specs.PlainTree.{ValueTree, ValueTrees, no_value, and_value,
 use Rattle.sd_graph.specs.TaskletMeaning as meaning
 use Rattle.sd_graph.specs.TaskletMeaning.{Meaning, Inputs, Progress, and_then, place_of, extents_of_connector, value_of, act_of, acts_of, with_effect}
 use Rattle.sd_tcode.specs.tcode.Named.{dimensions_of, SetsOf, AllSetsOf}
-use Rattle.sd_tcode.specs.op.Machine.{State, register}
+use Rattle.sd_tcode.specs.op.Machine.{Held, State, register}
 use Rattle.sd_tcode.specs.op.Within.{Room, IsWithin}
 use Rattle.sd_tcode.specs.tcode.Emitted.{output_register, local_register, free_register, value_code, act_code, acts_code, is_scalar, layout_of}
 use Rattle.sd_tcode.specs.tcode.Plain.{is_among, set_after, set_by}
 use Rattle.sd_tcode.specs.tcode.Outputs.{output_effects}
-use Rattle.sd_tcode.specs.declared.op.array.Array.{Array}
 use Rattle.sd_tcode.specs.declared.op.op.Op.{Op}
 use Rattle.sd_tcode.proofs.tcode_lemmas.Flow.{all_front, all_back, Comes, comes_on, comes_not}
 use Rattle.sd_tcode.proofs.tcode_lemmas.Runs.{Holds, Stands, Yields, AllIn, scalar_inside, value_runs}
@@ -30,7 +29,7 @@ no_others Q (first ∷ rest) connector h all =
     neither false second h = (refl, h)
     neither true second h = cc
 
-module _ (code : TaskletTree) (inputs : Inputs) (arrays : List Array) (room : Room) where
+module _ (code : TaskletTree) (inputs : Inputs) (arrays : List Held) (room : Room) where
   abbrev pub outputs_at : State → List ℕ → List meaning.Effect
   outputs_at state order = output_effects (λ connector. register state (output_register (layout_of code) connector)) order
 

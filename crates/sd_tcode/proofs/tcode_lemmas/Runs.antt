@@ -11,17 +11,16 @@ use Rattle.sd_graph.specs.declared.operator.OneSign.TheVariants as before
 use Rattle.sd_graph.specs.declared.operator.TwoSign.{TwoSign}
 use Rattle.sd_graph.specs.declared.operator.TwoSign.TheVariants as between
 use Rattle.sd_tcode.specs.tcode.Named.{count_of, dimensions_of, NamesOf, AllNamesOf}
-use Rattle.sd_tcode.specs.op.Machine.{State, register, index_in, with_register, with_result, combined, extents_at, cells_at, cell_of}
+use Rattle.sd_tcode.specs.op.Machine.{Held, State, register, index_in, with_register, with_result, combined, extents_at, cells_at, cell_of}
 use Rattle.sd_tcode.specs.op.Within.{Room, IsWithin}
 use Rattle.sd_tcode.specs.tcode.Emitted.{variable_register, local_register, free_register, one_op, two_op, is_lazy, is_ready, is_comparison, operand_register, unless_ready, unless_op, test_op, either_code, jumps_where, second_code, condition_op, condition_code, input_code, value_code, values_code, layout_of}
-use Rattle.sd_tcode.specs.declared.op.array.Array.{Array}
 use Rattle.sd_tcode.specs.declared.op.op.Op.{Op}
 use Rattle.sd_tcode.specs.declared.op.op.Op.TheVariants.{Number, Copy, Element, Skip, SkipIfZero}
 use Rattle.sd_tcode.proofs.tcode_lemmas.Flow.{all_front, all_back, Comes, comes_on, comes_not, Jumps, either_first, either_second}
 use Rattle.sd_tcode.proofs.tcode_lemmas.States.{Kept, Leaves, written, kept_then, stays, kept_free, kept_twice}
 use Rattle.sd_tcode.proofs.tcode_lemmas.Signs.{two_target, one_target, choose, sides_strict, or_decided, or_open, and_decided, and_open, test_jumps, comparison_strict, other_op, compares}
 
-module _ (code : TaskletTree) (inputs : Inputs) (arrays : List Array) (room : Room) where
+module _ (code : TaskletTree) (inputs : Inputs) (arrays : List Held) (room : Room) where
   -- the arrays hold the extents of the connectors, and the elements of the inputs that have dimensions
   pub record Holds : Type 0 where
     pub extents : (connector : ℕ) → extents_at arrays connector ≡ extents_of_connector inputs connector

@@ -6,10 +6,9 @@ use Rattle.sd_graph.specs.declared.operator.OneSign.{OneSign}
 use Rattle.sd_graph.specs.declared.operator.OneSign.TheVariants as before
 use Rattle.sd_graph.specs.declared.operator.TwoSign.{TwoSign}
 use Rattle.sd_graph.specs.declared.operator.TwoSign.TheVariants as between
-use Rattle.sd_tcode.specs.op.Machine.{State, register}
+use Rattle.sd_tcode.specs.op.Machine.{Held, State, register}
 use Rattle.sd_tcode.specs.op.Within.{Room, IsWithin}
 use Rattle.sd_tcode.specs.tcode.Emitted.{one_op, two_op, is_lazy, is_comparison, test_op, unless_op}
-use Rattle.sd_tcode.specs.declared.op.array.Array.{Array}
 use Rattle.sd_tcode.specs.declared.op.op.Op.{Op}
 use Rattle.sd_tcode.specs.declared.op.op.Op.TheVariants.{SkipIfZero}
 use Rattle.sd_tcode.proofs.tcode_lemmas.Flow.{Jumps}
@@ -93,7 +92,7 @@ and_open left true (Err kind) h = refl
 and_open left false right h = cc
 
 -- how many instructions the test passes
-pub test_jumps : (arrays : List Array) (skips : Bool) (value count : ℕ) (state : State) (b : Bool) → holds (register state value) ≡ b →
+pub test_jumps : (arrays : List Held) (skips : Bool) (value count : ℕ) (state : State) (b : Bool) → holds (register state value) ≡ b →
     Jumps arrays (test_op skips value count) state (if b then (if skips then count else 0) else (if skips then 0 else count))
 test_jumps arrays true value count state true h = (refl, rw h refl)
 test_jumps arrays true value count state false h = (refl, rw h refl)
@@ -147,10 +146,10 @@ truth_holds true = refl
 truth_holds false = refl
 
 -- what a comparison comes to decides whether its jump is taken
-abbrev pub IsCompared : List Array → (test : ℕ → Op) → State → Meaning ℤ → Type 0
+abbrev pub IsCompared : List Held → (test : ℕ → Op) → State → Meaning ℤ → Type 0
 IsCompared arrays test state meant = (b : Bool) × (meant ≡ Ok (truth b)) × ((count : ℕ) → Jumps arrays (test count) state (if holds (truth b) then 0 else count))
 
-pub compares : (arrays : List Array) (sign : TwoSign) (left right value : ℕ) (state : State) → is_comparison sign ≡ true →
+pub compares : (arrays : List Held) (sign : TwoSign) (left right value : ℕ) (state : State) → is_comparison sign ≡ true →
     IsCompared arrays (unless_op sign left right value) state (two_values sign (register state left) (register state right))
 compares arrays between.Or left right value state h = cc
 compares arrays between.And left right value state h = cc

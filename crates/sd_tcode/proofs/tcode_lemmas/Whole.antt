@@ -8,11 +8,10 @@ use Rattle.sd_graph.specs.TaskletMeaning as meaning
 use Rattle.sd_graph.specs.TaskletMeaning.{Meaning, Inputs, Progress, and_then, element_of, acts_of, meaning_of}
 use Rattle.sd_tasklet.specs.tasklet.Kept.{told}
 use Rattle.sd_tcode.specs.tcode.Named.{dimensions_of, IsNamed}
-use Rattle.sd_tcode.specs.op.Machine.{State, register, with_register, after_all}
+use Rattle.sd_tcode.specs.op.Machine.{Held, State, register, with_register, after_all}
 use Rattle.sd_tcode.specs.op.Within.{Room, IsWithin}
 use Rattle.sd_tcode.specs.tcode.Emitted.{variable_register, local_register, acts_code, locals_code, tasklet_code, layout_of}
 use Rattle.sd_tcode.specs.tcode.Plain.{set_by}
-use Rattle.sd_tcode.specs.declared.op.array.Array.{Array}
 use Rattle.sd_tcode.specs.declared.op.op.Op.{Op}
 use Rattle.sd_tcode.proofs.tcode_lemmas.Flow.{all_front, all_back, Comes, comes_on}
 use Rattle.sd_tcode.proofs.tcode_lemmas.Runs.{Holds, Stands, AllIn}
@@ -26,7 +25,7 @@ pub record Zeros (first count : ℕ) (state after : State) : Type 0 where
   pub rest : (i : ℕ) → i < first → register after i ≡ register state i
   pub zeros : (i : ℕ) → first ≤ i → i < first + count → register after i ≡ pos 0
 
-module _ (code : TaskletTree) (inputs : Inputs) (arrays : List Array) (room : Room) where
+module _ (code : TaskletTree) (inputs : Inputs) (arrays : List Held) (room : Room) where
   zero_at : (first count i : ℕ) (state after : State) → first < length state.registers → Zeros (first + 1) count (with_register state first (pos 0)) after → first ≤ i → i < first + suc count → (i < first + 1) ⊎ (first + 1 ≤ i) → register after i ≡ pos 0
   zero_at first count i state after h z low high (inl less) =
       let e : i ≡ first = omega arith in
@@ -113,7 +112,7 @@ module _ (code : TaskletTree) (inputs : Inputs) (arrays : List Array) (room : Ro
       effects_of (Err kind) middle c d = comes_on arrays (locals_code (local_register (layout_of code) 0) code.locals) (acts_code true (layout_of code) code.body) state middle (Err kind) c d
 
 -- what a run came to is what is meant
-pub is_meant : (code : TaskletTree) (inputs : Inputs) (arrays : List Array) (room : Room) (told_by : State → List meaning.Effect) (ops : List Op) (state : State) (meant : Meaning (List meaning.Effect)) → Gives code inputs arrays room told_by ops state meant →
+pub is_meant : (code : TaskletTree) (inputs : Inputs) (arrays : List Held) (room : Room) (told_by : State → List meaning.Effect) (ops : List Op) (state : State) (meant : Meaning (List meaning.Effect)) → Gives code inputs arrays room told_by ops state meant →
     (end : Meaning (State × ℕ)) → after_all arrays 0 ops state ≡ end → meant ≡ and_then end (λ here. Ok (told_by here.0))
 is_meant code inputs arrays room told_by ops state (Ok effects) g end e = subst (λ m. Ok effects ≡ and_then m (λ here. Ok (told_by here.0))) (sym g.2 ∙ e) (ap Ok (sym g.1))
 is_meant code inputs arrays room told_by ops state (Err kind) g end e = subst (λ m. Err kind ≡ and_then m (λ here. Ok (told_by here.0))) (sym g ∙ e) refl

@@ -13,6 +13,15 @@ use Rattle.sd_tcode.specs.declared.op.op.Op.{Op}
 use Rattle.sd_tcode.specs.declared.op.op.Op.TheVariants.{Number, Copy, Not, Neg, Inv, Or, And, Less, LessEqual, Greater, GreaterEqual, Equal, Differ, BitOr, BitXor, BitAnd, Add, Sub, Mul, FloorDiv, Mod, Min, Max, Element, Inside, Keep, Skip, SkipIfZero, SkipUnlessZero, SkipUnlessLess, SkipUnlessLessEqual, SkipUnlessEqual, SkipUnlessDiffer}
 use Rattle.sd_tcode.specs.declared.op.array.Array.{Array}
 
+-- the extents of a connector, and the elements of an input connector that has dimensions, in row order
+pub record Held : Type 0 where
+  pub extents : List ℕ
+  pub cells : List ℤ
+
+-- what an array holds
+abbrev pub held : Array → Held
+held array = record { extents = array.extents.items; cells = array.cells.items }
+
 -- what instructions change: registers, and the effects that were kept so far
 pub record State : Type 0 where
   pub registers : List ℤ
@@ -42,22 +51,22 @@ abbrev pub combined : State → TwoSign → (to left right : ℕ) → Meaning St
 combined state sign to left right = with_result state to (two_values sign (register state left) (register state right))
 
 -- the extents and the elements of a connector; one that is not there has none
-abbrev pub extents_at : List Array → (connector : ℕ) → List ℕ
+abbrev pub extents_at : List Held → (connector : ℕ) → List ℕ
 extents_at [] connector = []
-extents_at (array ∷ arrays) zero = array.extents.items
+extents_at (array ∷ arrays) zero = array.extents
 extents_at (array ∷ arrays) (suc connector) = extents_at arrays connector
 
-abbrev pub cells_at : List Array → (connector : ℕ) → List ℤ
+abbrev pub cells_at : List Held → (connector : ℕ) → List ℤ
 cells_at [] connector = []
-cells_at (array ∷ arrays) zero = array.cells.items
+cells_at (array ∷ arrays) zero = array.cells
 cells_at (array ∷ arrays) (suc connector) = cells_at arrays connector
 
 -- the element of a connector at an index
-abbrev pub cell_of : List Array → (connector : ℕ) → (at : List ℤ) → ℤ
+abbrev pub cell_of : List Held → (connector : ℕ) → (at : List ℤ) → ℤ
 cell_of arrays connector at = slice_index_or (cells_at arrays connector) (row_number (extents_at arrays connector) at) (pos 0)
 
 -- the state after an instruction, or its fault
-abbrev pub after_one : List Array → Op → State → Meaning State
+abbrev pub after_one : List Held → Op → State → Meaning State
 after_one arrays (Number to value) state = with_result state to (Ok value)
 after_one arrays (Copy to from) state = with_result state to (Ok (register state from))
 after_one arrays (Not to of) state = with_result state to (Ok (one_value before.Not (register state of)))
@@ -107,7 +116,7 @@ passed (SkipUnlessDiffer left right count) state = if not (int_eq (register stat
 passed op state = 0
 
 -- Instructions one after another, where so many are passed first. With the state comes how many are still to be passed.
-abbrev pub after_all : List Array → (pass : ℕ) → List Op → State → Meaning (State × ℕ)
+abbrev pub after_all : List Held → (pass : ℕ) → List Op → State → Meaning (State × ℕ)
 after_all arrays pass [] state = Ok (state, pass)
 after_all arrays (suc pass) (op ∷ ops) state = after_all arrays pass ops state
 after_all arrays zero (op ∷ ops) state = and_then (after_one arrays op state) (λ next. after_all arrays (passed op state) ops next)

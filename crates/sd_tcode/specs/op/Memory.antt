@@ -1,9 +1,12 @@
 -- What instructions read beside their registers.
 use Rattle.std.specs.Prelude.{ℕ, ◌<◌, ◌≤◌, List, length}
 use Rattle.sd_range.specs.Points.{product}
-use Rattle.sd_tcode.specs.op.Machine.{extents_at, cells_at}
-use Rattle.sd_tcode.specs.declared.op.array.Array.{Array}
+use Rattle.sd_tcode.specs.op.Machine.{Held, extents_at, cells_at}
 
--- each input connector that has dimensions has as many elements as its extents multiply to
-abbrev pub HasCells : (inputs : ℕ) → List Array → Type 0
+-- a connector that has dimensions has as many elements as its extents multiply to
+abbrev pub HasCellsAt : List Held → (connector : ℕ) → Type 0
+HasCellsAt arrays connector = 0 < length (extents_at arrays connector) → product (extents_at arrays connector) ≤ length (cells_at arrays connector)
+
+-- each input connector does
+abbrev pub HasCells : (inputs : ℕ) → List Held → Type 0
 HasCells inputs arrays = (connector : ℕ) → connector < inputs → 0 < length (extents_at arrays connector) → product (extents_at arrays connector) ≤ length (cells_at arrays connector)

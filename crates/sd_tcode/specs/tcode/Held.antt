@@ -6,25 +6,25 @@ use Rattle.sd_tasklet.specs.tasklet.Given.{IsWhole}
 use Rattle.sd_tasklet.specs.tasklet.Kept.{told}
 use Rattle.sd_tasklet.specs.declared.tasklet.effect.Effect.{Effect}
 use Rattle.sd_tcode.specs.tcode.Compiled.{Compiled}
-use Rattle.sd_tcode.specs.declared.op.array.Array.{Array}
+use Rattle.sd_tcode.specs.op.Machine.{Held, held}
 use Rattle.sd_tcode.specs.declared.tcode.frame.Frame.{Frame}
 
 -- the elements of each input connector; a scalar stands in its register
-abbrev pub elements_in : List Array → (scalars : List ℤ) → List (List ℤ)
+abbrev pub elements_in : List Held → (scalars : List ℤ) → List (List ℤ)
 elements_in [] scalars = []
 elements_in (array ∷ arrays) [] = []
-elements_in (array ∷ arrays) (value ∷ scalars) = (if length array.extents.items == 0 then value ∷ [] else array.cells.items) ∷ elements_in arrays scalars
+elements_in (array ∷ arrays) (value ∷ scalars) = (if length array.extents == 0 then value ∷ [] else array.cells) ∷ elements_in arrays scalars
 
 -- what the registers of the input connectors and the variables, and the arrays, give to the code
-abbrev pub given_by : (inputs : ℕ) → (fixed : List ℤ) → List Array → meaning.Inputs
+abbrev pub given_by : (inputs : ℕ) → (fixed : List ℤ) → List Held → meaning.Inputs
 given_by inputs fixed arrays = record {
   values = elements_in arrays (take inputs fixed);
-  extents = map (λ array. array.extents.items) arrays;
+  extents = map (λ array. array.extents) arrays;
   variables = drop inputs fixed;
 }
 
 abbrev pub given : Frame → meaning.Inputs
-given frame = given_by frame.inputs (take (frame.inputs + frame.variables) frame.registers.items) frame.arrays.items
+given frame = given_by frame.inputs (take (frame.inputs + frame.variables) frame.registers.items) (map held frame.arrays.items)
 
 -- the effects of the last run
 abbrev pub effects_of : Frame → List meaning.Effect

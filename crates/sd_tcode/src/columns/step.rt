@@ -2,8 +2,7 @@ ghost use Rattle.std.specs.Prelude.{◌≡◌, ℕ, ◌+◌, ◌<◌, ◌≤◌,
 ghost use Rattle.std.specs.List.{AllByRecursion};
 ghost use Rattle.sd_graph.specs.PlainTree.{TaskletTree};
 ghost use Rattle.sd_graph.specs.TaskletMeaning.{meaning_of, one_value};
-ghost use Rattle.sd_tcode.specs.declared.op.array.Array.{Array};
-ghost use Rattle.sd_tcode.specs.op.Machine.{after_all, after_one, passed, combined, with_result, register, state_only};
+ghost use Rattle.sd_tcode.specs.op.Machine.{Held, after_all, after_one, passed, combined, with_result, register, state_only};
 ghost use Rattle.sd_tcode.specs.op.Within.{Room, IsWithin};
 ghost use Rattle.sd_tcode.specs.tcode.Compiled.{IsCodeOf, IsSafe, room_of};
 ghost use Rattle.sd_tcode.specs.tcode.Outputs.{output_effects};
@@ -86,7 +85,7 @@ impl Columns {
         requires wide { AreWide self.old }
         requires runs { count ≤ run_count self.old }
         ensures kept { AreKept self.old self.new }
-        ensures done { IsTrue result → (arrays : List Array) (run : ℕ) → run < count → after_one arrays op (state_of self.old run) ≡ Ok (state_of self.new run) }
+        ensures done { IsTrue result → (arrays : List Held) (run : ℕ) → run < count → after_one arrays op (state_of self.old run) ≡ Ok (state_of self.new run) }
         ensures passed { IsTrue result → (run : ℕ) → passed op (state_of self.old run) ≡ 0 }
     {
         match op {
@@ -188,7 +187,7 @@ impl Columns {
         requires wide { AreWide self.old }
         requires runs { count ≤ run_count self.old }
         ensures kept { AreKept self.old self.new }
-        ensures done { IsTrue result → (arrays : List Array) (run : ℕ) → run < count → state_only (after_all arrays 0 code.now.ops (state_of self.old run)) ≡ Ok (state_of self.new run) }
+        ensures done { IsTrue result → (arrays : List Held) (run : ℕ) → run < count → state_only (after_all arrays 0 code.now.ops (state_of self.old run)) ≡ Ok (state_of self.new run) }
         ensures safe { IsSafe code.now }
     {
         let ops = code.ops();
@@ -207,8 +206,8 @@ impl Columns {
         requires wide { AreWide self.old }
         requires runs { count ≤ run_count self.old }
         ensures kept { AreKept self.old self.new }
-        ensures meaning { IsTrue result → (tree : TaskletTree) (order : List ℕ) (arrays : List Array) (run : ℕ) → IsCodeOf tree code.now → code.now.plain ≡ Some order
-            → map (λ array. length array.extents.items) arrays ≡ code.now.dims → run < count
+        ensures meaning { IsTrue result → (tree : TaskletTree) (order : List ℕ) (arrays : List Held) (run : ℕ) → IsCodeOf tree code.now → code.now.plain ≡ Some order
+            → map (λ array. length array.extents) arrays ≡ code.now.dims → run < count
             → meaning_of tree (given_by code.now.layout.inputs (take (code.now.layout.inputs + code.now.layout.variables) (registers_of self.old run)) arrays)
             ≡ Ok (output_effects (λ connector. slice_index_or (registers_of self.new run) (code.now.layout.variables + connector) (pos 0)) order) }
     {

@@ -1,13 +1,12 @@
-ghost use Rattle.std.specs.Prelude.{◌≡◌, ◌^◌, ◌+◌, ◌≤◌, ◌<◌, length, take, pos, slice_set, slice_range, slice_index_or, Ok, OnErr, IfOk, if◌then◌else◌};
+ghost use Rattle.std.specs.Prelude.{◌≡◌, ◌^◌, ℕ, ◌+◌, ◌≤◌, ◌<◌, length, take, pos, slice_set, slice_range, slice_index_or, Ok, OnErr, IfOk, if◌then◌else◌};
 ghost use Rattle.sd_graph.specs.TaskletMeaning as meaning;
 ghost use Rattle.sd_tasklet.specs.tasklet.Kept as kept;
 ghost use Rattle.sd_tcode.specs.op.Machine.{State, after_one, passed, answered, extents_at, cell_of};
 ghost use Rattle.sd_tcode.specs.op.Within.{Room, IsWithin, kept_by};
-ghost use Rattle.sd_tcode.specs.op.Memory.{HasCells};
 
-use crate::op::array::{Array, element, is_at};
 use crate::op::log::Log;
 use crate::op::op::Op;
+use crate::op::source::Source;
 use sd_graph::{FaultKind, OneSign, TwoSign};
 use sd_tasklet::{Effect, filled, holds, one_value, two_values};
 
@@ -74,24 +73,24 @@ fn unless(compares: bool, count: u32) -> usize
 
 /// One instruction. Gives how many instructions are passed after it.
 #[inline(always)]
-pub(crate) fn step(
+pub(crate) fn step<S: Source>(
     op: Op,
-    arrays: &[Array],
+    source: &S,
     registers: &mut [i64],
     log: &mut Log,
 ) -> Result<usize, FaultKind>
     ghost room: { Room }
     requires within { IsWithin room op }
     requires registers { length registers.old ≡ room.registers }
-    requires connectors { length arrays.now ≡ room.connectors }
+    requires connectors { length (S.connectors source.now) ≡ room.connectors }
     requires inputs { room.inputs ≤ room.connectors }
-    requires cells { HasCells room.inputs arrays.now }
+    requires held { (connector : ℕ) → connector < room.inputs → S.is_held source.now connector }
     requires log { length log.old.0 + kept_by op ≤ log.old.1 }
     ensures many { length registers.new ≡ length registers.old }
     ensures given { take room.given registers.new ≡ take room.given registers.old }
     ensures slots { log.new.1 ≡ log.old.1 }
     ensures kept { length log.new.0 ≤ length log.old.0 + kept_by op }
-    ensures done { after_one arrays.now op (record { registers = registers.old; effects = log.old.0 }) ≡ answered result (record { registers = registers.new; effects = log.new.0 }) }
+    ensures done { after_one (S.connectors source.now) op (record { registers = registers.old; effects = log.old.0 }) ≡ answered result (record { registers = registers.new; effects = log.new.0 }) }
     ensures few { IfOk result (λ count. count < 2 ^ 32) }
     ensures passed { IfOk result (λ count. count ≡ passed op (record { registers = registers.old; effects = log.old.0 })) }
 {
@@ -137,7 +136,7 @@ pub(crate) fn step(
             connector,
             first,
         } => {
-            let value = element(arrays, connector, index_of(registers, first, dims))?;
+            let value = source.element(connector, index_of(registers, first, dims))?;
             registers[to as usize] = value;
         }
         Op::Inside {
@@ -145,7 +144,7 @@ pub(crate) fn step(
             connector,
             first,
         } => {
-            is_at(arrays, connector, index_of(registers, first, dims))?;
+            source.is_at(connector, index_of(registers, first, dims))?;
         }
         Op::Keep {
             dims,

@@ -1,4 +1,5 @@
 ghost use Rattle.std.specs.Prelude.{◌≡◌, ◌<◌, ◌^◌, length, map, IsTrue};
+ghost use Rattle.sd_graph.specs.TaskletMeaning.{extents_of_connector};
 ghost use Rattle.sd_tasklet.specs.tasklet.Given.{IsWhole};
 ghost use Rattle.sd_tcode.specs.tcode.Held.{IsFrameOf, IsReady, IsWholeAt, given, room_for, may_have};
 
@@ -53,13 +54,21 @@ impl Frame {
         self.room_at(connector as usize)
     }
 
+    /// The extents of the connector at a place.
+    fn extents_at(&self, place: usize) -> &[u64]
+        requires { place < length self.now.arrays.items }
+        ensures { result.now ≡ extents_of_connector (given self.now) place }
+    {
+        &self.arrays[place].extents
+    }
+
     /// Whether a connector may have these extents: as many as it has dimensions and, for an input, with
     /// room for as many elements as they multiply to.
     pub(crate) fn may_have(&self, connector: u32, extents: &[u64]) -> bool
         ensures { result ≡ may_have (given self.now) connector extents.now }
     {
         let place = connector as usize;
-        if place >= self.arrays.len() || extents.len() != self.arrays[place].extents.len() {
+        if place >= self.arrays.len() || extents.len() != self.extents_at(place).len() {
             return false;
         }
         place >= self.input_count() || has_room(extents, self.room_at(place))
@@ -91,7 +100,7 @@ impl Frame {
         ensures yes { IsTrue result → IsWholeAt (given self.now) connector }
         ensures no { IsWholeAt (given self.now) connector → IsTrue result }
     {
-        let extents = self.arrays[connector].extents.as_slice();
+        let extents = self.extents_at(connector);
         extents.len() <= 4
             && (connector >= self.input_count() || has_room(extents, self.room_at(connector)))
     }

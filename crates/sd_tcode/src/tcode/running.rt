@@ -3,13 +3,13 @@ ghost use Rattle.std.specs.List.{AllByRecursion};
 ghost use Rattle.sd_graph.specs.PlainTree.{TaskletTree};
 ghost use Rattle.sd_graph.specs.TaskletMeaning.{meaning_of};
 ghost use Rattle.sd_tasklet.specs.tasklet.Given.{IsWhole};
-ghost use Rattle.sd_tcode.specs.op.Machine.{after_all, state_only, answered};
+ghost use Rattle.sd_tcode.specs.op.Machine.{held, after_all, state_only, answered};
 ghost use Rattle.sd_tcode.specs.op.Within.{Room};
 ghost use Rattle.sd_tcode.specs.tcode.Outputs.{output_effects};
 ghost use Rattle.sd_tcode.specs.tcode.Compiled.{IsCodeOf, IsSafe, room_of};
 ghost use Rattle.sd_tcode.specs.tcode.Held.{IsFrameOf, IsReady, given, effects_of, output_of, kept_output};
 
-use crate::op::{Log, run_ops};
+use crate::op::{Log, Own, run_own_ops};
 use crate::tcode::code::Code;
 use crate::tcode::frame::Frame;
 use sd_graph::FaultKind;
@@ -22,16 +22,16 @@ fn run_code(code: &Code, frame: &mut Frame) -> Result<(), FaultKind>
     requires room { room ≡ room_of code.now }
     requires frame { IsFrameOf code.now frame.old }
     requires whole { IsWhole (given frame.old) }
-    ensures done { state_only (after_all frame.old.arrays.items 0 code.now.ops (record { registers = frame.old.registers.items; effects = [] })) ≡ answered result (record { registers = frame.new.registers.items; effects = frame.new.log.0 }) }
+    ensures done { state_only (after_all (map held frame.old.arrays.items) 0 code.now.ops (record { registers = frame.old.registers.items; effects = [] })) ≡ answered result (record { registers = frame.new.registers.items; effects = frame.new.log.0 }) }
     ensures arrays { frame.new.arrays.items ≡ frame.old.arrays.items }
     ensures given { given frame.new ≡ given frame.old }
     ensures frame { IsFrameOf code.now frame.new }
     ensures safe { IsSafe code.now }
 {
     frame.log.clear();
-    run_ops(
+    run_own_ops(
         &code.ops,
-        &frame.arrays,
+        &Own { all: &frame.arrays },
         &mut frame.registers,
         &mut frame.log,
     )

@@ -12,6 +12,6 @@ loop-at-preserved g c =
       given = done.given ∙ c.loop-at.invariant.given;
       slots = done.slots ∙ c.loop-at.invariant.slots;
       kept = omega (arith, kept, done.kept, c.loop-at.invariant.kept);
-      left = c.loop-at.invariant.left ∙ step_left c.args.arrays.now c.args.ops.now c.loop-at.at c.in_ok-passed.passed (Number 0 (pos 0))
+      left = c.loop-at.invariant.left ∙ step_left (g.S.Source.connectors c.args.source.now) c.args.ops.now c.loop-at.at c.in_ok-passed.passed (Number 0 (pos 0))
           (record { registers = c.loop-at.registers; effects = c.loop-at.log.0 }) (record { registers = c.step.new.registers; effects = c.step.new.log.0 }) c.loop-at-test.true done.done done.passed;
     }

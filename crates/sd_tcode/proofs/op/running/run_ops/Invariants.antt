@@ -13,7 +13,7 @@ invariant-loop-at g l = record {
   given : take g.room.given l.registers ≡ take g.room.given l.fn.registers;
   slots : l.log.1 ≡ l.fn.log.1;
   kept : length l.log.0 + most_kept (drop l.at l.ops) ≤ length l.fn.log.0 + most_kept l.ops;
-  left : state_only (after_all l.arrays 0 l.ops (record { registers = l.fn.registers; effects = l.fn.log.0 })) ≡ state_only (after_all l.arrays 0 (drop l.at l.ops) (record { registers = l.registers; effects = l.log.0 }));
+  left : state_only (after_all (g.S.Source.connectors l.source) 0 l.ops (record { registers = l.fn.registers; effects = l.fn.log.0 })) ≡ state_only (after_all (g.S.Source.connectors l.source) 0 (drop l.at l.ops) (record { registers = l.registers; effects = l.log.0 }));
 }
 
 abbrev pub decreases-loop-at : goal.decreases-loop-at

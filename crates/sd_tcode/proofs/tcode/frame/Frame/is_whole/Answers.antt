@@ -1,6 +1,6 @@
-use Rattle.std.proofs.Common.{◌+◌, take, length, arith}
+use Rattle.std.proofs.Common.{◌+◌, take, length, map, arith}
 use Rattle.std.proofs.lemmas.List.{length-map}
-use Rattle.sd_tcode.specs.declared.op.array.Array.{Array}
+use Rattle.sd_tcode.specs.op.Machine.{Held, held}
 use Rattle.sd_tcode.specs.tcode.Held.{given}
 use Rattle.sd_tcode.proofs.tcode_lemmas.Loads.{elements_many}
 use Rattle.sd_tcode.proofs.tcode_lemmas.Ready.{whole_by_place}
@@ -11,5 +11,5 @@ returns-clause-yes c is =
     let frame = c.args.self.now in
     let arrays = frame.arrays.items in
     let scalars = take frame.inputs (take (frame.inputs + frame.variables) frame.registers.items) in
-    whole_by_place (given frame) (length arrays) (omega (arith, elements_many arrays scalars)) (omega (arith, length-map arrays (λ (a : Array). a.extents.items)))
+    whole_by_place (given frame) (length arrays) (omega (arith, elements_many (map held arrays) scalars, length-map arrays held)) (omega (arith, length-map (map held arrays) (λ (a : Held). a.extents), length-map arrays held))
     (λ connector h. c.loop-connector.invariant connector (omega (arith, h, c.loop-connector-test.false, c.len-connector-end.ensures, frame.arrays.ok.0)))

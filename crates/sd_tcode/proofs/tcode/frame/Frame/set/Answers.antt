@@ -1,6 +1,7 @@
-use Rattle.std.proofs.Common.{◌+◌, ◌<◌, ◌∙◌, sym, subst, take, FitsSigned, arith, length-drop}
+use Rattle.std.proofs.Common.{◌+◌, ◌<◌, ◌∙◌, sym, subst, map, take, FitsSigned, arith, length-drop}
 use Rattle.std.proofs.lemmas.List.{length-take, length-set}
 use Rattle.sd_tasklet.specs.tasklet.Given.{IsWhole}
+use Rattle.sd_tcode.specs.op.Machine.{held}
 use Rattle.sd_tcode.specs.tcode.Held.{given}
 use Rattle.sd_tcode.proofs.tcode_lemmas.Ready.{variable_whole}
 use Rattle.std.specs.Int.{w64}
@@ -13,7 +14,7 @@ returns-clause-given c =
     let frame = c.args.self.now in
     let fits : FitsSigned w64 c.args.value = c.ranges.value in
     let low : frame.inputs + c.args.variable < frame.inputs + frame.variables = omega (arith, c.requires, length-drop frame.inputs (take (frame.inputs + frame.variables) frame.registers.items), length-take (frame.inputs + frame.variables) frame.registers.items) in
-    rw (to_z-of_z w64 c.args.value fits) (variable_given frame.inputs (frame.inputs + frame.variables) frame.registers.items frame.arrays.items c.args.variable c.args.value low)
+    rw (to_z-of_z w64 c.args.value fits) (variable_given frame.inputs (frame.inputs + frame.variables) frame.registers.items (map held frame.arrays.items) c.args.variable c.args.value low)
 
 pub returns-clause-ready : goal.returns-clause-ready
 returns-clause-ready c code is =
