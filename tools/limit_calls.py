@@ -31,16 +31,10 @@ class Call:
 
 Calls = Iterator[Call]
 CASES: list[Callable[[], Calls]] = []
-FAR: list[Callable[[], Calls]] = []
 
 
 def case(function: Callable[[], Calls]) -> Callable[[], Calls]:
     CASES.append(function)
-    return function
-
-
-def far(function: Callable[[], Calls]) -> Callable[[], Calls]:
-    FAR.append(function)
     return function
 
 

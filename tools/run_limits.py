@@ -8,8 +8,7 @@ output is written: each line is one write, and one of more than 4,096 bytes goes
 keep writes apart, a line says so, and bytes alone are compared. Standard error must be empty. Each call that differs has a line, and
 the last line is 'N passed, M failed'. The status is 0 where there are calls and none failed.
 
-With --far it runs a case too that wants more memory than it has: the program does not answer it as it should yet, since finished points
-keep their private arrays. With --times each call has a line with its seconds. A word more picks the calls in whose place it stands.
+With --times each call has a line with its seconds. A word more picks the calls in whose place it stands.
 """
 from __future__ import annotations
 
@@ -26,7 +25,7 @@ from threading import Timer
 import limit_cases  # noqa: F401
 import limit_shapes  # noqa: F401
 import limit_sources  # noqa: F401
-from limit_calls import CASES, FAR, Call
+from limit_calls import CASES, Call
 
 TOP = Path(__file__).resolve().parent.parent
 SDFG = TOP / "sdfg"
@@ -111,7 +110,6 @@ def told(call: Call, status: int, found: list[bytes], error: bytes) -> str:
 
 def main() -> int:
     words = argparse.ArgumentParser(description=__doc__, formatter_class=argparse.RawDescriptionHelpFormatter)
-    words.add_argument("--far", action="store_true", help="run the case too that wants more memory than it has")
     words.add_argument("--times", action="store_true", help="show how long each call took")
     words.add_argument("words", nargs="*", metavar="WORD", help="run the calls in whose place each of these stands")
     words = words.parse_args()
@@ -133,7 +131,7 @@ def main() -> int:
                     print(f"{call.place}: {what or f'{time.monotonic() - begin:.2f} s'}", flush=True)
 
     with ThreadPoolExecutor(os.cpu_count()) as workers:
-        for _ in workers.map(run, [*CASES, *(FAR if words.far else [])]):
+        for _ in workers.map(run, CASES):
             pass
     passed, failed = counts if any(counts) else (0, 1)
     print(f"{passed} passed, {failed} failed")

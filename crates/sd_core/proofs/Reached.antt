@@ -10,7 +10,9 @@ use Rattle.sd_graph.specs.declared.place.Place.{Place}
 use Rattle.sd_seq.specs.declared.run_end.RunEnd.{RunEnd}
 use Rattle.sd_seq.specs.RunEnd.{outcome_of}
 use Rattle.sd_core.specs.declared.run.Chosen.{Chosen}
+use Rattle.sd_core.specs.Released.{IsReleased}
 use Rattle.sd_core.specs.Stepped.{place_by, StopsAs, IsStepEnd}
+use Rattle.sd_core.proofs.released_lemmas.Runs.{run-released, trace-released}
 
 -- ---- lists
 
@@ -118,6 +120,14 @@ reached-begin picks from = record { runs = λ looks. ap (λ (n : ℕ). run n pic
 
 pub told-begin : (picks : List ℕ) (from : Machine Place) → IsTold picks 0 from from []
 told-begin picks from = record { traces = λ looks. ap (λ (n : ℕ). traced n picks from) (no-steps looks) }
+
+-- on from a machine in which something was let go
+module _ (picks : List ℕ) (count : ℕ) (from now next : Machine Place) (released : IsReleased now.term next.term) (turns : next.turns ≡ now.turns) where
+  pub reached-released : IsReached picks count from now → IsReached picks count from next
+  reached-released reached = record { runs = λ looks. reached.runs looks ∙ sym (run-released looks (drop count picks) now next released turns) }
+
+  pub told-released : (trace : List (ℕ × ℕ)) → IsTold picks count from now trace → IsTold picks count from next trace
+  told-released trace is_told = record { traces = λ looks. is_told.traces looks ∙ ap (λ (rest : List (ℕ × ℕ)). trace ++ rest) (sym (trace-released looks (drop count picks) now next released turns)) }
 
 module _ (picks : List ℕ) (count : ℕ) (from now : Machine Place) where
   pub reached-over : length (next_moves now) ≡ 0 → IsReached picks count from now → run (count + 1) picks from ≡ Some (end_at now)

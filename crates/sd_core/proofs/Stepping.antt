@@ -35,8 +35,11 @@ use Rattle.sd_left.proofs.left_lemmas.Showing.{run-shows-all}
 use Rattle.sd_fire.specs.advance.Right.{IsRunFired}
 use Rattle.sd_core.specs.declared.stepped.Stepped.TheVariants as answers
 use Rattle.sd_core.specs.Kept.{Kept, machine_of, term_of, IsRunKept, IsKeptBy, IsSound}
+use Rattle.sd_core.specs.Released.{IsReleased, same}
+use Rattle.sd_core.specs.release.Changed.{IsRunReleased}
 use Rattle.sd_core.specs.Stepped.{place_by, IsStepped}
 use Rattle.sd_core.proofs.Machines.{with_turns, picked-below, picked-place}
+use Rattle.sd_core.proofs.released_lemmas.Runs.{formed-released}
 
 -- ---- next moves
 
@@ -171,3 +174,31 @@ module _ (old : Kept) (run : Run) (is : old.run ≡ Some run) (sound : IsSound o
 
       pub goes-on : (count : ℕ) → count ≡ (run_tells left).moves → 0 < count → IsStepped (machine_of old) pick answers.Moved (machine_of new)
       goes-on count counted more = record { comes = goes; next = subst (λ (n : ℕ). 0 < n) (counted ∙ moves-behind) more }
+
+-- ---- what was let go
+
+module _ (old : Kept) (run left : Run) (is : old.run ≡ Some run) (sound : IsSound old) (releases : (run_tells run).is_right ≡ true → IsRunReleased run left) where
+  abbrev after_it : Kept
+  after_it = record { graph = old.graph; base = old.base; run = Some left; stack = old.stack }
+
+  pub term-released : IsReleased (machine_of old).term (machine_of after_it).term
+  term-released =
+      let tree = graph_tree old.graph in
+      subst (λ (kept : Option Run). IsReleased (term_of tree old.base kept old.stack) (term_of tree old.base (Some left) old.stack)) (sym is)
+      ((releases (kept-run old run is sound).right).released tree (opening_reach (containers_of tree) old.base) old.base.around)
+
+  pub sound-released : IsSound after_it
+  sound-released =
+      let kept = kept-run old run is sound in
+      let done = releases kept.right in
+      record {
+        run = record { right = done.right; counted = done.counted [] kept.counted; memories = kept.memories };
+        formed = formed-released (machine_of old) (machine_of after_it) term-released sound.formed;
+      }
+
+-- a machine that keeps no run has nothing to let go
+pub nothing-released : (old new : Kept) → old.run ≡ None → new.run ≡ None → old.stack ≡ new.stack → IsReleased (machine_of old).term (machine_of new).term
+nothing-released old new none none_too stack =
+    subst (λ (kept : Option Run). IsReleased (term_of (graph_tree old.graph) old.base kept old.stack) (machine_of new).term) (sym none)
+    (subst (λ (kept : Option Run). IsReleased (term_of (graph_tree old.graph) old.base None old.stack) (term_of (graph_tree new.graph) new.base kept new.stack)) (sym none_too)
+    (subst (λ (now : Reached). IsReleased (term_of (graph_tree old.graph) old.base None old.stack) (term_of (graph_tree new.graph) new.base None now)) stack same))

@@ -2,3 +2,5 @@ pub mod Kept
 pub mod Stepped
 pub mod Traced
 pub mod Interleaving
+pub mod Released
+pub mod release

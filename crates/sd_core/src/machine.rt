@@ -1,12 +1,14 @@
-ghost use Rattle.std.specs.Prelude.{◌≡◌, ◌<◌, ◌↔◌, [], zero, length, true, IfOk, OnErr};
+ghost use Rattle.std.specs.Prelude.{◌≡◌, ◌<◌, ◌↔◌, [], zero, length, true, IfOk, OnOk, OnErr};
 ghost use Rattle.sd_work.specs.Residual.{finished};
 ghost use Rattle.sd_work.specs.Step.{opening, next_moves};
 ghost use Rattle.sd_work.specs.Run.{memory_of};
 ghost use Rattle.sd_graph.specs.TreeFold.{graph_tree};
 ghost use Rattle.sd_graph.specs.Unfold.{run_of};
 ghost use Rattle.sd_core.specs.Kept.{machine_of};
+ghost use Rattle.sd_core.specs.Released.{IsReleased};
 ghost use Rattle.sd_core.specs.Stepped.{IsStepped};
 
+use crate::release::release_run;
 use crate::stepped::Stepped;
 use sd_fire::{begin_run, fire_run, settle_run};
 use sd_graph::{Bound, Sdfg};
@@ -24,6 +26,8 @@ pub struct Machine<'a> {
     graph: &'a Sdfg,
     base: Base,
     run: Option<Run>,
+    /// Where the last move was.
+    place: Vec<usize>,
     /// Of memories it has none between steps.
     stack: Stack,
 }
@@ -64,6 +68,7 @@ impl<'a> Machine<'a> {
             graph,
             base,
             run: Some(run),
+            place: Vec::new(alloc),
             stack,
         })
     }
@@ -105,10 +110,26 @@ impl<'a> Machine<'a> {
         settle_run(alloc, &mut run, &mut self.stack)?;
         let left = moves_of_run(&run);
         self.run = Some(run);
+        self.place = place;
         if left == 0 {
             return Ok(Stepped::Done);
         }
         Ok(Stepped::Moved)
+    }
+
+    /// Lets go of what the point or element holds that the last step finished: its private containers, and all that is kept of its
+    /// items. Nothing looks at it any more. One in which a consume scope is open keeps all.
+    pub fn release(&mut self, alloc: Global) -> Result<(), NoMemory>
+        ensures released { OnOk result (IsReleased (machine_of self.old).term (machine_of self.new).term) }
+        ensures turns { (machine_of self.new).turns ≡ (machine_of self.old).turns }
+        ensures wanted { OnErr result (next_moves (machine_of self.new) ≡ []) }
+    {
+        let Some(mut run) = self.run.take() else {
+            return Ok(());
+        };
+        release_run(alloc, &mut run, self.place.as_slice())?;
+        self.run = Some(run);
+        Ok(())
     }
 
     /// How many turns are left.

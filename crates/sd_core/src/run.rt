@@ -76,6 +76,7 @@ pub fn run_traced(
         if let Some(end) = found {
             return Ok(TracedRun { end, trace });
         }
+        machine.release(alloc)?;
     }
     // So many steps count as want of memory.
     Err(NoMemory)
@@ -100,6 +101,7 @@ fn run_by(
         if let Some(end) = end_by(alloc, &mut machine, pick)? {
             return Ok(end);
         }
+        machine.release(alloc)?;
     }
     // So many steps count as want of memory.
     Err(NoMemory)

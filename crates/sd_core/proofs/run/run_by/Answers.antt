@@ -8,7 +8,7 @@ use Rattle.sd_graph.specs.declared.place.Place.{Place}
 use Rattle.sd_seq.specs.declared.run_end.RunEnd.{RunEnd}
 use Rattle.sd_core.specs.Kept.{machine_of}
 use Rattle.sd_core.specs.Stepped.{place_by, IsStepEnd}
-use Rattle.sd_core.proofs.Reached.{goes-on, reached-over, reached-more, reached-stop}
+use Rattle.sd_core.proofs.Reached.{goes-on, reached-over, reached-more, reached-released, reached-stop}
 use Rattle.sd_core.proofs.run.run_by.Goals as goal
 
 pub returns-then-moves-eq0 : goal.returns-then-moves-eq0
@@ -34,5 +34,7 @@ loop-number-preserved c =
     let from = opening (run_of (graph_tree c.args.bound.now.graph) c.args.memory.contents) c.args.turns in
     let now = machine_of c.loop-number.machine in
     let pick = c.pick_at-pick.result in
-    reached-more c.args.picks.now c.loop-number.number from now pick c.pick_at-pick.ensures (omega (arith, c.moves.ensures.moves, c.if-moves-eq0.false)) (machine_of c.end_by.new.machine)
-    (goes-on (step (place_by pick now) now) (machine_of c.end_by.new.machine) c.in_ok-end.field-0 c.in_default.not-Some c.in_ok-end.ensures) c.loop-number.invariant
+    let next = machine_of c.end_by.new.machine in
+    reached-released c.args.picks.now (c.loop-number.number + 1) from next (machine_of c.release.new.self) c.in_ok-release.ensures.released c.release.ensures.turns
+    (reached-more c.args.picks.now c.loop-number.number from now pick c.pick_at-pick.ensures (omega (arith, c.moves.ensures.moves, c.if-moves-eq0.false)) next
+    (goes-on (step (place_by pick now) now) next c.in_ok-end.field-0 c.in_default.not-Some c.in_ok-end.ensures) c.loop-number.invariant)

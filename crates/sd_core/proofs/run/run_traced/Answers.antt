@@ -8,7 +8,7 @@ use Rattle.sd_graph.specs.declared.place.Place.{Place}
 use Rattle.sd_seq.specs.declared.run_end.RunEnd.{RunEnd}
 use Rattle.sd_core.specs.Kept.{machine_of}
 use Rattle.sd_core.specs.Stepped.{place_by, IsStepEnd}
-use Rattle.sd_core.proofs.Reached.{pair_of, IsTold, written, goes-on, reached-over, told-over, reached-more, told-more, reached-stop, told-stop}
+use Rattle.sd_core.proofs.Reached.{pair_of, IsTold, written, goes-on, reached-over, told-over, reached-more, told-more, reached-released, told-released, reached-stop, told-stop}
 use Rattle.sd_core.proofs.run.run_traced.Goals as goal
 
 pub returns-then-moves-eq0 : goal.returns-then-moves-eq0
@@ -45,10 +45,15 @@ loop-count-preserved c =
     let pick = c.pick_at-pick.result in
     let some : 0 < length (next_moves now) = omega (arith, c.moves-moves.ensures.moves, c.if-moves-eq0.false) in
     let made = goes-on (step (place_by pick now) now) next c.in_ok-found.found c.in_default.not-Some c.in_ok-found.ensures in
+    let count = c.loop-count.count + 1 in
+    let left = machine_of c.release.new.self in
+    let released = c.in_ok-release.ensures.released in
+    let turns = c.release.ensures.turns in
     record {
-      reached = reached-more c.args.picks.now c.loop-count.count from now pick c.pick_at-pick.ensures some next made c.loop-count.invariant.reached;
+      reached = reached-released c.args.picks.now count from next left released turns (reached-more c.args.picks.now c.loop-count.count from now pick c.pick_at-pick.ensures some next made c.loop-count.invariant.reached);
       told =
-          subst (λ (trace : List (ℕ × ℕ)). IsTold c.args.picks.now (c.loop-count.count + 1) from next trace)
+          subst (λ (trace : List (ℕ × ℕ)). IsTold c.args.picks.now count from left trace)
           (sym (written c.loop-count.trace.items c.push.new.self.items pick c.moves-moves.result (length (next_moves now)) c.in_ok-push.ensures.items c.moves-moves.ensures.moves))
-          (told-more c.args.picks.now c.loop-count.count from now pick c.pick_at-pick.ensures some next made (map pair_of c.loop-count.trace.items) c.loop-count.invariant.told);
+          (told-released c.args.picks.now count from next left released turns _
+          (told-more c.args.picks.now c.loop-count.count from now pick c.pick_at-pick.ensures some next made (map pair_of c.loop-count.trace.items) c.loop-count.invariant.told));
     }

@@ -1,0 +1,4 @@
+pub mod Moves
+pub mod Fires
+pub mod Settles
+pub mod Runs
