@@ -1,44 +1,43 @@
 -- Items, owners and runs, one level deeper.
-use Rattle.std.proofs.Common.{◌≡◌, ℕ, List, [], ◌∷◌, length, nat_eq, Bool, true, false, not, cond, ◌&&◌, ◌||◌, refl, sym, ap, ap₂, ◌∙◌, subst, Box}
+use Rattle.std.proofs.Common.{◌≡◌, ℕ, [], length, nat_eq, Bool, true, false, not, ◌&&◌, ◌||◌, refl, sym, ap, ap₂, ◌∙◌, subst, Box}
 use Rattle.std.specs.declared.alloc.Global.{Global}
 use Rattle.sd_work.specs.Memory.{Memory, Memories, waiting}
 use Rattle.sd_work.specs.Exit.{Values}
-use Rattle.sd_work.specs.Residual.{Items, Points, Term, list, pool, owning, nested, finished}
-use Rattle.sd_graph.specs.PlainTree.{KindTree, ItemTrees, no_item, GraphTree}
-use Rattle.sd_graph.specs.Context.{Context, Reach}
+use Rattle.sd_work.specs.Residual.{Points, list, pool, owning, nested}
+use Rattle.sd_graph.specs.PlainTree.{KindTree, no_item}
+use Rattle.sd_graph.specs.Context.{Context}
 use Rattle.sd_graph.specs.TreeParts.{states_of_graph, items_at}
 use Rattle.sd_graph.specs.Unfold.{order_of_points}
-use Rattle.sd_graph.specs.declared.place.Frame.{Frame}
 use Rattle.sd_mem.specs.machine.Coming.{state_context, state_term, exits_of}
 use Rattle.sd_mem.specs.declared.machine.address.Station.{Station}
-use Rattle.sd_left.specs.tree.Standing.{BodyLeft, RunLeft, first_kind, element_term, body_left, parts_left, points_left, active_left, run_going, run_left}
+use Rattle.sd_left.specs.tree.Standing.{BodyLeft, RunLeft, first_kind, element_term, body_left, points_left, active_left, run_left}
 use Rattle.sd_left.specs.declared.left.left.Left as shape
 use Rattle.sd_left.specs.declared.left.left.Left.{Left as LeftNow}
 use Rattle.sd_left.specs.declared.left.left.Bodies.{Bodies as BodiesNow}
 use Rattle.sd_left.specs.declared.left.left.Body.{Body as BodyNow}
 use Rattle.sd_left.specs.declared.left.left.Run.{Run as RunNow}
 use Rattle.sd_left.specs.declared.left.left.Left.TheOpen.{Run-F}
-use Rattle.sd_left.specs.declared.left.left.Left.TheViews.{out-Body, out-Run, roll-Run, out-roll-Run}
+use Rattle.sd_left.specs.declared.left.left.Left.TheViews.{out-Run, roll-Run, out-roll-Run}
 use Rattle.sd_left.specs.declared.sparse.point.Tasks.{Tasks}
 use Rattle.sd_left.specs.declared.sparse.stretch.Stretch.{Stretch}
 use Rattle.sd_left.specs.sparse.Stretch.{points_in, is_told, is_summed, stretch_tells}
 use Rattle.sd_left.specs.sparse.Terms.{bodies_at}
 use Rattle.sd_left.specs.left.Kept.{left_of, bodies_kept, body_kept, run_kept}
-use Rattle.sd_left.specs.left.Waits.{is_counted, are_bodies_counted, is_body_counted, is_run_counted}
+use Rattle.sd_left.specs.left.Waits.{is_counted, are_bodies_counted, is_body_counted}
 use Rattle.sd_left.specs.left.Telling.{Telling}
 use Rattle.sd_left.specs.left.Tells.{tells, bodies_tell, body_tells, run_tells}
-use Rattle.sd_left.proofs.left_lemmas.Rolls.{points_is, sparse_is, pool_is, nested_is, body_opened, run_opened}
+use Rattle.sd_left.proofs.left_lemmas.Rolls.{points_is, sparse_is, pool_is, nested_is, run_opened}
 use Rattle.sd_left.proofs.left_lemmas.WaitRolls.{points_counted, pool_counted, nested_counted, run_counted}
-use Rattle.sd_left.proofs.left_lemmas.TellRolls.{points_tell, sparse_tells, pool_tells, nested_tells, run_told}
+use Rattle.sd_left.proofs.left_lemmas.TellRolls.{points_tell, sparse_tells, pool_tells, nested_tells}
 use Rattle.sd_left.proofs.left_lemmas.Sameness.{both-true, both-are}
 use Rattle.sd_left.proofs.left_lemmas.Showing.{left-shows, body-shows-all}
 use Rattle.sd_left.proofs.pool_free_left_lemmas.Waiting.{left-waits}
 use Rattle.sd_fire.proofs.advance_lemmas.Runs.{run_rolled}
-use Rattle.sd_fire.proofs.fire_lemmas.Runs.{run_right, run_over}
+use Rattle.sd_fire.proofs.fire_lemmas.Runs.{run_right}
 use Rattle.sd_fire.proofs.settle_lemmas.Trees.{nowhere}
-use Rattle.sd_core.specs.Released.{IsReleased, same, let_go, in_list, in_owner, in_run, in_pool, AreReleased, AreActiveReleased}
+use Rattle.sd_core.specs.Released.{IsReleased, same, let_go, in_list, in_owner, in_run, in_pool}
 use Rattle.sd_core.specs.release.Changed.{IsLeftReleased, AreBodiesReleased, AreSparseReleased, AreItemsReleased, IsOwnerReleased, IsRunReleased}
-use Rattle.sd_core.proofs.release_lemmas.Lists.{work-changed, work_of}
+use Rattle.sd_core.proofs.release_lemmas.Lists.{work-changed}
 
 abbrev is-right : Telling → Bool
 is-right telling = telling.is_right
@@ -106,6 +105,7 @@ module _ (left : LeftNow) (right : (tells left).is_right ≡ true) where
             ∙ held-on closed values (are_bodies_counted old memories) (are_bodies_counted new memories) (done.counted memories) (sym (held_by (shape.Pool stream old kept closed) memories is ∙ pool_counted memories stream old kept closed) ∙ held);
         right = ap is-right (pool_tells stream new kept closed) ∙ done.right;
       }
+
   pub nested-released : (old new : Box RunNow Global) → left ≡ shape.Nested old → ((run_tells old.value).is_right ≡ true → IsRunReleased old.value new.value) → IsLeftReleased left (shape.Nested new)
   nested-released old new is releases =
       let run = releases (right_of (shape.Nested old) (run_tells old.value) is (nested_tells old)) in

@@ -1,10 +1,9 @@
 -- Points, elements and items of which one has let go of what it held.
-use Rattle.std.proofs.Common.{◌≡◌, ℕ, zero, suc, ◌<◌, ℤ, List, [], ◌∷◌, length, map, get_or, slice_set, Bool, true, ◌&&◌, refl, sym, ap, ap₂, ◌∙◌, subst, arith}
+use Rattle.std.proofs.Common.{◌≡◌, ℕ, zero, suc, ◌<◌, ℤ, List, [], ◌∷◌, length, map, get_or, slice_set, Bool, true, refl, sym, ap, ap₂, ◌∙◌, subst, arith}
 use Rattle.sd_work.specs.Memory.{Memory, Memories}
 use Rattle.sd_work.specs.Residual.{Items, Term, list, owning, Terms, none, also, Actives, idle, busy}
 use Rattle.sd_graph.specs.PlainTree.{KindTree, ItemTrees}
 use Rattle.sd_graph.specs.Context.{Context}
-use Rattle.sd_graph.specs.declared.place.Place.{Place}
 use Rattle.sd_order.specs.table.Told.{told}
 use Rattle.sd_left.specs.tree.Standing.{ItemLeft, BodyLeft, first_line, first_kind, others, body_of, point_inside, element_inside, value_at, body_left, parts_left, point_left, points_left, element_left, active_left}
 use Rattle.sd_left.specs.declared.left.left.Left.{Left as LeftNow}

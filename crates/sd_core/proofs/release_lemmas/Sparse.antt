@@ -1,5 +1,5 @@
 -- Points of a map of tasklets of which one has let go of what it held.
-use Rattle.std.proofs.Common.{◌≡◌, ℕ, zero, suc, ◌+◌, ◌<◌, ◌≤◌, List, [], ◌∷◌, length, map, get_or, slice_set, drop, Some, None, Ok, Bool, true, false, ◌&&◌, refl, sym, ap, ap₂, ◌∙◌, subst, arith}
+use Rattle.std.proofs.Common.{◌≡◌, ℕ, zero, suc, ◌+◌, ◌<◌, List, [], ◌∷◌, length, map, get_or, slice_set, Some, None, Ok, true, refl, sym, ap, ◌∙◌, subst, arith}
 use Rattle.std.specs.declared.option.Option.{Option}
 use Rattle.sd_work.specs.Leaf.{Evaluation, is_done}
 use Rattle.sd_work.specs.Residual.{Items, list, owning, all_finished}
@@ -18,7 +18,7 @@ use Rattle.sd_left.specs.declared.sparse.stretch.Stretch.{Stretch}
 use Rattle.sd_left.specs.sparse.Stretch.{points_in, is_summed}
 use Rattle.sd_left.specs.sparse.Terms.{point_numbers, task_left, own_at, body_at, placed_from, bodies_at}
 use Rattle.sd_left.proofs.sparse_lemmas.Placed.{placed-at, placed-long}
-use Rattle.sd_core.specs.Released.{IsReleased, AreReleased, let_go}
+use Rattle.sd_core.specs.Released.{IsReleased, let_go}
 use Rattle.sd_core.specs.release.Finished.{is_over, are_over}
 use Rattle.sd_core.specs.release.Changed.{AreSparseReleased}
 use Rattle.sd_core.proofs.release_lemmas.Lists.{points-put, same-parts, parts-changed}
@@ -90,20 +90,3 @@ sparse-over tasks old new number over none is now summed =
 
 pub sparse-stays : (tasks : Tasks) (points : Stretch) → is_summed tasks points ≡ true → AreSparseReleased tasks points points
 sparse-stays tasks points summed = record { released = λ kind context. same-parts (points_left (bodies_at tasks (points_in points) kind context) kind context); summed = summed }
-
--- ---- tasklets, one after another
-
-over-next : (tasks : List Instance) (index : ℕ) (task : Instance) → index < length tasks → task ≡ get_or tasks index task → are_over (drop index tasks) ≡ (is_done (instance_left (λ values. Ok []) task) && are_over (drop (index + 1) tasks))
-over-next [] index task within is = absurd (omega (arith, within))
-over-next (first ∷ tasks) zero task within is =
-    let next : 1 ≡ 0 + 1 = omega arith in
-    ap (λ (one : Instance). is_done (instance_left (λ values. Ok []) one) && are_over tasks) (sym is) ∙ ap (λ (n : ℕ). is_done (instance_left (λ values. Ok []) task) && are_over (drop n (first ∷ tasks))) next
-over-next (first ∷ tasks) (suc index) task within is =
-    let later : suc (index + 1) ≡ suc index + 1 = omega arith in
-    over-next tasks index task (omega (arith, within)) is ∙ ap (λ (n : ℕ). is_done (instance_left (λ values. Ok []) task) && are_over (drop n (first ∷ tasks))) later
-
-pub over-here : (tasks : List Instance) (index : ℕ) (task : Instance) → index < length tasks → task ≡ get_or tasks index task → is_done (instance_left (λ values. Ok []) task) ≡ false → are_over (drop index tasks) ≡ false
-over-here tasks index task within is not_done = over-next tasks index task within is ∙ ap (λ (done : Bool). done && are_over (drop (index + 1) tasks)) not_done
-
-pub over-on : (tasks : List Instance) (index : ℕ) (task : Instance) → index < length tasks → task ≡ get_or tasks index task → is_done (instance_left (λ values. Ok []) task) ≡ true → are_over (drop index tasks) ≡ are_over (drop (index + 1) tasks)
-over-on tasks index task within is done = over-next tasks index task within is ∙ ap (λ (done : Bool). done && are_over (drop (index + 1) tasks)) done

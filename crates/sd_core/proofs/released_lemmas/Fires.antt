@@ -1,11 +1,11 @@
 -- A next move of work in which something was let go is that of the work that has kept all.
-use Rattle.std.proofs.Common.{◌≡◌, ℕ, zero, suc, ◌+◌, ◌-◌, ◌<◌, ◌≤◌, ℤ, List, [], ◌∷◌, Option, Some, None, Bool, true, false, cond, nat_lt, slice_get, length, refl, sym, ap, ◌∙◌, subst, arith}
+use Rattle.std.proofs.Common.{◌≡◌, ℕ, suc, ◌+◌, ◌-◌, ◌<◌, ◌≤◌, ℤ, List, [], ◌∷◌, Option, Some, None, Bool, true, false, cond, nat_lt, slice_get, refl, sym, ap, ◌∙◌, subst, arith}
 use Rattle.std.proofs.lemmas.Bool.{ltb-true, ltb-false}
 use Rattle.sd_work.specs.Memory.{Memory, Memories, waiting}
-use Rattle.sd_work.specs.Change.{Change, outer, own_after, take}
-use Rattle.sd_work.specs.Move.{Fault, Move, fails, goes, no_move, map_move}
+use Rattle.sd_work.specs.Change.{own_after}
+use Rattle.sd_work.specs.Move.{Move, fails, goes, no_move, map_move}
 use Rattle.sd_work.specs.Exit.{Values, Exit, first_exit}
-use Rattle.sd_work.specs.Residual.{Term, list, owning, nested, pool, Terms, none, also, Actives, idle, busy, finished, flags_of, is_ready}
+use Rattle.sd_work.specs.Residual.{Term, list, owning, nested, pool, Terms, also, Actives, busy, finished, flags_of, is_ready}
 use Rattle.sd_work.specs.Moves.{Path}
 use Rattle.sd_work.specs.Fire.{owned, transition, and_last, take_move, fire, fire_part, fire_active}
 use Rattle.sd_moves.specs.numbered.Counts.{count, count_parts, count_active}
@@ -118,11 +118,11 @@ mutual
       by-count (λ (path : Path). LeavesSo IsReleased (fire (pool level container body active false) path memories) (fire (pool level container body others false) path memories)) move (count_active active memories)
       (1 ∷ place_in_active 0 active memories move) (λ position. 0 ∷ position ∷ [])
       (λ here.
-          let found = active-fire 0 memories move changed here in
-          let first : 0 + found.0 ≡ found.0 = omega arith in
-          subst (λ (path : Path). LeavesSo IsReleased (fire (pool level container body active false) (1 ∷ path) memories) (fire (pool level container body others false) (1 ∷ path) memories)) (sym (found.2 ∙ ap (λ (n : ℕ). n ∷ found.1) first))
-          (leaves-mapped AreActiveReleased IsReleased (λ left. pool level container body left false) (λ left. pool level container body left false) (fire_active active found.0 found.1 memories) (fire_active others found.0 found.1 memories)
-          (λ left other so. in_pool so) found.3))
+      let found = active-fire 0 memories move changed here in
+      let first : 0 + found.0 ≡ found.0 = omega arith in
+      subst (λ (path : Path). LeavesSo IsReleased (fire (pool level container body active false) (1 ∷ path) memories) (fire (pool level container body others false) (1 ∷ path) memories)) (sym (found.2 ∙ ap (λ (n : ℕ). n ∷ found.1) first))
+      (leaves-mapped AreActiveReleased IsReleased (λ left. pool level container body left false) (λ left. pool level container body left false) (fire_active active found.0 found.1 memories) (fire_active others found.0 found.1 memories)
+      (λ left other so. in_pool so) found.3))
       (λ behind. take-released level container body active others false (move - count_active active memories) (slice_get (waiting level container memories) (move - count_active active memories)) changed)
 
   parts-fire : {P : Type 0} {old new : Terms P} (before : ℕ → ℕ → Bool) (flags : List Bool) (start : ℕ) (memories : Memories) (move : ℕ) → AreReleased old new → move < count_parts before flags start old memories
@@ -132,16 +132,22 @@ mutual
       let few = cond (is_ready before flags start) (count part memories) 0 in
       by-count (λ (path : Path). LeavePartsSo start path (also part parts) (also other others) memories) move few (start ∷ place_of part memories move) (place_in_parts before flags (suc start) parts memories)
       (λ here.
-          let first : start ≡ start + 0 = omega arith in
-          let inner = place_of part memories move in
-          (0, inner, ap (λ (n : ℕ). n ∷ inner) first,
-          leaves-mapped IsReleased AreReleased (λ left. also left parts) (λ left. also left others) (fire part inner memories) (fire other inner memories) (λ left next so. each_part so rest)
-          (fires-released memories move changed (below-ready (is_ready before flags start) move (count part memories) here))))
+      let first : start ≡ start + 0 = omega arith in
+      let inner = place_of part memories move in (
+        0,
+        inner,
+        ap (λ (n : ℕ). n ∷ inner) first,
+        leaves-mapped IsReleased AreReleased (λ left. also left parts) (λ left. also left others) (fire part inner memories) (fire other inner memories) (λ left next so. each_part so rest)
+            (fires-released memories move changed (below-ready (is_ready before flags start) move (count part memories) here)),
+      ))
       (λ behind.
-          let found = parts-fire before flags (suc start) memories (move - few) rest (omega (arith, below, behind)) in
-          let next : suc start + found.0 ≡ start + suc found.0 = omega arith in
-          (suc found.0, found.1, found.2 ∙ ap (λ (n : ℕ). n ∷ found.1) next,
-          leaves-mapped AreReleased AreReleased (also part) (also other) (fire_part parts found.0 found.1 memories) (fire_part others found.0 found.1 memories) (λ left others so. each_part changed so) found.3))
+      let found = parts-fire before flags (suc start) memories (move - few) rest (omega (arith, below, behind)) in
+      let next : suc start + found.0 ≡ start + suc found.0 = omega arith in (
+        suc found.0,
+        found.1,
+        found.2 ∙ ap (λ (n : ℕ). n ∷ found.1) next,
+        leaves-mapped AreReleased AreReleased (also part) (also other) (fire_part parts found.0 found.1 memories) (fire_part others found.0 found.1 memories) (λ left others so. each_part changed so) found.3,
+      ))
 
   active-fire : {P : Type 0} {old new : Actives P} (start : ℕ) (memories : Memories) (move : ℕ) → AreActiveReleased old new → move < count_active old memories
       → LeaveActiveSo start (place_in_active start old memories move) old new memories
@@ -150,13 +156,19 @@ mutual
       let few = count part memories in
       by-count (λ (path : Path). LeaveActiveSo start path (busy value part active) (busy value other others) memories) move few (start ∷ place_of part memories move) (place_in_active (suc start) active memories)
       (λ here.
-          let first : start ≡ start + 0 = omega arith in
-          let inner = place_of part memories move in
-          (0, inner, ap (λ (n : ℕ). n ∷ inner) first,
-          leaves-mapped IsReleased AreActiveReleased (λ left. busy value left active) (λ left. busy value left others) (fire part inner memories) (fire other inner memories) (λ left next so. each_active so rest)
-          (fires-released memories move changed here)))
+      let first : start ≡ start + 0 = omega arith in
+      let inner = place_of part memories move in (
+        0,
+        inner,
+        ap (λ (n : ℕ). n ∷ inner) first,
+        leaves-mapped IsReleased AreActiveReleased (λ left. busy value left active) (λ left. busy value left others) (fire part inner memories) (fire other inner memories) (λ left next so. each_active so rest)
+            (fires-released memories move changed here),
+      ))
       (λ behind.
-          let found = active-fire (suc start) memories (move - few) rest (omega (arith, below, behind)) in
-          let next : suc start + found.0 ≡ start + suc found.0 = omega arith in
-          (suc found.0, found.1, found.2 ∙ ap (λ (n : ℕ). n ∷ found.1) next,
-          leaves-mapped AreActiveReleased AreActiveReleased (busy value part) (busy value other) (fire_active active found.0 found.1 memories) (fire_active others found.0 found.1 memories) (λ left others so. each_active changed so) found.3))
+      let found = active-fire (suc start) memories (move - few) rest (omega (arith, below, behind)) in
+      let next : suc start + found.0 ≡ start + suc found.0 = omega arith in (
+        suc found.0,
+        found.1,
+        found.2 ∙ ap (λ (n : ℕ). n ∷ found.1) next,
+        leaves-mapped AreActiveReleased AreActiveReleased (busy value part) (busy value other) (fire_active active found.0 found.1 memories) (fire_active others found.0 found.1 memories) (λ left others so. each_active changed so) found.3,
+      ))

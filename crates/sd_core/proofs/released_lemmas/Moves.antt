@@ -1,7 +1,7 @@
 -- What was let go has no next moves.
-use Rattle.std.proofs.Common.{◌≡◌, ℕ, suc, List, [], ◌∷◌, ◌++◌, Bool, true, false, not, cond, ◌&&◌, refl, sym, ap, ap₂, ◌∙◌}
-use Rattle.sd_work.specs.Memory.{Memory, Memories, waiting}
-use Rattle.sd_work.specs.Residual.{Term, leaf, list, owning, nested, ended, pool, Terms, none, also, Actives, idle, busy, finished, all_finished, none_active, flags_of, is_ready}
+use Rattle.std.proofs.Common.{◌≡◌, ℕ, suc, List, [], ◌∷◌, ◌++◌, Bool, cond, ◌&&◌, refl, sym, ap, ap₂, ◌∙◌}
+use Rattle.sd_work.specs.Memory.{Memories, waiting}
+use Rattle.sd_work.specs.Residual.{Term, list, Terms, Actives, finished, all_finished, none_active, flags_of, is_ready}
 use Rattle.sd_work.specs.Moves.{Path, moves_in, takes_from, moves, moves_of_parts, moves_of_active}
 use Rattle.sd_work.specs.Run.{memory_of}
 use Rattle.sd_work.proofs.Finished.{moves-finished}

@@ -1,13 +1,12 @@
 -- A run does not look at what was let go.
-use Rattle.std.proofs.Common.{◌≡◌, ℕ, zero, suc, ◌%◌, ◌<◌, List, [], ◌∷◌, length, drop, map, Option, Some, None, Bool, true, false, slice_index_or, refl, sym, ap, ap₂, ◌∙◌, subst, arith}
+use Rattle.std.proofs.Common.{◌≡◌, ℕ, zero, suc, ◌<◌, List, [], ◌∷◌, length, drop, map, Option, Some, Bool, true, false, slice_index_or, refl, sym, ap, ap₂, ◌∙◌, subst, arith}
 use Rattle.std.proofs.lemmas.Nat.{mod_below}
-use Rattle.sd_work.specs.Memory.{Memory, Memories}
-use Rattle.sd_work.specs.Change.{Change}
-use Rattle.sd_work.specs.Move.{Fault, Move, fails, goes, no_move}
-use Rattle.sd_work.specs.Residual.{Term, finished}
-use Rattle.sd_work.specs.Moves.{Path, moves}
+use Rattle.sd_work.specs.Memory.{Memory}
+use Rattle.sd_work.specs.Move.{Move, fails, goes, no_move}
+use Rattle.sd_work.specs.Residual.{Term}
+use Rattle.sd_work.specs.Moves.{Path}
 use Rattle.sd_work.specs.Fire.{fire}
-use Rattle.sd_work.specs.Settle.{settle, settled}
+use Rattle.sd_work.specs.Settle.{settled}
 use Rattle.sd_work.specs.Step.{Machine, Outcome, Done, Faulted, Spent, next_moves, spend, moved, step}
 use Rattle.sd_work.specs.Run.{Left, memory_of, next_pick, chosen_number, chosen, go_on, run_by, run, Choice, choices_on, choices_by, choices, traced}
 use Rattle.sd_work.specs.WellFormed.{IsWellFormed}

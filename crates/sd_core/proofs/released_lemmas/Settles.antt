@@ -1,7 +1,6 @@
 -- Settling what is left does not look at what was let go, and a machine stays well-formed.
-use Rattle.std.proofs.Common.{◌≡◌, ℕ, suc, ℤ, List, [], ◌∷◌, ◌++◌, map, Bool, true, false, ◌&&◌, ◌||◌, slice_index_or, refl, sym, ap, ap₂, ◌∙◌, subst}
-use Rattle.sd_work.specs.Memory.{Memory, Memories, waiting}
-use Rattle.sd_work.specs.Exit.{Values, Exit}
+use Rattle.std.proofs.Common.{◌≡◌, ℕ, suc, List, [], ◌∷◌, ◌++◌, map, Bool, true, false, ◌&&◌, ◌||◌, slice_index_or, refl, sym, ap, ap₂, ◌∙◌, subst}
+use Rattle.sd_work.specs.Memory.{Memories, waiting}
 use Rattle.sd_work.specs.Residual.{Parts, Term, leaf, list, owning, nested, ended, pool, Terms, none, also, Actives, idle, busy, finished, none_active, is_ready}
 use Rattle.sd_work.specs.Settle.{is_empty, is_first_left, settle, settle_parts, settle_active}
 use Rattle.sd_work.specs.WellFormed.{IsOrdered, AreOrdered, AreActiveOrdered, HasPoolMemories, HavePoolMemories, HaveActivePoolMemories}
@@ -22,7 +21,7 @@ mutual
       let old = settle_active may_go cleared memories active in
       let new = settle_active may_go cleared memories others in
       subst (λ (over : Bool). IsReleased (pool level container body old (closed || (may_go && (none_active old && (is_empty (waiting level container memories) && slice_index_or cleared level false)))))
-          (pool level container body new (closed || (may_go && (over && (is_empty (waiting level container memories) && slice_index_or cleared level false)))))) (sym (none-released inside)) (in_pool inside)
+      (pool level container body new (closed || (may_go && (over && (is_empty (waiting level container memories) && slice_index_or cleared level false)))))) (sym (none-released inside)) (in_pool inside)
 
   parts-settle : {P : Type 0} {old new : Terms P} (may_go : Bool) (cleared : List Bool) (memories : Memories) (kind : Parts) (before : ℕ → ℕ → Bool) (flags : List Bool) (number : ℕ) → AreReleased old new
       → AreReleased (settle_parts may_go cleared memories kind before flags number old) (settle_parts may_go cleared memories kind before flags number new)

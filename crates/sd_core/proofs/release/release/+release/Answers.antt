@@ -1,4 +1,4 @@
-use Rattle.std.proofs.Common.{◌≡◌, ◌<◌, length, true, false, not, refl, sym, ap, ◌∙◌, subst, arith, Box}
+use Rattle.std.proofs.Common.{◌≡◌, true, false, not, refl, sym, ap, ◌∙◌, subst, arith, Box}
 use Rattle.std.specs.declared.alloc.Global.{Global}
 use Rattle.std.proofs.lemmas.Result.{on_ok_weaker}
 use Rattle.sd_left.specs.declared.left.left.Left as shape

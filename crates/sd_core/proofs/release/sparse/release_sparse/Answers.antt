@@ -1,5 +1,4 @@
-use Rattle.std.proofs.Common.{◌≡◌, refl, true, sym, ◌∙◌}
-use Rattle.std.proofs.lemmas.Result.{on_ok_weaker}
+use Rattle.std.proofs.Common.{sym, ◌∙◌}
 use Rattle.sd_core.proofs.release_lemmas.Sparse.{sparse-over, sparse-stays}
 use Rattle.sd_core.proofs.release.sparse.release_sparse.Goals as goal
 
