@@ -1,0 +1,8 @@
+use Rattle.std.proofs.Common.{◌≡◌, ◌*◌, drop}
+use Rattle.std.specs.List.{fold}
+use Rattle.sd_range.specs.Points.{product}
+use Rattle.sd_piece.proofs.array.product_of.Given as goal
+
+-- the product so far, with the extents that are left, is that of all
+abbrev pub invariant-loop-extent : goal.invariant-loop-extent
+invariant-loop-extent l = fold (λ all count. all * count) l.all (drop l.extent-index l.extents) ≡ product l.extents

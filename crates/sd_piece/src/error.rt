@@ -1,0 +1,22 @@
+ghost use Rattle.std.specs.Prelude.{◌≡◌};
+ghost use Rattle.sd_piece.specs.declared.error.PieceError.TheVariants.{Memory};
+
+use sd_list::NoMemory;
+
+/// Why no piece was cut.
+#[derive(Clone, Copy, Debug, PartialEq, Eq)]
+pub enum PieceError {
+    /// The graph has no such item, or the item no such piece.
+    NoItem,
+    /// The memory has not what the piece may touch, as the graph has it.
+    Foreign,
+    Memory,
+}
+
+impl From<NoMemory> for PieceError {
+    ghost from_gives = { λ _ error. error ≡ Memory };
+
+    fn from(_error: NoMemory) -> PieceError {
+        PieceError::Memory
+    }
+}
