@@ -5,3 +5,4 @@ pub mod Touched
 pub mod Cutting
 pub mod Right
 pub mod Graphs
+pub mod Agreeing
