@@ -1,0 +1,6 @@
+pub mod Marks
+pub mod Waiting
+pub mod Boards
+pub mod Closing
+pub mod Ends
+pub mod States

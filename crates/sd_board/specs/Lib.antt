@@ -1,0 +1,4 @@
+pub mod Progress
+pub mod Assignment
+pub mod Boards
+pub mod States
