@@ -4,3 +4,4 @@ pub mod Boards
 pub mod Closing
 pub mod Ends
 pub mod States
+pub mod Ones

@@ -2,3 +2,4 @@ pub mod Progress
 pub mod Assignment
 pub mod Boards
 pub mod States
+pub mod Taking
