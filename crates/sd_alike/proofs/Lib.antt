@@ -1,0 +1,2 @@
+pub mod alike_lemmas
+pub mod kept_lemmas

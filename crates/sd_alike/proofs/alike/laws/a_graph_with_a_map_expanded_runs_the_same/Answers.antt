@@ -1,0 +1,5 @@
+use Rattle.sd_alike.proofs.alike_lemmas.CollapsedMaps.{expanded_runs_same}
+use Rattle.sd_alike.proofs.alike.laws.a_graph_with_a_map_expanded_runs_the_same.Goals as goal
+
+pub returns : goal.returns
+returns c = expanded_runs_same

@@ -1,0 +1,13 @@
+pub mod Held
+pub mod HeldPlaces
+pub mod SameLoops
+pub mod HeldReplaced
+pub mod LocalRules
+pub mod NamesThere
+pub mod NamesAsked
+pub mod OnceThings
+pub mod OwnThings
+pub mod EachGraph
+pub mod NumbersKept
+pub mod RuleOfNames
+pub mod NamesKept

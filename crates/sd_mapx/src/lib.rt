@@ -1,0 +1,24 @@
+//! Rewrites of maps: conditions, results, and the calls that give them.
+//!
+//! Each call answers the graph of `specs/Results.antt`, or the lowest condition of `specs/MapConditions.antt` that
+//! fails. A path is followed to its place (`paths`), the item there is looked at, and the graph is made once more with
+//! other items in its place (`rebuilt`). The graph that was lent is unchanged. Want of memory is the one other refusal.
+#![tactic(auto)]
+
+mod copies;
+mod found;
+mod laws;
+mod limits;
+mod maps;
+mod nodes;
+mod paths;
+mod rebuilt;
+mod refused;
+mod tests;
+
+pub use laws::{
+    a_collapsed_graph_is_valid, a_collapsed_graph_runs_the_same, an_expanded_graph_is_valid,
+    an_expanded_graph_runs_the_same,
+};
+pub use maps::{collapse, expand};
+pub use refused::Refused;
