@@ -489,18 +489,3 @@ def private_arrays_that_are_not_made() -> Calls:
     found = files(source, {"N": 400, "A": [1] * 400, "B": [0] * 400}, b"")
     words = ["step", "a.py", "a.json", "picks", "--turns", "3"]
     yield Call("400 points with private arrays of 2^20, with 3 turns", words, found, b"turns spent 3\n", 8, 20, 512)
-
-
-@case
-def private_arrays_that_are_let_go() -> Calls:
-    """Points and elements by picks that are finished one after another: memory holds the private arrays of a few of them."""
-    body = ["for i in dace.map[0:N]:", "    T = dace.define_local([1048576], dtype=dace.int64)", "    T[i] = A[i] + 1", "    B[i] = T[i]"]
-    source = program(body, "A: dace.int64[N], B: dace.int64[N]", "N")
-    words = ["step", "a.py", "a.json", "picks"]
-    found = files(source, {"N": 400, "A": [1] * 400, "B": [0] * 400}, b"")
-    yield Call("400 points with private arrays of 2^20", words, found, printed(A=[1] * 400, B=[2] * 400), 0, 60, 512)
-    body = ["S = dace.define_stream(dace.int64)", "for i in dace.map[0:N]:", "    with dace.tasklet:", "        a << A[i]", "        s >> S(-1)", "        s = a"]
-    body += ["@dace.consume(S, 2)", "def pool(x):", "    T = dace.define_local([1048576], dtype=dace.int64)", "    T[7] = x[0] * 3", "    B[0] += T[7]"]
-    source = program(body, "A: dace.int64[N], B: dace.int64[1]", "N")
-    found = files(source, {"N": 400, "A": list(range(400)), "B": [5]}, b"")
-    yield Call("400 elements with private arrays of 2^20", words, found, printed(A=list(range(400)), B=[5 + 3 * sum(range(400))]), 0, 60, 512)
