@@ -5,3 +5,5 @@
 mod chains;
 #[cfg(test)]
 mod rewrites;
+#[cfg(test)]
+mod written;
