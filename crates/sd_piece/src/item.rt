@@ -55,7 +55,8 @@ fn value_count(alloc: Global, kind: &ItemKind, values: &[i128]) -> Result<u128, 
     }
 }
 
-/// Whether an item has a piece of so many values, at least one.
+/// Whether an item has a piece of so many values, at least one. Of 2^128 - 1 values or more it is not known how many are behind these: a piece
+/// that ends there counts as want of memory.
 pub(crate) fn has_piece(
     alloc: Global,
     kind: &ItemKind,
@@ -64,7 +65,12 @@ pub(crate) fn has_piece(
 ) -> Result<bool, NoMemory>
     ensures { IfOk result (λ has. IsTrue has ↔ definition.HasValues values.now at.first at.count (kind_tree kind.now)) }
 {
-    let end = at.first.checked_add(at.count).ok_or(NoMemory)?;
     let count = value_count(alloc, kind, values)?;
-    Ok(at.count > 0 && end <= count)
+    let Some(left) = count.checked_sub(at.first) else {
+        return Ok(false);
+    };
+    if count == u128::MAX && at.count > left {
+        return Err(NoMemory);
+    }
+    Ok(at.count > 0 && at.count <= left)
 }
