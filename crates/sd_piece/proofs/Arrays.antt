@@ -1,6 +1,6 @@
 -- The extents of an array, by the indices that it has.
-use Rattle.std.proofs.Common.{◌≡◌, ℕ, zero, suc, ◌*◌, ◌<◌, ◌≤◌, ℤ, pos, ◌-ℤ◌, int_le, int_lt, List, [], ◌∷◌, length, Bool, true, false, ◌&&◌, refl, sym, ◌∙◌, ap₂, subst, arith}
-use Rattle.std.specs.List.{AllByRecursion}
+use Rattle.std.proofs.Common.{◌≡◌, ℕ, zero, suc, ◌*◌, ◌<◌, ◌≤◌, ℤ, pos, ◌-ℤ◌, int_le, int_lt, List, [], ◌∷◌, length, drop, get_or, Bool, true, false, ◌&&◌, refl, sym, ◌∙◌, ap₂, subst, arith}
+use Rattle.std.specs.List.{AllByRecursion, fold}
 use Rattle.std.proofs.lemmas.Int.{ints}
 use Rattle.std.proofs.lemmas.Bool.{and_parts}
 use Rattle.sd_range.specs.Points.{product}
@@ -61,6 +61,30 @@ same-extents (x ∷ shape) (e ∷ extents) last none =
 pub has-last : (extents : List ℕ) → AreSome extents → inside extents (last_index extents) ≡ true
 has-last [] some = refl
 has-last (e ∷ extents) some = both-are (is-of e (pos e -ℤ pos 1)) (inside extents (last_index extents)) (is-last e some.0) (has-last extents some.1)
+
+-- an array with the last index of these extents has none of which is 0
+pub are-some : (shape extents : List ℕ) → inside shape (last_index extents) ≡ true → AreSome extents
+are-some [] [] last = tt
+are-some [] (e ∷ extents) last = cc
+are-some (x ∷ shape) [] last = cc
+are-some (x ∷ shape) (e ∷ extents) last =
+    let parts = and_parts (is-of x (pos e -ℤ pos 1)) (inside shape (last_index extents)) last in
+    ((last-of x e parts.0).0, are-some shape extents parts.1)
+
+no-less : (all extent : ℕ) → 0 < extent → all ≤ all * extent
+no-less all zero some = absurd (omega (arith, some))
+no-less all (suc extent) some = omega arith
+
+-- a product of extents, none of which is 0, is no less than that of the first of them
+pub product-grows : (all : ℕ) (extents : List ℕ) → AreSome extents → all ≤ fold (λ all count. all * count) all extents
+product-grows all [] some = omega arith
+product-grows all (e ∷ extents) some = let first = no-less all e some.0 in let rest = product-grows (all * e) extents some.1 in omega (arith, first, rest)
+
+-- a product that is too large with its next extent is too large
+pub too-large : (limit all : ℕ) (extents : List ℕ) (n : ℕ) → n < length extents → AreSome (drop n extents) → limit ≤ all * get_or extents n 0 → limit ≤ fold (λ all count. all * count) all (drop n extents)
+too-large limit all [] n less some over = absurd (omega (arith, less))
+too-large limit all (e ∷ extents) zero less some over = let rest = product-grows (all * e) extents some.1 in omega (arith, rest, over)
+too-large limit all (e ∷ extents) (suc n) less some over = too-large limit all extents n (omega (arith, less)) some over
 
 false-and : (a b : Bool) → a ≡ false → (a && b) ≡ false
 false-and false b e = refl

@@ -1,5 +1,7 @@
 //! Whether a memory has an array of a graph, as the graph has it.
-ghost use Rattle.std.specs.Prelude.{◌≡◌, ◌↔◌, ◌<◌, ◌++◌, length, IfOk, IsTrue, OnOk};
+ghost use Rattle.std.specs.List.{AllByRecursion};
+ghost use Rattle.std.specs.Option.{MatchOption};
+ghost use Rattle.std.specs.Prelude.{◌≡◌, ◌↔◌, ◌<◌, ◌≤◌, ◌^◌, ◌++◌, length, IfOk, IsTrue, OnOk};
 ghost use Rattle.sd_range.specs.Points.{product};
 ghost use Rattle.sd_range.specs.Subset.{inside};
 ghost use Rattle.sd_work.specs.Memory.{elements_of};
@@ -74,15 +76,16 @@ fn element_count(memory: &Memory, container: u32) -> usize
     }
 }
 
-/// The product of extents. One that does not fit 64 bits counts as want of memory.
-fn product_of(extents: &[u64]) -> Result<u64, NoMemory>
-    ensures { IfOk result (λ all. all ≡ product extents.now) }
+/// The product of extents, none of which is 0; `None` where it does not fit 64 bits.
+fn product_of(extents: &[u64]) -> Option<u64>
+    requires { AllByRecursion (λ extent. 0 < extent) extents.now }
+    ensures { MatchOption result (2 ^ 64 ≤ product extents.now) (λ all. all ≡ product extents.now) }
 {
     let mut all: u64 = 1;
     for extent in extents {
-        all = all.checked_mul(*extent).ok_or(NoMemory)?;
+        all = all.checked_mul(*extent)?;
     }
-    Ok(all)
+    Some(all)
 }
 
 /// Whether a memory has an array of these extents, none of which is 0, with all its elements.
@@ -102,5 +105,9 @@ pub(crate) fn has_array(
             return Ok(false);
         }
     }
-    Ok(element_count(memory, container) as u64 == product_of(extents)?)
+    let count = element_count(memory, container) as u64;
+    let Some(all) = product_of(extents) else {
+        return Ok(false);
+    };
+    Ok(count == all)
 }
