@@ -107,6 +107,10 @@ fn cut_item(
 }
 
 /// Cuts what a piece of an item of a valid graph may touch out of a memory, where the variables have these values. The memory stays.
+///
+/// `NoItem` is told only where the state, the item, or one of so many values of it is not there, or no value is asked for. `Foreign` is told only
+/// where the piece is there, and the memory has not, as the graph has it, an array of which the piece has elements, or a stream that it pushes into
+/// or takes from. In each of these cases no piece is cut. `Memory` may come in place of any answer.
 pub fn cut_piece(
     alloc: Global,
     bound: &Bound,

@@ -10,6 +10,7 @@ pub enum PieceError {
     NoItem,
     /// The memory has not what the piece may touch, as the graph has it.
     Foreign,
+    /// There was too little memory, or a number on the way was too large for its type; no clause says when.
     Memory,
 }
 
