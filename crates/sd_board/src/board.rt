@@ -3,6 +3,7 @@ ghost use Rattle.std.specs.Prelude.{◌≡◌, ℕ, ◌+◌, ◌<◌, ◌≤◌,
 ghost use Rattle.sd_order.specs.table.Told.{told};
 ghost use Rattle.sd_board.specs.Assignment.{HaveEnds, IsEndOf, IsLikeOpening};
 ghost use Rattle.sd_board.specs.Boards as definition;
+ghost use Rattle.sd_board.specs.declared.job.FinishError.TheVariants.{Memory as OutOfMemory};
 ghost use Rattle.sd_board.specs.Taking.{IsCutBy};
 
 use crate::assigned::Assigned;
@@ -32,12 +33,12 @@ pub enum Taken<T> {
 /// What a board opens with.
 #[derive(Drop)]
 pub struct Opening {
-    /// The number of the item of each piece.
+    /// The number of the item of each piece; at most 2^20.
     pub items: Vec<u32>,
     /// Which items are before which.
     pub order: Order,
     pub memory: Memory,
-    /// How many turns all pieces may take together.
+    /// How many turns all pieces may take together; at most 2^40.
     pub budget: u64,
 }
 
@@ -79,7 +80,7 @@ impl<A: Assigned + Ledger> Board<A> {
         unreachable!()
     }
 
-    /// Finishes a job whose piece ended so on what was cut for it, or hands all back.
+    /// Finishes a job whose piece ended so on what was cut for it, or hands all back. Only a piece that is done may want memory.
     pub fn finish<R: Wait>(
         &self,
         rt: &R,
@@ -91,6 +92,7 @@ impl<A: Assigned + Ledger> Board<A> {
         requires share { 0 < share.old.parts }
         requires end { IsEndOf A.assignment job.number cut end }
         ensures handed_back { IfErr result (λ refused. (refused.1 ≡ job) × (refused.2 ≡ cut) × (refused.3 ≡ end)) }
+        ensures memory { IfErr result (λ refused. refused.0 ≡ OutOfMemory → definition.count_of end ≡ 1) }
         ensures parts { share.new.parts ≡ share.old.parts }
         ensures amount { share.new.amount ≡ share.old.amount + definition.count_added end result }
     {
@@ -99,7 +101,7 @@ impl<A: Assigned + Ledger> Board<A> {
         done
     }
 
-    /// Gives a job back.
+    /// Gives a job back behind the lock, as `BoardState::give_back_step` tells.
     pub fn give_back<R: Wait>(&self, rt: &R, job: Job) {
         self.state.lock(rt).give_back_step(job);
         self.changed.notify_all();
@@ -240,6 +242,7 @@ pub fn run_board<
     requires workers { 0 < workers }
     requires one_each { blank.parts ≡ workers }
     requires items { opening.items.items ≡ definition.items_of A.assignment }
+    requires few { length opening.items.items ≤ 2 ^ 20 }
     requires order { (from to : ℕ) → told opening.order from to ≡ A.assignment.work.before from to }
     requires memory { opening.memory ≡ A.assignment.opening }
     requires like { IsLikeOpening A.assignment opening.memory }

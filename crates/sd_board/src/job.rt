@@ -2,6 +2,7 @@ ghost use Rattle.std.specs.Prelude.{◌≡◌};
 
 use sd_mem::Memory;
 use sd_part::Kept;
+use thiserror::Error;
 
 /// A piece that a worker took from a board. Only the board makes one, and it must be spent: it is finished or given back.
 pub struct Job {
@@ -19,10 +20,13 @@ pub enum Step {
 }
 
 /// Why a job is not finished.
-#[derive(Clone, Copy, Debug, PartialEq, Eq)]
+#[derive(Clone, Copy, Debug, PartialEq, Eq, Error)]
 pub enum FinishError {
     /// Its piece is not in work, or the memory has not any more what was there when it was cut.
+    #[error("the piece is not in work, or the memory has changed")]
     NotInWork,
+    /// There was too little memory for what a piece that is done leaves.
+    #[error("out of memory")]
     Memory,
 }
 

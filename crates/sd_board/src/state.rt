@@ -16,9 +16,6 @@ use std::alloc::Global;
 use std::marker::Model;
 use std::sync::ledger::{Book, Ledger, Share};
 
-/// How many pieces a board has at most.
-const MOST_PIECES: usize = 1 << 20;
-
 /// The progress of a board's pieces, the memory and the turns of those that are finished, and what stopped it.
 #[derive(Drop)]
 pub struct BoardState<A: Assigned + Ledger> {
@@ -50,8 +47,8 @@ fn note_turns(budget: u64, turns: u64, stop: &mut Option<Kept>)
 }
 
 impl<A: Assigned + Ledger> BoardState<A> {
-    /// A board on which nothing is begun: the items of the pieces in this order, the memory that the work opens with, and the budget of turns. The
-    /// memory comes back for want of memory, which more than 2^20 pieces are too.
+    /// A board on which nothing is begun: the items of at most 2^20 pieces in this order, the memory that the work opens with, and the budget of at most
+    /// 2^40 turns. The memory comes back for want of memory.
     pub fn open(
         alloc: Global,
         items: Vec<u32>,
@@ -61,6 +58,7 @@ impl<A: Assigned + Ledger> BoardState<A> {
         book: Book<A>,
     ) -> Result<BoardState<A>, (NoMemory, Memory)>
         requires items { items.items ≡ definition.items_of A.assignment }
+        requires few { length items.items ≤ 2 ^ 20 }
         requires order { (from to : ℕ) → told order from to ≡ A.assignment.work.before from to }
         requires memory { memory ≡ A.assignment.opening }
         requires like { IsLikeOpening A.assignment memory }
@@ -71,9 +69,6 @@ impl<A: Assigned + Ledger> BoardState<A> {
         ensures ok { IfOk result (λ state. state ≡ definition.opened items.items order memory) }
         ensures err { IfErr result (λ refused. refused.1 ≡ memory) }
     {
-        if items.len() > MOST_PIECES {
-            return Err((NoMemory, memory));
-        }
         match Progress::opened(alloc, items, order, book) {
             Err(_) => Err((NoMemory, memory)),
             Ok(progress) => Ok(BoardState {

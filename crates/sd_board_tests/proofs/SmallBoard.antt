@@ -1,7 +1,6 @@
 -- A small board may be opened, and its pieces are done on a cut that changes nothing.
 use Rattle.std.proofs.Common.{◌≡◌, ℕ, zero, suc, List, [], ◌∷◌, ◌++◌, length, Option, Some, None, slice_get, slice_index_or, refl, sym, ◌∙◌, ap, subst, arith}
 use Rattle.sd_work.specs.Memory.{Memory}
-use Rattle.sd_work.specs.Change.{Change}
 use Rattle.sd_work.specs.Residual.{Term}
 use Rattle.sd_work.specs.Step.{Outcome, Done}
 use Rattle.sd_work.specs.BigStep.{Reached, big_step}
@@ -12,16 +11,15 @@ use Rattle.sd_mem.specs.mem.Shaped.{Shaped, alone}
 use Rattle.sd_mem.specs.machine.ComesTo.{ComesTo}
 use Rattle.sd_cut.specs.declared.elements.CutElement.{CutElement}
 use Rattle.sd_cut.specs.declared.streams.CutStream.{CutStream}
-use Rattle.sd_cut.specs.declared.window.Window.{Window}
-use Rattle.sd_cut.specs.Windowed.{window_of, window_at}
+use Rattle.sd_cut.specs.Windowed.{window_at}
 use Rattle.sd_cut.specs.Elements.{AreOfWindow, AreOfWindows, IsEven, effects_from, all_effects, all_changed}
 use Rattle.sd_cut.specs.Streams.{all_pushes, all_takes}
 use Rattle.sd_cut.specs.Overlaid.{Overlaid}
-use Rattle.sd_cut.specs.Using.{effects, committed}
+use Rattle.sd_cut.specs.Using.{committed}
 use Rattle.sd_part.specs.declared.part_end.PartEnd.TheVariants as ends
 use Rattle.sd_part.proofs.Widths.{opens}
 use Rattle.sd_part.proofs.StreamWidths.{opens-values}
-use Rattle.sd_board.specs.Assignment.{Assignment, IsLikeOpening, IsEndOf, HaveEnds}
+use Rattle.sd_board.specs.Assignment.{IsLikeOpening, IsEndOf, HaveEnds}
 use Rattle.sd_board.proofs.Marks.{none_some, some_same}
 use Rattle.sd_board_tests.specs.Small.{nothing, small_work, small, ChangesNothing}
 

@@ -1,8 +1,7 @@
 -- A small board: three pieces with nothing to do, two of an item that is before the item of the third.
-use Rattle.std.specs.Prelude.{◌≡◌, ℕ, ◌==◌, List, [], ◌∷◌, Bool, false, ◌&&◌}
-use Rattle.sd_work.specs.Change.{Change}
+use Rattle.std.specs.Prelude.{◌≡◌, ◌==◌, [], ◌∷◌, false, ◌&&◌}
 use Rattle.sd_work.specs.Residual.{Items, Term, list, none}
-use Rattle.sd_pieces.specs.history.Pieces.{Piece, Work}
+use Rattle.sd_pieces.specs.history.Pieces.{Work}
 use Rattle.sd_graph.specs.declared.place.Place.{Place}
 use Rattle.sd_cut.specs.Overlaid.{Overlaid}
 use Rattle.sd_cut.specs.Using.{effects}

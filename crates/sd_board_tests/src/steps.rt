@@ -23,7 +23,10 @@ pub(crate) fn cut_nothing(alloc: Global) -> Result<Overlay, NoMemory>
 }
 
 /// Three pieces of two items, of which the first is before the second.
-fn open_small<A: Assigned + Ledger>(alloc: Global, book: Book<A>) -> Result<BoardState<A>, Fail>
+pub(crate) fn open_small<A: Assigned + Ledger>(
+    alloc: Global,
+    book: Book<A>,
+) -> Result<BoardState<A>, Fail>
     requires assignment { A.assignment ≡ small }
     requires book { book.total ≡ 0 }
 {
