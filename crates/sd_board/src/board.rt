@@ -160,7 +160,7 @@ fn do_job<A: Assigned + Ledger, R: Wait, P: Pieces<A>, G: Gate + Sync>(
     }
 }
 
-/// A worker: it takes, does and finishes pieces until nothing is left, or until it finds no memory.
+/// A worker: it takes, does and finishes pieces until nothing is left, or until it finds no memory or may not finish one, which it gives back.
 fn work<A: Assigned + Ledger, R: Wait, P: Pieces<A>, G: Gate + Sync>(
     rt: &R,
     board: &Board<A>,
@@ -185,7 +185,7 @@ fn work<A: Assigned + Ledger, R: Wait, P: Pieces<A>, G: Gate + Sync>(
     unreachable!()
 }
 
-/// The workers, each on a thread, until nothing is left.
+/// The workers, on as many threads as the runtime makes.
 fn work_all<
     A: Assigned + Ledger + Sync + Send,
     R: Threads + Wait + Sync,
@@ -222,7 +222,8 @@ fn shares_of<A: Ledger>(
     Ok(shares)
 }
 
-/// Does the pieces of a board by so many workers, who pass a gate before each. For want of memory the opening memory comes back.
+/// Does the pieces of a board by so many workers, who pass a gate before each. Where workers were stopped, or found no memory, the closed board
+/// has pieces left, and tells so. Where no board is opened for want of memory, the opening memory comes back.
 pub fn run_board<
     A: Assigned + Ledger + Sync + Send,
     R: Threads + Wait + Sync,
