@@ -1,3 +1,4 @@
 pub mod Used
 pub mod Passed
 pub mod Names
+pub mod UsedPlaces

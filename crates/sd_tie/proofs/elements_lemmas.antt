@@ -1,7 +1,6 @@
 pub mod Lookups
 pub mod Affines
 pub mod Places
-pub mod Used
 pub mod LinkReads
 pub mod Signs
 pub mod Values

@@ -16,7 +16,7 @@ use Rattle.sd_task.specs.task.Table.{Table}
 use Rattle.sd_task.specs.task.ElementCode.{used_with, code_of, below}
 use Rattle.sd_task.specs.task.UsedVariables.{variable_value}
 use Rattle.sd_elab.specs.elab.Elaboration.{graph_of}
-use Rattle.sd_tie.proofs.elements_lemmas.Used.{AllUsed, all_used}
+use Rattle.sd_made.proofs.names_lemmas.UsedPlaces.{AllUsed, all_used}
 use Rattle.sd_valid.specs.BoundCode.{bound_value}
 use Rattle.sd_valid.specs.BoundExpression.{bound_assignment}
 use Rattle.sd_valid.specs.BoundTree.{bound_guard, bound_exit, bound_states, bound_graph}

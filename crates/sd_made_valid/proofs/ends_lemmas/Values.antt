@@ -19,7 +19,7 @@ use Rattle.sd_program.specs.Names.{Named, in_force}
 use Rattle.sd_program.specs.Small.{IsAlwaysWithin, IsSmall}
 use Rattle.sd_task.specs.task.ElementCode.{elements_in, code_of}
 use Rattle.sd_task.specs.task.UsedVariables as task
-use Rattle.sd_tie.proofs.elements_lemmas.Used.{IsUsed, AllUsed, place_found}
+use Rattle.sd_made.proofs.names_lemmas.UsedPlaces.{IsUsed, AllUsed, place_found}
 use Rattle.sd_valid.specs.BoundCode.{names_symbol, bound_value}
 use Rattle.sd_valid.specs.BoundExpression.{bound_affine}
 use Rattle.sd_validity.specs.rules.Transitions.{has_numbers_only}

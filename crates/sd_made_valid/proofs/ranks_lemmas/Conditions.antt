@@ -13,7 +13,7 @@ use Rattle.sd_task.specs.task.ElementCode.{elements_in, used_with, code_of, guar
 use Rattle.sd_task.specs.task.UsedVariables.{variable_value}
 use Rattle.sd_validity.specs.rules.Compared.{place_of_variable, comparison_at, is_less, comparison}
 use Rattle.sd_validity.specs.rules.Ranks.{value_variables, end_naming, condition_naming}
-use Rattle.sd_tie.proofs.elements_lemmas.Used.{IsUsed, AllUsed, all_used, place_found}
+use Rattle.sd_made.proofs.names_lemmas.UsedPlaces.{IsUsed, AllUsed, all_used, place_found}
 use Rattle.sd_read.specs.blocks.Blocks.{NamesOthers}
 use Rattle.sd_validity.specs.levels.Levels.{IsSizeOrLower, IsPlaced, IsEndPlaced, IsConditionPlaced}
 use Rattle.sd_validity.proofs.levels_lemmas.Named.{joined}

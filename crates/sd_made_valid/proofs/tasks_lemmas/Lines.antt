@@ -17,7 +17,7 @@ use Rattle.sd_task.specs.tasklet_names.UsedNames.{named_variable, is_assigned, l
 use Rattle.sd_valid.specs.BoundCode.{names_symbol, bound_value, bound_values, bound_act, bound_acts}
 use Rattle.sd_validity.specs.rules.CodeNames as names
 use Rattle.sd_validity.specs.rules.CodeNames.{count_values, is_input, is_output, is_value_known, are_values_known, is_act_known, are_acts_known}
-use Rattle.sd_tie.proofs.elements_lemmas.Used.{Has, IsUsed, place_found, kept_one, has_one, used_more}
+use Rattle.sd_made.proofs.names_lemmas.UsedPlaces.{Has, IsUsed, place_found, kept_one, has_one, used_more}
 use Rattle.sd_made_valid.specs.tasks.Counted.{CountsInputs, CountInputs, IsCounted, AreCounted}
 use Rattle.sd_made_valid.proofs.tasks_lemmas.Ports.{Test, Matches, AreMatched}
 

@@ -25,7 +25,7 @@ use Rattle.sd_valid.specs.BoundExpression.{bound_link}
 use Rattle.sd_valid.specs.BoundTree.{bound_kind, bound_guard}
 use Rattle.sd_validity.specs.rules.CodeNames.{has_dims, is_value_known, is_code_known}
 use Rattle.sd_validity.specs.rules.Parts.{is_dim_passed, is_range_passed, are_links_passed, is_kind_passed, is_condition_passed}
-use Rattle.sd_tie.proofs.elements_lemmas.Used.{IsUsed, AllUsed, all_used, place_found}
+use Rattle.sd_made.proofs.names_lemmas.UsedPlaces.{IsUsed, AllUsed, all_used, place_found}
 use Rattle.sd_made_valid.specs.values.Names.{names_tests}
 
 -- ---- connectors

@@ -36,7 +36,7 @@ use Rattle.sd_says.specs.Setting.{Setting, held_by, place_at}
 use Rattle.sd_says.specs.AsLeaves.{value_of, condition_in, assignment, element_statement}
 use Rattle.sd_tie.specs.elements.Tied.{shape_of, Tied, AreNumbered}
 use Rattle.sd_tie.proofs.elements_lemmas.LinkReads.{held_found, subscripts, one_place, no_extents, links_count, reads_tied, AreSingle, singles}
-use Rattle.sd_tie.proofs.elements_lemmas.Used.{all_used}
+use Rattle.sd_made.proofs.names_lemmas.UsedPlaces.{all_used}
 use Rattle.sd_tie.proofs.elements_lemmas.Values.{drop_twice, value_tied}
 
 -- a value is written or pushed alike

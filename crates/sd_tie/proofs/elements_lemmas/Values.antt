@@ -17,7 +17,7 @@ use Rattle.sd_says.specs.Setting.{with_each}
 use Rattle.sd_says.specs.Operators.{one_value, two_sides}
 use Rattle.sd_says.specs.AsLeaves.{reads_in, value_of}
 use Rattle.sd_tie.proofs.elements_lemmas.Lookups.{in_force_made}
-use Rattle.sd_tie.proofs.elements_lemmas.Used.{IsUsed, AllUsed, place_found}
+use Rattle.sd_made.proofs.names_lemmas.UsedPlaces.{IsUsed, AllUsed, place_found}
 use Rattle.sd_tie.proofs.elements_lemmas.LinkReads.{count_same}
 use Rattle.sd_tie.proofs.elements_lemmas.Signs.{one_same, sides_same}
 

@@ -19,7 +19,7 @@ use Rattle.sd_says.specs.Connectors.{Input, Outlet}
 use Rattle.sd_says.specs.Tasklets as said
 use Rattle.sd_says.specs.Tasklets.{with_local, forgetting, given_to, given_at, set_to, task_value, task_values, task_line, task_lines}
 use Rattle.sd_tie.proofs.elements_lemmas.Lookups.{in_force_made}
-use Rattle.sd_tie.proofs.elements_lemmas.Used.{Has}
+use Rattle.sd_made.proofs.names_lemmas.UsedPlaces.{Has}
 use Rattle.sd_tie.specs.tasklets.Connected.{IsAmong, SubscriptsInputs, SubscriptInputs, IsConnected, AreConnected}
 use Rattle.sd_tie.proofs.tasklets_lemmas.TaskValues.{kept_value, kept_values, expression_tied, expressions_tied}
 use Rattle.sd_tie.proofs.tasklets_lemmas.Locals.{value_in, Descends, descends_more, number_below, replaced_tied, pushed_tied, oldest_made, length_same}

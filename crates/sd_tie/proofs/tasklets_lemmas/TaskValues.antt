@@ -19,7 +19,7 @@ use Rattle.sd_says.specs.Operators.{one_value, two_sides}
 use Rattle.sd_says.specs.Connectors.{Input, Outlet, value_at}
 use Rattle.sd_says.specs.Tasklets.{named_value, value_from, task_value, task_values}
 use Rattle.sd_tie.proofs.elements_lemmas.Lookups.{in_force_made}
-use Rattle.sd_tie.proofs.elements_lemmas.Used.{Has, IsUsed, place_found, kept_one, has_one, used_more}
+use Rattle.sd_made.proofs.names_lemmas.UsedPlaces.{Has, IsUsed, place_found, kept_one, has_one, used_more}
 use Rattle.sd_tie.proofs.elements_lemmas.Values.{then_same}
 use Rattle.sd_tie.proofs.elements_lemmas.Signs.{one_same, sides_same}
 use Rattle.sd_tie.specs.tasklets.Connected.{IsAmong, SubscriptsInputs, SubscriptInputs}
