@@ -1,0 +1,2 @@
+pub mod SafePools
+pub mod Reordered
