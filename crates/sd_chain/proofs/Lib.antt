@@ -1,2 +1,5 @@
 pub mod Words
 pub mod Reading
+pub mod Parting
+pub mod Paths
+pub mod Lines

@@ -39,7 +39,7 @@ fn word_length(text: &[u8]) -> usize
 }
 
 /// The first word of a text, and what stands behind it.
-fn first_word(text: &[u8]) -> Option<(&[u8], &[u8])>
+pub(crate) fn first_word(text: &[u8]) -> Option<(&[u8], &[u8])>
     ensures { MatchOption result (words text.now ≡ []) (λ parts. IsFirstWord text.now parts.0.now parts.1.now) }
 {
     match word_begin(text) {
@@ -52,7 +52,7 @@ fn first_word(text: &[u8]) -> Option<(&[u8], &[u8])>
 }
 
 /// The pick that a word writes.
-fn pick_of(word: &[u8]) -> Option<u64>
+pub(crate) fn pick_of(word: &[u8]) -> Option<u64>
     requires { 0 < length word.now }
     ensures { result ≡ pick_written word.now }
 {
