@@ -11,4 +11,6 @@ mod tcode;
 
 pub use columns::{Columns, Spaced, add_products};
 pub use op::{Array, Log, Op, Source, run_ops};
-pub use tcode::{Code, Frame, Layout, run, run_plain, what_a_frame_has, what_is_given_stays_whole};
+pub use tcode::{
+    Code, Frame, Layout, run, run_from, run_plain, what_a_frame_has, what_is_given_stays_whole,
+};

@@ -57,14 +57,14 @@ fault_means tree code old new safe is is_new is_code same kind came = by_plain c
     by_plain (Some order) e = outputs_mean tree code old new safe is is_new is_code order e (Err kind) came
 
 -- an output of plain code is told as an effect of a scalar
-outputs_told : (inputs : Inputs) (frame : Frame) (order : List ℕ) → AllByRecursion (λ connector. length (extents_of_connector inputs connector) ≡ 0) order →
+pub outputs_told : (inputs : Inputs) (frame : Frame) (order : List ℕ) → AllByRecursion (λ connector. length (extents_of_connector inputs connector) ≡ 0) order →
     map (told inputs) (map (kept_output frame.variables frame.registers.items) order) ≡ output_effects (output_of frame) order
 outputs_told inputs frame [] all = refl
 outputs_told inputs frame (connector ∷ order) all =
     let none : length (extents_of_connector inputs connector) ≡ 0 = all.0 in
     (λ i. record { connector = connector; at = map pos (take (none i) (0 ∷ 0 ∷ 0 ∷ 0 ∷ [])); value = output_of frame connector } ∷ outputs_told inputs frame order all.1 i)
 
-scalars_told : (tree : TaskletTree) (inputs : Inputs) (order : List ℕ) → ((connector : ℕ) → length (extents_of_connector inputs connector) ≡ dimensions_of tree connector) →
+pub scalars_told : (tree : TaskletTree) (inputs : Inputs) (order : List ℕ) → ((connector : ℕ) → length (extents_of_connector inputs connector) ≡ dimensions_of tree connector) →
     AllByRecursion (λ connector. (connector < length tree.ins + length tree.outs) × (dimensions_of tree connector ≡ 0)) order → AllByRecursion (λ connector. length (extents_of_connector inputs connector) ≡ 0) order
 scalars_told tree inputs [] same all = tt
 scalars_told tree inputs (connector ∷ order) same all = (same connector ∙ all.0.1, scalars_told tree inputs order same all.1)

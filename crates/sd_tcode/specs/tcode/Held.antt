@@ -26,6 +26,24 @@ given_by inputs fixed arrays = record {
 abbrev pub given : Frame → meaning.Inputs
 given frame = given_by frame.inputs (take (frame.inputs + frame.variables) frame.registers.items) (map held frame.arrays.items)
 
+-- the elements of each input: those of a scalar as they are given, and any other ones where they stand
+abbrev pub values_with : List Held → (values : List (List ℤ)) → List (List ℤ)
+values_with connectors [] = []
+values_with [] (here ∷ values) = []
+values_with (connector ∷ connectors) (here ∷ values) = (if length connector.extents == 0 then here else connector.cells) ∷ values_with connectors values
+
+-- what is given, with connectors that stand elsewhere
+abbrev pub given_with : List Held → meaning.Inputs → meaning.Inputs
+given_with connectors inputs = record {
+  values = values_with connectors inputs.values;
+  extents = map (λ connector. connector.extents) connectors;
+  variables = inputs.variables;
+}
+
+-- connectors have the dimensions that this code has
+abbrev pub HaveDims : Compiled → List Held → Type 0
+HaveDims code connectors = map (λ connector. length connector.extents) connectors ≡ code.dims
+
 -- the effects of the last run
 abbrev pub effects_of : Frame → List meaning.Effect
 effects_of frame = map (told (given frame)) frame.log.0

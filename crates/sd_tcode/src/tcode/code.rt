@@ -75,6 +75,13 @@ impl Code {
         self.registers
     }
 
+    /// The dimensions of each connector.
+    pub fn dims(&self) -> &[u32]
+        ensures { result.now ≡ self.now.dims }
+    {
+        self.dims.as_slice()
+    }
+
     /// How many registers there are for each thing that the tasklet names.
     pub fn layout(&self) -> Layout
         ensures { result ≡ self.now.layout }

@@ -3,13 +3,14 @@ ghost use Rattle.std.specs.List.{AllByRecursion};
 ghost use Rattle.sd_graph.specs.PlainTree.{TaskletTree};
 ghost use Rattle.sd_graph.specs.TaskletMeaning.{meaning_of};
 ghost use Rattle.sd_tasklet.specs.tasklet.Given.{IsWhole};
+ghost use Rattle.sd_tasklet.specs.tasklet.Kept.{told};
 ghost use Rattle.sd_tcode.specs.op.Machine.{held, after_all, state_only, answered};
 ghost use Rattle.sd_tcode.specs.op.Within.{Room};
 ghost use Rattle.sd_tcode.specs.tcode.Outputs.{output_effects};
 ghost use Rattle.sd_tcode.specs.tcode.Compiled.{IsCodeOf, IsSafe, room_of};
-ghost use Rattle.sd_tcode.specs.tcode.Held.{IsFrameOf, IsReady, given, effects_of, output_of, kept_output};
+ghost use Rattle.sd_tcode.specs.tcode.Held.{IsFrameOf, IsReady, HaveDims, given, given_with, effects_of, output_of, kept_output};
 
-use crate::op::{Log, Own, run_own_ops};
+use crate::op::{Log, Own, Source, run_ops, run_own_ops};
 use crate::tcode::code::Code;
 use crate::tcode::frame::Frame;
 use sd_graph::FaultKind;
@@ -83,4 +84,43 @@ pub fn run_plain(code: &Code, frame: &mut Frame) -> Result<(), FaultKind>
     ensures outputs { (order : List ℕ) → code.now.plain ≡ Some order → AllByRecursion (λ connector. frame.new.variables + connector < length frame.new.registers.items) order }
 {
     run_code(code, frame)
+}
+
+/// The instructions of the code, from the first one on, on connectors that stand elsewhere.
+#[inline(always)]
+fn run_code_from<S: Source>(code: &Code, frame: &mut Frame, source: &S) -> Result<(), FaultKind>
+    ghost room: { Room }
+    requires room { room ≡ room_of code.now }
+    requires frame { IsFrameOf code.now frame.old }
+    requires dims { HaveDims code.now (S.connectors source.now) }
+    requires held { (connector : ℕ) → connector < code.now.layout.inputs → S.is_held source.now connector }
+    ensures done { state_only (after_all (S.connectors source.now) 0 code.now.ops (record { registers = frame.old.registers.items; effects = [] })) ≡ answered result (record { registers = frame.new.registers.items; effects = frame.new.log.0 }) }
+    ensures given { given frame.new ≡ given frame.old }
+    ensures frame { IsFrameOf code.now frame.new }
+    ensures safe { IsSafe code.now }
+{
+    frame.log.clear();
+    run_ops(&code.ops, source, &mut frame.registers, &mut frame.log)
+}
+
+/// Runs the code on the scalars and variables that the frame holds, and on connectors that stand elsewhere: their
+/// elements are read where the code wants them. Its effects stand in the frame, or else the fault comes that the tasklet
+/// has. What the frame was given stays. Takes no memory.
+#[inline(always)]
+pub fn run_from<S: Source>(code: &Code, frame: &mut Frame, source: &S) -> Result<(), FaultKind>
+    requires ready { IsReady code.now frame.old }
+    requires dims { HaveDims code.now (S.connectors source.now) }
+    requires held { (connector : ℕ) → connector < code.now.layout.inputs → S.is_held source.now connector }
+    ensures meaning { (tree : TaskletTree) → IsCodeOf tree code.now → meaning_of tree (given_with (S.connectors source.now) (given frame.old)) ≡ answered result (map (told (given_with (S.connectors source.now) (given frame.new))) frame.new.log.0) }
+    ensures given { given frame.new ≡ given frame.old }
+    ensures ready { IsReady code.now frame.new }
+{
+    if let Err(kind) = run_code_from(code, frame, source) {
+        return Err(kind);
+    }
+    if let Some(order) = &code.plain {
+        frame.log.clear();
+        keep_outputs(order, frame.variables, &frame.registers, &mut frame.log);
+    }
+    Ok(())
 }
