@@ -1,1 +1,5 @@
 pub mod reorder_lemmas
+pub mod tiles_lemmas
+pub mod ends_lemmas
+pub mod maps_lemmas
+pub mod valid_lemmas

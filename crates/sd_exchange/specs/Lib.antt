@@ -1,1 +1,4 @@
 pub mod reorder
+pub mod tiles
+pub mod ends
+pub mod maps

@@ -2,8 +2,6 @@
 use Rattle.std.proofs.Common.{◌≡◌, ℕ, zero, suc, pred, List, [], ◌∷◌, ◌++◌, Option, Some, None, ℤ, Bool, true, false, cond, refl, sym, ◌∙◌, ap, subst, inl, inr, ◌⊎◌}
 use Rattle.std.specs.Ordering.{int_eq}
 use Rattle.sd_num.specs.Width.{wrapped_to}
-use Rattle.sd_num.specs.declared.width.Width.{Width}
-use Rattle.sd_num.specs.declared.width.Width.TheVariants.{W64}
 use Rattle.sd_num.specs.declared.resolution.Resolution.{Resolution}
 use Rattle.sd_work.specs.Memory.{Contents, array, stream, Memory, Memories, Reference, look, waiting}
 use Rattle.sd_work.specs.Change.{Change, nothing, write, push, take, changed_at, with_values, with_contents, appended, apply}
@@ -82,11 +80,11 @@ two_pushed free f y z (array xw xs) = (refl, refl)
 two_pushed free f y z (stream xw xs) = (
   refl,
   (let v = wrapped_to xw y in let w = wrapped_to xw z in
-  inr (
-  f,
-  λ x. count-last (xs ++ w ∷ []) v x ∙ ap (λ n. cond (int_eq v x) (suc n) n) (count-last xs w x) ∙ both (int_eq v x) (int_eq w x) (how_often xs x)
-      ∙ sym (count-last (xs ++ v ∷ []) w x ∙ ap (λ n. cond (int_eq w x) (suc n) n) (count-last xs v x)),
-  )),
+      inr (
+        f,
+        λ x. count-last (xs ++ w ∷ []) v x ∙ ap (λ n. cond (int_eq v x) (suc n) n) (count-last xs w x) ∙ both (int_eq v x) (int_eq w x) (how_often xs x)
+            ∙ sym (count-last (xs ++ v ∷ []) w x ∙ ap (λ n. cond (int_eq w x) (suc n) n) (count-last xs v x)),
+      )),
 )
   where
     both : (a b : Bool) (n : ℕ) → cond a (suc (cond b (suc n) n)) (cond b (suc n) n) ≡ cond b (suc (cond a (suc n) n)) (cond a (suc n) n)

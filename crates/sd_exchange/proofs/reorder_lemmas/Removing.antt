@@ -3,7 +3,6 @@ use Rattle.std.proofs.Common.{◌≡◌, ℕ, zero, suc, List, [], ◌∷◌, �
 use Rattle.std.specs.Bool.{⊤}
 use Rattle.std.specs.Ordering.{int_eq}
 use Rattle.sd_num.specs.Width.{wrapped_to}
-use Rattle.sd_num.specs.declared.width.Width.{Width}
 use Rattle.sd_num.specs.declared.width.Width.TheVariants.{W64}
 use Rattle.sd_work.specs.Memory.{Contents, array, stream, Memory, Memories, values_of, contents_of, waiting}
 use Rattle.sd_work.specs.Change.{Change, nothing, write, push, take, changed_at, without, with_values, with_contents, appended, apply}
@@ -131,9 +130,9 @@ taken-both l k p q i j v w s e f g h =
     inside (stream xw xs) e f g h = (
       refl,
       inr (
-      tt,
-      λ x. (
-          let a = count-without p xs v x e in let b = count-without q (without p xs) w x f in let c = count-without i xs w x g in let d = count-without j (without i xs) v x h in omega (arith, a, b, c, d)),
+        tt,
+        λ x. (
+            let a = count-without p xs v x e in let b = count-without q (without p xs) w x f in let c = count-without i xs w x g in let d = count-without j (without i xs) v x h in omega (arith, a, b, c, d)),
       ),
     )
 

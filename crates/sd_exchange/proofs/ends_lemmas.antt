@@ -1,0 +1,4 @@
+pub mod Shown
+pub mod Nesting
+pub mod Permuting
+pub mod Tiling

@@ -1,0 +1,3 @@
+pub mod Below
+pub mod ValidOrder
+pub mod Following

@@ -1,0 +1,11 @@
+pub mod Accepting
+pub mod AcceptedPools
+pub mod Rewritten
+pub mod Interchange
+pub mod Spared
+pub mod MapTiled
+pub mod Tails
+pub mod OrderRewrites
+pub mod There
+pub mod OrderAsked
+pub mod RunsAlike
