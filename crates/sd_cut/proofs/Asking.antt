@@ -1,5 +1,5 @@
 -- What is used of a cut has to be as it was no less than before.
-use Rattle.std.proofs.Common.{◌≡◌, ℕ, zero, suc, ℤ, List, [], ◌∷◌, Option, Some, None, option_map, slice_get, refl, sym, ◌∙◌, subst}
+use Rattle.std.proofs.Common.{◌≡◌, ℕ, zero, suc, ℤ, List, [], ◌∷◌, Option, Some, None, option_map, slice_get, Bool, true, false, refl, sym, ◌∙◌, subst}
 use Rattle.sd_num.specs.Resolution.{identity_of}
 use Rattle.sd_num.specs.declared.width.Width.{Width}
 use Rattle.sd_num.specs.declared.resolution.Resolution.{Resolution}
@@ -16,7 +16,7 @@ use Rattle.sd_cut.specs.declared.turning.ElementLeft.{ElementLeft}
 use Rattle.sd_cut.specs.Elements.{IfKept, AreAsCut, AreAllAsCut, cut_at, marked}
 use Rattle.sd_cut.specs.Streams.{IfDrained, IsStreamAsCut, AreStreamsAsCut, stream_taken, stream_drained, stream_appended, appended_use}
 use Rattle.sd_cut.specs.Turning.{kept_left, gathered_left, written_left, gathered_with, written_with, gathered_on, replaced_mark}
-use Rattle.sd_cut.specs.Using.{turned, turned_if, pushed_in, taken_in, drained_at, Agrees}
+use Rattle.sd_cut.specs.Using.{turned, turned_if, pushed_in, pushed_to, taken_in, drained_at, appended_at, appended_if, is_begun, stream_at, Agrees}
 use Rattle.sd_cut.specs.Overlaid.{Overlaid}
 
 -- ---- one element
@@ -130,3 +130,10 @@ taken-agrees c cut memory h = (h.0, streams-ask stream_taken taken-asks memory 0
 
 pub drained-agrees : (c : ℕ) (cut : Overlaid) (memory : Shaped) → Agrees (drained_at c cut) memory → Agrees cut memory
 drained-agrees c cut memory h = (h.0, streams-ask stream_drained drained-asks memory 0 c cut.streams h.1)
+
+pub appended-agrees : (c : ℕ) (cut : Overlaid) (memory : Shaped) → Agrees (appended_at c cut) memory → Agrees cut memory
+appended-agrees c cut memory h = on (is_begun (stream_at cut c) (pushed_to cut c)) h
+  where
+    on : (begun : Bool) → Agrees (appended_if begun c cut) memory → Agrees cut memory
+    on true h = drained-agrees c cut memory h
+    on false h = (h.0, streams-ask stream_appended appended-asks memory 0 c cut.streams h.1)

@@ -27,7 +27,7 @@ ghost use Rattle.sd_cut.specs.Cells.{subset_within, value_at};
 ghost use Rattle.sd_cut.specs.Elements.{IsEven, IsUntouched, AreOfWindows, marked, cut_at, AreAllAsCut, AreNumbered, AreFound, marking_of, all_effects, all_changed};
 ghost use Rattle.sd_cut.specs.Overlaid.{Overlaid};
 ghost use Rattle.sd_cut.specs.Streams.{stream_becomes};
-ghost use Rattle.sd_cut.specs.Using.{committed, drained_at, gathered_at, kept_at, pushed_in, pushed_to, stream_at, taken_in, written_in, Agrees};
+ghost use Rattle.sd_cut.specs.Using.{appended_at, committed, drained_at, gathered_at, kept_at, pushed_in, pushed_to, stream_at, taken_in, written_in, Agrees};
 ghost use Rattle.sd_num.specs.declared.resolution.Resolution.{Resolution};
 ghost use Rattle.sd_cut.specs.Fits.{marking_in, with_left, AreValuesOfWidth, Fits, IsReady, IsWhole};
 ghost use Rattle.sd_pieces.specs.course.Reading.{stream_found};
@@ -101,6 +101,7 @@ pub fn a_use_asks_no_less()
     ensures pushed { (cut : Overlaid) (memory : Shaped) (container : ℕ) (value : ℤ) → Agrees (pushed_in container value cut) memory → Agrees cut memory }
     ensures taken { (cut : Overlaid) (memory : Shaped) (container : ℕ) → Agrees (taken_in container cut) memory → Agrees cut memory }
     ensures drained { (cut : Overlaid) (memory : Shaped) (container : ℕ) → Agrees (drained_at container cut) memory → Agrees cut memory }
+    ensures appended { (cut : Overlaid) (memory : Shaped) (container : ℕ) → Agrees (appended_at container cut) memory → Agrees cut memory }
 {}
 
 /// What is just cut, as `Overlay::cut` tells it, is ready for work, and each container holds what it was cut with.
