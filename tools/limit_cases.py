@@ -25,10 +25,10 @@ def a_million_elements() -> Calls:
 @case
 def the_most_elements_and_bytes() -> Calls:
     source = program(["for i in dace.map[0:N]:", "    A[i] = A[i] + 1"], "A: dace.int64[N]", "N")
-    digits = [str(it) for it in range(8)]
-    given = b'{"N":%d,"A":[%s' % (ELEMENTS, (",".join(digits) + ",").encode() * (ELEMENTS // 8))
+    # The first number takes all its bits, so the others are kept in as many.
+    given = b'{"N":%d,"A":[%d,1,2,3,4,5,6,7,%s' % (ELEMENTS, GREATEST, b"0,1,2,3,4,5,6,7," * (ELEMENTS // 8 - 1))
     given = (given[:-1] + b"]}").ljust(ARRAYS_BYTES)
-    wanted = b"A[%d] =%s\n" % (ELEMENTS, b" 1 2 3 4 5 6 7 8" * (ELEMENTS // 8))
+    wanted = b"A[%d] = %d 2 3 4 5 6 7 8%s\n" % (ELEMENTS, LEAST, b" 1 2 3 4 5 6 7 8" * (ELEMENTS // 8 - 1))
     yield Call("2^24 elements in a file of 2^26 bytes", RUN, files(source, given), wanted)
     yield Call("a file of a byte more", RUN, files(source, given + b" "), b"too long a.json\n", 11)
 
@@ -167,6 +167,7 @@ def the_most_bytes_of_picks() -> Calls:
     yield Call("2^24 bytes of picks, one long word", STEP, files(INC, given, picks), wanted)
     picks = (b"18446744073709551615 7\n" * (PICKS_BYTES // 23 + 1))[: PICKS_BYTES - 1] + b"\n"
     yield Call("2^24 bytes of picks, many words", STEP, files(INC, given, picks), wanted)
+    yield Call("2^23 picks", STEP, files(INC, given, b"5 " * (PICKS_BYTES // 2)), wanted)
     yield Call("a byte more of picks", STEP, files(INC, given, picks + b"\n"), b"too long picks\n", 11)
 
 

@@ -159,3 +159,45 @@ def private_arrays_that_are_let_go() -> Calls:
     source = program(body, "A: dace.int64[N], B: dace.int64[1]", "N")
     found = files(source, {"N": 400, "A": list(range(400)), "B": [5]}, b"")
     yield Call("400 elements with private arrays of 2^20", words, found, printed(A=list(range(400)), B=[5 + 3 * sum(range(400))]), 0, 60, 512)
+
+
+@case
+def calls_of_a_map_of_many_statements() -> Calls:
+    """64 calls of one program, whose map of 1,000 statements is looked at once for races."""
+    inner = program(["for i in dace.map[0:1]:"] + [f"    A[i + {n}] = {n}" for n in range(1000)], "A: dace.int64[1000]", name="g")
+    found = files(inner + program(["g(A)"] * 64, "A: dace.int64[1000]"), {"A": [1] * 1000})
+    yield Call("64 calls of a map of 1,000 statements", CHECK, found, b"accepted\n", seconds=WAITS, processor=8)
+
+
+@case
+def memory_of_points_that_have_begun() -> Calls:
+    """200,000 points by picks of which each has begun before one is finished: each takes some 200 bytes."""
+    count = 200000
+    a = [1] * count
+    source = program(["for i in dace.map[0:N]:", "    B[i] = A[i] + 1"], "A: dace.int64[N], B: dace.int64[N]", "N")
+    found = files(source, {"N": count, "A": a, "B": a}, [0, *range(count)])
+    yield Call("200,000 points that have begun", STEP, found, printed(A=a, B=[2] * count), seconds=WAITS, megabytes=54)
+
+
+@case
+def memory_of_elements_of_one_item() -> Calls:
+    """2^21 elements of a copy, an input and a reduction: they are gone through, and no list of them is made. Such an array has 16 MiB."""
+    count = 2**21
+    given = b'{"A":[%s]}' % b",".join([b"1"] * count)
+    wanted = b"A[%d] =%s\n" % (count, b" 1" * count)
+    ways = {
+        "a copy": ([f"B = dace.define_local([{count}], dtype=dace.int64)", f"B[0:{count}] = A[0:{count}]"], 44),
+        "an input": (["with dace.tasklet:", f"    a << A[0:{count}]", "    b >> A[0]", "    b = a[1]"], 54),
+        "a reduction": (["R = dace.define_local([1], dtype=dace.int64)", "dace.reduce(lambda x, y: x + y, A, R)"], 36),
+    }
+    for place, (body, megabytes) in ways.items():
+        found = files(program(body, f"A: dace.int64[{count}]"), given)
+        yield Call(f"{place} of 2^21 elements in {megabytes} MiB", RUN, found, wanted, seconds=WAITS, megabytes=megabytes)
+
+
+@case
+def memory_of_an_array_that_nobody_asks_for() -> Calls:
+    """An array of 2^24 elements that is no argument: it is read and not kept."""
+    given = b'{"A":[5],"X":[%s]}' % b",".join([b"1"] * 2**24)
+    found = files(program(["A[0] = 1"], "A: dace.int64[1]"), given)
+    yield Call("2^24 elements that nobody asks for", RUN, found, b"arrays error 18 X\n", 4, WAITS, 116)

@@ -53,7 +53,47 @@ def two(N, A, B, C):
         C[i] = A[i] * 2
 
 
-PROGRAMS = {it.__name__: it for it in (product, heat, histogram, fib, inc, two)}
+def columns(N, T, A, B):
+    for _ in range(T):
+        for i in range(N):
+            B[i] = ((A[i] * 3 + i) ^ (A[i] - 7)) + ((A[i] & 1023) | (i * 5)) - ((A[i] + i) & (A[i] - i)) + (A[i] - i) * (A[i] + 1)
+
+
+def bands(N, T, A, B):
+    for _ in range(T):
+        for i in range(N):
+            for j in range(4):
+                B[i][j] = A[i][j] + j
+
+
+def strides(N, T, A, B):
+    for _ in range(T):
+        for i in range(N):
+            B[i] = (A[4 * i] + A[4 * i + 3]) ^ (A[4 * i + 1] - A[4 * i + 2])
+
+
+def sums(N, T, A, S):
+    for _ in range(T):
+        for i in range(N):
+            S[0] += (A[i] ^ i) & 255
+
+
+def scatter(N, T, A, H):
+    for _ in range(T):
+        for i in range(N):
+            H[A[i]] += 1
+
+
+def tasklets(N, T, A, B):
+    for _ in range(T):
+        for i in range(N):
+            B[i] = A[i] + i
+            B[i] = B[i] ^ 7
+
+
+PROGRAMS = {
+    it.__name__: it for it in (product, heat, histogram, fib, inc, two, columns, bands, strides, sums, scatter, tasklets)
+}
 
 
 def line(name, array):

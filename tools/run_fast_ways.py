@@ -4,9 +4,10 @@
     run_fast_ways.py [PROGRAM]
 
 PROGRAM is the program to look at; without it, it is the one that the gate has built. Each of the programs below goes another fast way:
-rows of a map, rows of products, elements of a stream, places that are computed, lists of tasklets. It runs beside the same loops in
-CPython (plain_loops.py), as in bench.py. Its ratio of processor seconds may be twice its mark, which is that of bench.py where this has the
-program, since other work may go on beside. The slow ways take longer than that.
+rows of a map, blocks of a row, rows of products, rows beside one another, elements that stand apart, one write for many values, places
+that are computed, elements of a stream, lists of tasklets. It runs beside the same loops in CPython (plain_loops.py), as in bench.py.
+Its ratio of processor seconds may be twice its mark, which is that of bench.py where this has the program, since other work may go on
+beside. The slow ways take longer than that.
 
 The last line is 'N passed, M failed', and the status is 0 where none failed.
 """
@@ -20,16 +21,37 @@ import bench
 
 SLACK = 2
 RUNS = 3
-# A map of two statements, whose body is a list of tasklets.
-TWO = """import dace
-N = dace.symbol('N')
+ROUNDS = 8
+HEAD = "import dace\nN = dace.symbol('N')\n"
+ONE, TWO = "dace.int64[N]", "dace.int64[N, 4]"
 
-@dace.program
-def two(A: dace.int64[N], B: dace.int64[N], C: dace.int64[N]):
-    for i in dace.map[0:N]:
-        B[i] = A[i] + 1
-        C[i] = A[i] * 2
-"""
+
+def program(name, arguments, *lines, heads=HEAD):
+    """Returns a program of this name with these lines."""
+    return f"{heads}\n@dace.program\ndef {name}({arguments}):\n" + "".join(f"    {it}\n" for it in lines)
+
+
+def repeated(name, arguments, *lines):
+    """Returns a program of this name that runs these lines T times."""
+    return program(name, arguments, "for t in range(T):", *(f"    {it}" for it in lines), heads=f"{HEAD}T = dace.symbol('T')\n")
+
+
+MAP = "for i in dace.map[0:N]:"
+LONG = "((A[i] * 3 + i) ^ (A[i] - 7)) + ((A[i] & 1023) | (i * 5)) - ((A[i] + i) & (A[i] - i)) + (A[i] - i) * (A[i] + 1)"
+SCATTER = ["    with dace.tasklet:", "        a << A[i]", "        h >> H(1, lambda x, y: x + y)[0:N]", "        h[a] = 1"]
+SOURCES = {
+    "two": program("two", f"A: {ONE}, B: {ONE}, C: {ONE}", MAP, "    B[i] = A[i] + 1", "    C[i] = A[i] * 2"),
+    "columns": repeated("columns", f"A: {ONE}, B: {ONE}", MAP, f"    B[i] = {LONG}"),
+    "bands": repeated("bands", f"A: {TWO}, B: {TWO}", "for i, j in dace.map[0:N, 0:4]:", "    B[i, j] = A[i, j] + j"),
+    "strides": repeated("strides", f"A: dace.int64[4 * N], B: {ONE}", MAP, "    B[i] = (A[4 * i] + A[4 * i + 3]) ^ (A[4 * i + 1] - A[4 * i + 2])"),
+    "sums": repeated("sums", f"A: {ONE}, S: dace.int64[1]", MAP, "    S[0] += (A[i] ^ i) & 255"),
+    "scatter": repeated("scatter", f"A: {ONE}, H: {ONE}", MAP, *SCATTER),
+    "tasklets": repeated("tasklets", f"A: {ONE}, B: {ONE}", MAP, "    B[i] = A[i] + i", "    B[i] = B[i] ^ 7"),
+}
+
+
+def drawn(count):
+    return bench.numbers(count, 0, min(count, 1000000))
 
 
 def two(small):
@@ -37,26 +59,66 @@ def two(small):
     return {"N": count, "A": bench.numbers(count, -1000000, 1000000), "B": [0] * count, "C": [0] * count}
 
 
-def ratio_of(program, source, given):
+def one_row(count, rounds):
+    return lambda small: {"N": count, "T": rounds, "A": drawn(count), "B": [0] * count}
+
+
+def short_rows(small):
+    count = 2**13
+    return {"N": count, "T": ROUNDS, "A": [drawn(4)] * count, "B": [[0] * 4] * count}
+
+
+def fours(small):
+    count = 2**13
+    return {"N": count, "T": 4 * ROUNDS, "A": drawn(4 * count), "B": [0] * count}
+
+
+def one_sum(small):
+    return {"N": 2**13, "T": 8 * ROUNDS, "A": drawn(2**13), "S": [0]}
+
+
+def places(small):
+    return {"N": 2**13, "T": 8 * ROUNDS, "A": drawn(2**13), "H": [0] * 2**13}
+
+
+# What is shown of a program, its name, its arrays, and half the greatest ratio to CPython's seconds.
+OWN = [
+    ("a map of two statements", "two", two, 3 / 8),
+    ("blocks of rows", "columns", one_row(2**13, 2 * ROUNDS), 1 / 40),
+    ("rows of four elements", "bands", short_rows, 1 / 8),
+    ("elements that stand apart", "strides", fours, 1 / 40),
+    ("one write for many values", "sums", one_sum, 1 / 40),
+    ("places that are computed", "scatter", places, 1 / 8),
+    ("a list of two tasklets", "tasklets", one_row(2**13, ROUNDS), 1 / 4),
+]
+
+
+def ways(folder):
+    """Returns of each program what is shown of it, its source, its arrays and its mark."""
+    for name, text in SOURCES.items():
+        (folder / f"{name}.py").write_text(text)
+    shipped = [(shown, bench.TOP / "examples" / file, arrays, mark) for shown, file, arrays, mark in bench.PROGRAMS]
+    return shipped + [(shown, folder / f"{name}.py", arrays, mark) for shown, name, arrays, mark in OWN]
+
+
+def ratio_of(binary, source, given):
     """Returns the ratio of processor seconds, and whether both sides print the same."""
     with tempfile.NamedTemporaryFile("w", suffix=".json") as arrays:
         json.dump(given, arrays, separators=(",", ":"))
         arrays.flush()
-        words = [program, "run", source, arrays.name, "--turns", str(bench.TURNS)]
+        words = [binary, "run", source, arrays.name, "--turns", str(bench.TURNS)]
         (ours, _, text), (theirs, _, other) = bench.measured([words, [sys.executable, bench.LOOPS, source.stem, arrays.name]])
     return ours / theirs, text == other
 
 
 def main():
-    program = Path(sys.argv[1] if len(sys.argv) > 1 else bench.BUILT).resolve()
+    binary = Path(sys.argv[1] if len(sys.argv) > 1 else bench.BUILT).resolve()
     ctypes.CDLL(None).prctl(bench.PR_SET_CHILD_SUBREAPER, 1, 0, 0, 0)
     bench.RUNS = RUNS
     passed = failed = 0
     with tempfile.TemporaryDirectory() as folder:
-        (Path(folder) / "two.py").write_text(TWO)
-        ways = [(name, bench.TOP / "examples" / source, arrays, mark) for name, source, arrays, mark in bench.PROGRAMS]
-        for name, source, arrays, mark in [*ways, ("a map of two statements", Path(folder) / "two.py", two, 3 / 8)]:
-            ratio, same = ratio_of(program, source, arrays(False))
+        for name, source, arrays, mark in ways(Path(folder)):
+            ratio, same = ratio_of(binary, source, arrays(False))
             if same and ratio <= SLACK * mark:
                 passed += 1
             else:
