@@ -13,7 +13,10 @@ use Rattle.sd_windows.specs.MapPieces.{kind_piece}
 use Rattle.sd_mem.specs.mem.Shaped.{Shaped, alone}
 use Rattle.sd_cut.specs.Fits.{AreValuesOfWidth}
 use Rattle.sd_cut.specs.Windowed.{HaveDimensions}
-use Rattle.sd_part.specs.Boxes.{NumberBox}
+use Rattle.sd_part.specs.Boxes.{NumberBox, number_box}
+use Rattle.sd_part.specs.Outline.{IsOutline, piece_accesses}
+use Rattle.sd_part.specs.declared.outline.Outline.{Outline}
+use Rattle.sd_part.proofs.PieceAccesses.{outline-piece}
 use Rattle.sd_part.specs.Cut.{IsJustCut}
 use Rattle.sd_part.specs.Hulls.{AreBelow, AreEven, AreWindowsFor}
 use Rattle.sd_part.proofs.JustCut.{just-holds, just-made}
@@ -78,6 +81,13 @@ piece-is-cut-in tree containers memory values at item nodes piece same valid nor
     piece-is-cut tree memory values at item nodes piece valid normal widths is has state same_values made
     (boxes ∙ ap (λ (all : Containers). boxes_of all values (kind_piece values at.first at.count item.1) nodes) same) even
     (subst (λ (all : Containers). HasTouched all memory piece.boxes.items) same touched) just below
+
+-- the boxes of a piece, by the outline of its item
+pub boxes-outlined : (tree : GraphTree) (containers : Containers) (kind : KindTree) (outline : Outline) (values : List ℤ) (first count : ℕ) (boxes : List NumberBox) → containers ≡ containers_of tree →
+    IsOutline (containers_of tree) kind outline → boxes ≡ map (number_box containers values) (piece_accesses values first count outline) → (nodes : List ℕ) × (boxes ≡ boxes_of containers values (kind_piece values first count kind) nodes)
+boxes-outlined tree containers kind outline values first count boxes same is made =
+    let accesses = outline-piece containers kind outline values first count (subst (λ (all : Containers). IsOutline all kind outline) (sym same) is) in
+    (accesses.0, made ∙ ap (map (number_box containers values)) accesses.1)
 
 -- what the memory has not
 pub is-foreign : (tree : GraphTree) (containers : Containers) (memory : Shaped) (values : List ℤ) (at : PieceAt) (item : PlainItem) (nodes : List ℕ) (boxes : List NumberBox) → containers ≡ containers_of tree →

@@ -1,13 +1,16 @@
 -- Pieces of a graph's items: which there are, and what they touch.
-use Rattle.std.specs.Prelude.{ℕ, zero, suc, ◌+◌, ◌<◌, ◌≤◌, ℤ, List, [], ◌∷◌, map, length, Option, Some, None, true, false}
+use Rattle.std.specs.Prelude.{◌≡◌, ℕ, zero, suc, ◌+◌, ◌<◌, ◌≤◌, ℤ, List, [], ◌∷◌, map, length, Option, Some, None, true, false}
 use Rattle.sd_range.specs.declared.range.Range.{Range}
 use Rattle.sd_range.specs.Range.{range_values}
 use Rattle.sd_graph.specs.ContainerParts.{Containers}
 use Rattle.sd_graph.specs.PlainTree.{KindTree, task, map_scope, consume_scope, nested_graph, reduction, copy, ItemTrees, no_item, and_item, GraphTree}
 use Rattle.sd_graph.specs.TreeFold.{PlainItem}
+use Rattle.sd_graph.specs.TreeParts.{containers_of}
 use Rattle.sd_prop.specs.propagation.Accesses.{kind_accesses}
 use Rattle.sd_safe.specs.pieces.ItemPieces.{state_items}
 use Rattle.sd_part.specs.Boxes.{NumberBox, number_box}
+use Rattle.sd_part.specs.Outline.{IsOutline}
+use Rattle.sd_part.specs.declared.outline.Outline.{Outline}
 use Rattle.sd_piece.specs.declared.piece.PieceAt.{PieceAt}
 
 -- the item of a number in a list
@@ -43,6 +46,10 @@ HasPieceOf values first count (Some item) = HasValues values first count item.1
 -- the item that is meant in a graph, if it is there
 abbrev pub item_meant : GraphTree → PieceAt → Option PlainItem
 item_meant tree at = item_of (state_items tree at.state) at.item
+
+-- the outline of an item of a state, if it is there
+abbrev pub IsOutlineOf : GraphTree → (state number : ℕ) → Outline → Type 0
+IsOutlineOf tree state number outline = (item : PlainItem) → item_of (state_items tree state) number ≡ Some item → IsOutline (containers_of tree) item.1 outline
 
 -- a graph has the piece that is meant
 abbrev pub HasPiece : GraphTree → List ℤ → PieceAt → Type 0
