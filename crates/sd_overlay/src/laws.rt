@@ -48,3 +48,13 @@ pub fn streams_of_a_cut_are_those_of_its_memory()
         → IsUsedSo stream.usage stream.taken stream.opening (pushed_to cut container) → Agrees (taken_in container cut) memory
         → committed (taken_in container cut) memory ≡ changed (take 0 container 0) (committed cut memory) }
 {}
+
+/// A stream that is used so as the laws on streams ask stays so when a value is pushed to it or its oldest one is taken.
+pub fn uses_of_a_stream_keep_how_it_is_used()
+    ensures pushed { (cut : Overlaid) (container : ℕ) (stream next : CutStream) (value : ℤ) → stream_at cut container ≡ Some stream
+        → IsUsedSo stream.usage stream.taken stream.opening (pushed_to cut container) → stream_at (pushed_in container value cut) container ≡ Some next
+        → IsUsedSo next.usage next.taken next.opening (pushed_to (pushed_in container value cut) container) }
+    ensures taken { (cut : Overlaid) (container : ℕ) (stream next : CutStream) → stream_at cut container ≡ Some stream
+        → IsUsedSo stream.usage stream.taken stream.opening (pushed_to cut container) → stream_at (taken_in container cut) container ≡ Some next
+        → IsUsedSo next.usage next.taken next.opening (pushed_to (taken_in container cut) container) }
+{}
