@@ -15,9 +15,11 @@ mod scatter;
 mod target;
 
 pub use accesses::Accesses;
+pub(crate) use at_rest::{targets_at, track_to, values_at};
 pub use fit::{are_for_each, are_scalar_links, are_scalar_ports, element_of_variable, is_stream};
 pub use instance::run_instance;
 pub use performing::perform_all;
+pub(crate) use runner::narrowed;
 pub use runner::{Runner, ones};
 pub use scatter::{Operand, Scatter, run_directly};
 pub use target::Target;

@@ -1,6 +1,8 @@
--- A frame that was reserved for code whose inputs are scalars.
-use Rattle.std.proofs.Common.{◌≡◌, ℕ, zero, suc, ◌+◌, ◌≤◌, pos, List, [], ◌∷◌, ◌++◌, length, map, take, replicate, refl, sym, ap, ◌∙◌, arith, subst, ◌<◌, Result, Ok, Err, OnOk, Bool, true, false, ◌&&◌, nat_lt, if◌then◌else◌}
+-- A frame that was reserved for code, with room for one element of each input.
+use Rattle.std.proofs.Common.{◌≡◌, ℕ, zero, suc, ◌+◌, ◌≤◌, pos, List, [], ◌∷◌, ◌++◌, length, map, take, replicate, refl, sym, ap, ◌∙◌, arith, subst, ◌<◌, Result, Ok, Err, IfOk, OnOk, Option, Some, None, Bool, true, false, ◌&&◌, ◌==◌, nat_lt, if◌then◌else◌}
 use Rattle.std.specs.List.{AllByRecursion}
+use Rattle.std.specs.Option.{MatchOption}
+use Rattle.std.specs.Bool.{⊤}
 use Rattle.std.proofs.lemmas.Bool.Decides.{nat_tests}
 use Rattle.std.proofs.lemmas.List.{length-append, length-map, length-replicate, map-append, take_all}
 use Rattle.sd_graph.specs.PlainTree.{TaskletTree}
@@ -11,7 +13,8 @@ use Rattle.sd_tcode.specs.tcode.Compiled.{Compiled, IsCodeOf}
 use Rattle.sd_tcode.specs.tcode.Held.{IsReady, given, zero_elements, zeros_for, with_extents, may_have}
 use Rattle.sd_tcode.specs.declared.tcode.frame.Frame.{Frame}
 use Rattle.sd_scope.specs.even.Even.{is_scalar}
-use Rattle.sd_row.specs.instance.Fit.{AreFor, IsRunner}
+use Rattle.sd_row.specs.instance.Fit.{AreFor, IsCodeFor, IsRunner}
+use Rattle.sd_row.specs.declared.instance.runner.Runner.{Runner}
 
 pub no_dims : (ports : List Port) → AllByRecursion (λ port. port.dims ≡ 0) ports → AllByRecursion (λ count. count ≡ 0) (map (λ port. port.dims) ports)
 no_dims [] all = all
@@ -23,45 +26,56 @@ many [] (most ∷ widest) few = absurd (omega (arith, few))
 many (count ∷ dims) [] few = refl
 many (count ∷ dims) (most ∷ widest) few = ap suc (many dims widest (omega (arith, few)))
 
--- each of the first connectors is a scalar, so it has one zero
-first_single : (dims widest : List ℕ) → AllByRecursion (λ count. count ≡ 0) (take (length widest) dims) → AllByRecursion (λ values. length values ≡ 1) (zero_elements dims widest)
-first_single [] widest all = tt
-first_single (count ∷ dims) [] all = tt
-first_single (zero ∷ dims) (most ∷ widest) all = (refl, first_single dims widest all.1)
-first_single (suc count ∷ dims) (most ∷ widest) all = absurd (omega (arith, all.0))
+one_zero : (test : Bool) → length (if test then pos 0 ∷ [] else replicate 1 (pos 0)) ≡ 1
+one_zero true = refl
+one_zero false = refl
 
-first_made : {A B : Type 0} (made : A → B) (first second : List A) → take (length first) (map made (first ++ second)) ≡ map made first
-first_made made [] second = refl
-first_made made (member ∷ first) second = ap (λ rest. made member ∷ rest) (first_made made first second)
+-- one element for each input
+one_each : (dims : List ℕ) (count : ℕ) → AllByRecursion (λ values. length values ≡ 1) (zero_elements dims (replicate count 1))
+one_each [] count = tt
+one_each (dim ∷ dims) zero = tt
+one_each (dim ∷ dims) (suc count) = (one_zero (dim == 0), one_each dims count)
 
 module _ (tree : TaskletTree) (ins outs : List Link) where
-  module _ (compiled : Compiled) (frame : Frame) (widest : List ℕ) (code : IsCodeOf tree compiled) (links : AreFor tree ins outs) where
-    pub runner : AllByRecursion (λ port. port.dims ≡ 0) tree.ins → AllByRecursion (λ link. is_scalar link.memlet.subset.dims ≡ true) ins → IsReady compiled frame →
-        widest ≡ replicate compiled.layout.inputs 1 → given frame ≡ zeros_for compiled widest → IsRunner tree ins outs compiled frame
-    runner ports scalars ready as_wide is =
-        let inputs : length widest ≡ length tree.ins = ap length as_wide ∙ length-replicate compiled.layout.inputs 1 ∙ ap (λ layout. layout.inputs) code.layout in
-        let ports_many : length compiled.dims ≡ length tree.ins + length tree.outs = ap length code.dims ∙ length-map (tree.ins ++ tree.outs) (λ port. port.dims) ∙ length-append tree.ins tree.outs in
-        let few : length widest ≤ length compiled.dims = omega (arith, inputs, ports_many) in
-        let all_links : length (ins ++ outs) ≡ length ins + length outs = length-append ins outs in
-        let left = links.inputs in
-        let right = links.outputs in
-        let same_many : length tree.ins + length tree.outs ≡ length (ins ++ outs) = omega (arith, all_links, left, right) in
-        let dims : take (length widest) compiled.dims ≡ map (λ port. port.dims) tree.ins =
-        ap (λ count. take count compiled.dims) inputs ∙ ap (take (length tree.ins)) code.dims ∙ first_made (λ port. port.dims) tree.ins tree.outs in
-        let zeros : AllByRecursion (λ count. count ≡ 0) (take (length widest) compiled.dims) = subst (AllByRecursion (λ count. count ≡ 0)) (sym dims) (no_dims tree.ins ports) in
-        record {
-          code = code;
-          ready = ready;
-          room = record {
-            singles = subst (λ (inputs : Inputs). AllByRecursion (λ values. length values ≡ 1) inputs.values) (sym is) (first_single compiled.dims widest zeros);
-            reads = ap (λ (inputs : Inputs). length inputs.values) is ∙ many compiled.dims widest few ∙ inputs ∙ sym left;
-            variables = ap (λ (inputs : Inputs). length inputs.variables) is ∙ length-replicate compiled.layout.variables (pos 0) ∙ ap (λ layout. layout.variables) code.layout;
-            few_reads = links.few_inputs;
-            few_variables = links.few_variables;
-          };
-          connectors = ap (λ (inputs : Inputs). length inputs.extents) is ∙ length-map compiled.dims (λ count. replicate count 0) ∙ ports_many ∙ same_many;
-          scalars = scalars;
-        }
+  pub made : (compiled : Compiled) (frame : Frame) (widest : List ℕ) → IsCodeOf tree compiled → AreFor tree ins outs → IsReady compiled frame →
+      widest ≡ replicate compiled.layout.inputs 1 → given frame ≡ zeros_for compiled widest → IsCodeFor tree ins outs compiled frame
+  made compiled frame widest code links ready as_wide is =
+      let inputs : length widest ≡ length tree.ins = ap length as_wide ∙ length-replicate compiled.layout.inputs 1 ∙ ap (λ layout. layout.inputs) code.layout in
+      let ports_many : length compiled.dims ≡ length tree.ins + length tree.outs = ap length code.dims ∙ length-map (tree.ins ++ tree.outs) (λ port. port.dims) ∙ length-append tree.ins tree.outs in
+      let few : length widest ≤ length compiled.dims = omega (arith, inputs, ports_many) in
+      let all_links : length (ins ++ outs) ≡ length ins + length outs = length-append ins outs in
+      let left = links.inputs in
+      let right = links.outputs in
+      let same_many : length tree.ins + length tree.outs ≡ length (ins ++ outs) = omega (arith, all_links, left, right) in
+      let singles : AllByRecursion (λ values. length values ≡ 1) (zero_elements compiled.dims widest) =
+      subst (λ (widest : List ℕ). AllByRecursion (λ values. length values ≡ 1) (zero_elements compiled.dims widest)) (sym as_wide) (one_each compiled.dims compiled.layout.inputs) in
+      record {
+        inputs = left;
+        code = code;
+        ready = ready;
+        room = record {
+          singles = subst (λ (inputs : Inputs). AllByRecursion (λ values. length values ≡ 1) inputs.values) (sym is) singles;
+          reads = ap (λ (inputs : Inputs). length inputs.values) is ∙ many compiled.dims widest few ∙ inputs ∙ sym left;
+          variables = ap (λ (inputs : Inputs). length inputs.variables) is ∙ length-replicate compiled.layout.variables (pos 0) ∙ ap (λ layout. layout.variables) code.layout;
+          few_reads = links.few_inputs;
+          few_variables = links.few_variables;
+        };
+        connectors = ap (λ (inputs : Inputs). length inputs.extents) is ∙ length-map compiled.dims (λ count. replicate count 0) ∙ ports_many ∙ same_many;
+      }
+
+  -- where the inputs are scalars
+  pub as_runner : AllByRecursion (λ link. is_scalar link.memlet.subset.dims ≡ true) ins → (compiled : Compiled) (frame : Frame) → IsCodeFor tree ins outs compiled frame → IsRunner tree ins outs compiled frame
+  as_runner scalars compiled frame is = record { code = is.code; ready = is.ready; room = is.room; connectors = is.connectors; scalars = scalars }
+
+  -- and without them
+  pub as_code : (compiled : Compiled) (frame : Frame) → IsRunner tree ins outs compiled frame → length ins ≡ length tree.ins → IsCodeFor tree ins outs compiled frame
+  as_code compiled frame is inputs = record { inputs = inputs; code = is.code; ready = is.ready; room = is.room; connectors = is.connectors }
+
+  pub with_scalars : {E : Type 0} (answer : Result (Option Runner) E) → AllByRecursion (λ link. is_scalar link.memlet.subset.dims ≡ true) ins →
+      IfOk answer (λ runner. MatchOption runner ⊤ (λ runner. IsCodeFor tree ins outs runner.code runner.frame)) → IfOk answer (λ runner. MatchOption runner ⊤ (λ runner. IsRunner tree ins outs runner.code runner.frame))
+  with_scalars (Ok None) scalars is = tt
+  with_scalars (Ok (Some runner)) scalars is = as_runner scalars runner.code runner.frame is
+  with_scalars (Err error) scalars is = tt
 
   -- a frame that gives the same but for extents
   pub runner_again : (compiled : Compiled) (old new : Frame) → IsRunner tree ins outs compiled old → (given new).values ≡ (given old).values → (given new).variables ≡ (given old).variables →

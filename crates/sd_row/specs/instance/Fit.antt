@@ -16,7 +16,15 @@ pub record AreFor (tree : TaskletTree) (ins outs : List Link) : Type 0 where
   pub few_inputs : length ins < 2 ^ 32
   pub few_variables : length tree.variables < 2 ^ 32
 
--- code and a frame for a tasklet with these links, whose inputs are scalars
+-- code and a frame for a tasklet with these links
+pub record IsCodeFor (tree : TaskletTree) (ins outs : List Link) (compiled : Compiled) (frame : Frame) : Type 0 where
+  pub inputs : length ins ≡ length tree.ins
+  pub code : IsCodeOf tree compiled
+  pub ready : IsReady compiled frame
+  pub room : HasRoom (length ins) (length tree.variables) (given frame)
+  pub connectors : length (given frame).extents ≡ length (ins ++ outs)
+
+-- the same of one whose inputs are scalars
 pub record IsRunner (tree : TaskletTree) (ins outs : List Link) (compiled : Compiled) (frame : Frame) : Type 0 where
   pub code : IsCodeOf tree compiled
   pub ready : IsReady compiled frame

@@ -53,13 +53,36 @@ impl Accesses {
 }
 
 /// A number that stays the same.
-fn resting(number: i64) -> Spaced
+pub(crate) fn resting(number: i64) -> Spaced
     ensures { value_on result 0 ≡ number }
 {
     Spaced {
         first: number,
         step: 0,
     }
+}
+
+/// The element of a link at a place; `None` where it is outside or far behind all elements.
+pub(crate) fn track_to(
+    alloc: Global,
+    link: &Link,
+    at: &[i128],
+    graph: &Sdfg,
+    base: &Base,
+    scope: &Scope,
+) -> Result<Option<Track>, NoMemory>
+    ensures { IfOk result (λ track. MatchOption track ⊤ (λ track. link_element (context_of (graph_tree graph.now) base.now scope.now) link.now at.now ≡ Some (reference_on track 0))) }
+{
+    let Some(cell) = link_cell(alloc, graph, base, scope, link, at)? else {
+        return Ok(None);
+    };
+    let Ok(element) = i64::try_from(cell.element) else {
+        return Ok(None);
+    };
+    Ok(Some(Track {
+        station: cell.station,
+        elements: resting(element),
+    }))
 }
 
 /// The element of a link; `None` where it is outside or far behind all elements.
@@ -72,16 +95,7 @@ fn track_at(
 ) -> Result<Option<Track>, NoMemory>
     ensures { IfOk result (λ track. MatchOption track ⊤ (λ track. link_element (context_of (graph_tree graph.now) base.now scope.now) link.now [] ≡ Some (reference_on track 0))) }
 {
-    let Some(cell) = link_cell(alloc, graph, base, scope, link, &[])? else {
-        return Ok(None);
-    };
-    let Ok(element) = i64::try_from(cell.element) else {
-        return Ok(None);
-    };
-    Ok(Some(Track {
-        station: cell.station,
-        elements: resting(element),
-    }))
+    track_to(alloc, link, &[], graph, base, scope)
 }
 
 /// The elements of links.
@@ -105,7 +119,11 @@ fn tracks_at(
 }
 
 /// The values of variables.
-fn values_at(alloc: Global, variables: &[u32], values: &Env) -> Result<Vec<Spaced>, NoMemory>
+pub(crate) fn values_at(
+    alloc: Global,
+    variables: &[u32],
+    values: &Env,
+) -> Result<Vec<Spaced>, NoMemory>
     ensures { IfOk result (λ numbers. map (λ variable. wrapped (variable_value values.now.values variable)) variables.now ≡ map (λ numbers. value_on numbers 0) numbers.items) }
 {
     let mut numbers = Vec::with_capacity(alloc, variables.len())?;
@@ -139,7 +157,7 @@ fn target_at(
 }
 
 /// The targets of outputs.
-fn targets_at(
+pub(crate) fn targets_at(
     alloc: Global,
     links: &[Link],
     graph: &Sdfg,

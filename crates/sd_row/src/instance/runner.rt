@@ -9,7 +9,7 @@ ghost use Rattle.sd_tcode.specs.tcode.Compiled.{Compiled};
 ghost use Rattle.sd_tcode.specs.tcode.Held.{IsReady, given};
 ghost use Rattle.sd_scope.specs.scope.Standing.{context_of};
 ghost use Rattle.sd_scope.specs.declared.scope.base.Base.{Base as BaseNow};
-ghost use Rattle.sd_row.specs.instance.Fit.{IsRunner};
+ghost use Rattle.sd_row.specs.instance.Fit.{IsRunner, IsCodeFor};
 
 use crate::instance::fit::{are_for_each, are_scalar_links, are_scalar_ports};
 use sd_compile::{compile, is_named};
@@ -27,6 +27,24 @@ pub struct Runner {
 }
 
 impl Runner {
+    /// That of a tasklet with a link for each connector; `None` of another one. An input has room for one element.
+    pub fn made(
+        alloc: Global,
+        tasklet: &Tasklet,
+        ins: &[Link],
+        outs: &[Link],
+    ) -> Result<Option<Runner>, NoMemory>
+        ensures { IfOk result (λ runner. MatchOption runner ⊤ (λ runner. IsCodeFor (tasklet_tree tasklet.now) ins.now outs.now runner.code runner.frame)) }
+    {
+        if !is_named(tasklet) || !are_for_each(tasklet, ins, outs) {
+            return Ok(None);
+        }
+        let code = compile(alloc, tasklet)?;
+        let widest = ones(alloc, code.input_count())?;
+        let frame = Frame::reserve(alloc, &code, widest.as_slice())?;
+        Ok(Some(Runner { code, frame }))
+    }
+
     /// That of a tasklet with a link for each connector, whose inputs are scalars; `None` of another one.
     pub fn of(
         alloc: Global,
@@ -36,16 +54,10 @@ impl Runner {
     ) -> Result<Option<Runner>, NoMemory>
         ensures { IfOk result (λ runner. MatchOption runner ⊤ (λ runner. IsRunner (tasklet_tree tasklet.now) ins.now outs.now runner.code runner.frame)) }
     {
-        if !is_named(tasklet) || !are_for_each(tasklet, ins, outs) {
-            return Ok(None);
-        }
         if !are_scalar_ports(tasklet.ins.as_slice()) || !are_scalar_links(ins) {
             return Ok(None);
         }
-        let code = compile(alloc, tasklet)?;
-        let widest = ones(alloc, code.input_count())?;
-        let frame = Frame::reserve(alloc, &code, widest.as_slice())?;
-        Ok(Some(Runner { code, frame }))
+        Runner::made(alloc, tasklet, ins, outs)
     }
 
     /// Gives the connectors the extents of their links where a scope stands; `false` where one may not have them.
@@ -79,7 +91,7 @@ pub fn ones(alloc: Global, count: usize) -> Result<Vec<u64>, NoMemory>
 }
 
 /// The same numbers in 64 bits; `None` where one is too large.
-fn narrowed(alloc: Global, numbers: &[u128]) -> Result<Option<Vec<u64>>, NoMemory>
+pub(crate) fn narrowed(alloc: Global, numbers: &[u128]) -> Result<Option<Vec<u64>>, NoMemory>
     ensures { IfOk result (λ narrow. MatchOption narrow ⊤ (λ narrow. narrow.items ≡ numbers.now)) }
 {
     let mut narrow = Vec::with_capacity(alloc, numbers.len())?;

@@ -1,13 +1,7 @@
-use Rattle.std.proofs.Common.{◌≡◌, replicate, rules, ap, ◌∙◌}
+use Rattle.std.proofs.Common.{rules}
 use Rattle.sd_graph.specs.TreeFold.{tasklet_tree}
-use Rattle.sd_row.specs.instance.Fit.{AreFor}
-use Rattle.sd_row.proofs.instance_lemmas.Zeros.{runner}
+use Rattle.sd_row.proofs.instance_lemmas.Zeros.{with_scalars}
 use Rattle.sd_row.proofs.instance.runner.Runner.of.Goals as goal
 
 pub returns : goal.returns
-returns c =
-    let tree = tasklet_tree c.args.tasklet.now in
-    let links : AreFor tree c.args.ins.now c.args.outs.now = search rules in
-    let wide : c.as_slice-2.result.now ≡ replicate c.in_ok-code.code.layout.inputs 1 = c.as_slice-2.ensures.value ∙ c.in_ok-widest.ensures ∙ ap (λ n. replicate n 1) c.input_count.ensures.count in
-    runner tree c.args.ins.now c.args.outs.now c.in_ok-code.code c.in_ok-frame.frame c.as_slice-2.result.now c.in_ok-code.ensures links (search rules) (search rules)
-    (c.in_ok-frame.ensures.ready tree c.in_ok-code.ensures) wide c.in_ok-frame.ensures.given
+returns c = with_scalars (tasklet_tree c.args.tasklet.now) c.args.ins.now c.args.outs.now c.made.result (search rules) c.made.ensures
