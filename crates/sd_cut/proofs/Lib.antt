@@ -1,3 +1,4 @@
+pub mod RowLemmas
 pub mod Opened
 pub mod Reaching
 pub mod Spans

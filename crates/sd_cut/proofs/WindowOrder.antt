@@ -44,6 +44,11 @@ counted-within s n =
         let gap : unsigned_abs (((pos (suc m) -ℤ pos 1) -ℤ s) -ℤ (neg_ℤ s +ℤ pos 0)) ≡ m = omega (arith, ints) in
         count-filled (neg_ℤ s +ℤ pos 0) ((pos (suc m) -ℤ pos 1) -ℤ s) (pos 1) (omega (arith, ints)) ∙ ap (λ n. n / 1 + 1) gap ∙ omega arith
 
+pub span-counted : (s : ℤ) (n : ℕ) → dim_values [] (span_within s n) ≡ counted_from (neg_ℤ s) (pos 1) n
+span-counted s n =
+    let begin : neg_ℤ s +ℤ pos 0 ≡ neg_ℤ s = omega (arith, ints) in
+    counted-within s n ∙ sym (counted-moved (neg_ℤ s) (pos 0) n) ∙ ap (λ z. counted_from z (pos 1) n) begin
+
 -- ---- the elements of a window are the indices of its extents, moved back
 
 map-map : {A B C D : Type 0} (f : B → C) (g : A → B) (h : D → C) (k : A → D) → ((x : A) → f (g x) ≡ h (k x)) → (xs : List A) → map f (map g xs) ≡ map h (map k xs)
@@ -103,6 +108,11 @@ value-is : (memory : Shaped) (container : ℕ) (index : List ℤ) (width : Width
 value-is memory container index width xs is h =
     ap (λ b. value_or_zero (seen (option_map (element container) (if b then Some (row_number (shape_at memory container) index) else None)) (alone memory))) h
     ∙ ap (λ k. slice_index_or (elements_of k) (row_number (shape_at memory container) index) (pos 0)) is
+
+pub value-inside : (memory : Shaped) (container : ℕ) (index : List ℤ) → inside (shape_at memory container) index ≡ true →
+    value_at memory container index ≡ slice_index_or (elements_of (contents_at memory container)) (row_number (shape_at memory container) index) (pos 0)
+value-inside memory container index h =
+    ap (λ b. value_or_zero (seen (option_map (element container) (if b then Some (row_number (shape_at memory container) index) else None)) (alone memory))) h
 
 pub cut-has : (memory : Shaped) (container : ℕ) (shift : List ℤ) (extents : List ℕ) → length shift ≡ length extents → length extents ≡ length (shape_at memory container) → IsHere memory container →
     AreContentsNamed (numbers_in_window (shape_at memory container) (Some (record { shift = shift; extents = extents }))) (contents_at memory container) (array (width_at memory container) (map (value_at memory container) (elements (subset_within shift extents) [])))

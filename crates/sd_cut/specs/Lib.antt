@@ -11,3 +11,4 @@ pub mod Using
 pub mod Cutting
 pub mod Fits
 pub mod Placing
+pub mod Rows

@@ -33,7 +33,7 @@ fn span_of(alloc: Global, shift: i128, extent: u64) -> Result<Dim, NoMemory>
 }
 
 /// The dimensions of a window.
-pub(crate) fn spans_of(alloc: Global, shift: &[i128], extents: &[u64]) -> Result<Vec<Dim>, NoMemory>
+fn spans_of(alloc: Global, shift: &[i128], extents: &[u64]) -> Result<Vec<Dim>, NoMemory>
     requires same { length shift.now ≡ length extents.now }
     ensures spans { IfOk result (λ dims. dims.items ≡ spans_within shift.now extents.now) }
     ensures are_dims { IfOk result (λ dims. All IsDim dims.items) }

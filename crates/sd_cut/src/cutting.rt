@@ -1,39 +1,22 @@
 //! The elements of arrays in windows.
-ghost use Rattle.std.specs.Prelude.{◌≡◌, ◌↔◌, ◌<◌, ◌^◌, ℕ, [], length, map, slice_index_or, IfErr, IfOk, IfSome, IsSome, Some};
+ghost use Rattle.std.specs.Prelude.{◌≡◌, ◌<◌, ◌^◌, ℕ, [], length, map, slice_index_or, IfErr, IfOk, Some};
 ghost use Rattle.std.specs.List.{All};
 ghost use Rattle.std.specs.Option.{option_map};
 ghost use Rattle.sd_range.specs.Points.{product};
 ghost use Rattle.sd_range.specs.Subset.{elements};
 ghost use Rattle.sd_cut.specs.Cells.{subset_within};
-ghost use Rattle.sd_cut.specs.Cutting.{element_there, IsRefusal, IsRefusalOf, IsWithin};
+ghost use Rattle.sd_cut.specs.Cutting.{IsRefusal, IsRefusalOf, IsWithin};
 ghost use Rattle.sd_cut.specs.Elements.{told, told_at, AreOfWindow, AreOfWindows, IsEven, IsUntouched};
 ghost use Rattle.sd_cut.specs.Overlay.{IsSmall};
 ghost use Rattle.sd_cut.specs.Windowed.{window_at, window_of};
 
-use crate::cells::spans_of;
-use crate::elements::{CutElement, ElementMark};
+use crate::elements::CutElement;
 use crate::refusal::CutError;
+use crate::rows::with_rows;
 use crate::window::Window;
 use sd_list::Sequence;
 use sd_mem::Memory;
-use sd_range::{Env, Subset};
-use sd_subset::Elements;
 use std::alloc::Global;
-
-/// The element at an index, as it is now, if it is there.
-fn element_now(memory: &Memory, container: u32, index: &[i128]) -> Option<CutElement>
-    ensures there { IsSome result ↔ IsSome (element_there memory.now container index.now) }
-    ensures told { IfSome result (λ cut. told cut ≡ told_at memory.now container index.now) }
-    ensures untouched { IfSome result IsUntouched }
-{
-    let place = memory.place(container, index)?;
-    let opening = memory.cells(container).get(place as usize)?;
-    Some(CutElement {
-        place,
-        opening,
-        mark: ElementMark::Untouched,
-    })
-}
 
 /// The elements of an array in a window, in row order, as they are now.
 fn elements_within(
@@ -49,23 +32,14 @@ fn elements_within(
     ensures untouched { IfOk result (λ cuts. All IsUntouched cuts.items) }
     ensures told { IfOk result (λ cuts. map told cuts.items ≡ map (told_at memory.now container) (elements (subset_within window.now.shift window.now.extents) [])) }
 {
-    let dims = spans_of(alloc, window.shift.as_slice(), window.extents.as_slice())?;
-    let subset = Subset {
-        dims: Sequence::from(dims),
-    };
-    let env = Env {
-        values: Sequence::new(alloc),
-    };
-    let mut left = Elements::new(alloc, &subset, &env)?;
-    let mut index = vec![in alloc; 0; subset.dims.len()]?;
-    let mut cuts = Vec::new(alloc);
-    while left.next(index.as_mut_slice()) {
-        match element_now(memory, container, index.as_slice()) {
-            Some(cut) => cuts.push(cut)?,
-            None => return Err(CutError::Outside(container)),
-        }
+    let shift = window.shift.as_slice();
+    let mut index = Vec::with_capacity(alloc, shift.len())?;
+    let none = Vec::new(alloc);
+    let extents = window.extents.as_slice();
+    match with_rows(memory, container, shift, extents, &mut index, none) {
+        Ok(cuts) => Ok(cuts),
+        Err(refusal) => Err(refusal),
     }
-    Ok(cuts)
 }
 
 /// The elements of a container in its window, if it has one.

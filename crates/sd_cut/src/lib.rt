@@ -16,6 +16,7 @@ mod opening;
 mod overlay;
 mod placing;
 mod refusal;
+mod rows;
 mod streams;
 mod turning;
 mod using;
