@@ -1,0 +1,4 @@
+pub mod Chains
+pub mod Paths
+pub mod Listed
+pub mod More
