@@ -1,5 +1,5 @@
 -- The elements of a window, row by row.
-use Rattle.std.proofs.Common.{◌≡◌, ℕ, zero, suc, ◌+◌, ◌-◌, ◌*◌, ◌<◌, ◌≤◌, ℤ, pos, ◌+ℤ◌, ◌-ℤ◌, ◌≤ℤ◌, neg_ℤ, unsigned_abs, int_le, int_lt, ◌&&◌, List, [], ◌∷◌, ◌++◌, map, length, take, Option, Some, None, IsSome, slice_get, slice_index_or, if◌then◌else◌, Bool, true, false, refl, sym, ◌∙◌, ap, subst, arith}
+use Rattle.std.proofs.Common.{◌≡◌, ℕ, zero, suc, ◌+◌, ◌-◌, ◌<◌, ◌≤◌, ℤ, pos, ◌+ℤ◌, ◌-ℤ◌, ◌≤ℤ◌, neg_ℤ, unsigned_abs, int_le, int_lt, ◌&&◌, List, [], ◌∷◌, ◌++◌, map, length, take, Option, Some, None, IsSome, slice_get, slice_index_or, if◌then◌else◌, Bool, true, false, refl, sym, ◌∙◌, ap, subst, arith}
 use Rattle.std.specs.List.{All, flat_map}
 use Rattle.std.specs.Option.{option_and_then}
 use Rattle.std.proofs.lemmas.Int.{ints}
@@ -7,12 +7,12 @@ use Rattle.std.proofs.lemmas.List.{append_assoc, map-append}
 use Rattle.std.proofs.lemmas.List.Concat.{flat_map-cons}
 use Rattle.std.proofs.lemmas.List.Elements.{All-cons, All-head, All-tail, All-nil}
 use Rattle.sd_range.specs.Range.{counted_from}
-use Rattle.sd_range.specs.Points.{product, tuples}
+use Rattle.sd_range.specs.Points.{tuples}
 use Rattle.sd_range.specs.Subset.{inside, elements, dim_values}
 use Rattle.sd_graph.specs.RowOrder.{row_number}
 use Rattle.sd_mem.specs.mem.Shaped.{Shaped, contents_at, shape_at, place_in}
 use Rattle.sd_work.specs.Memory.{elements_of}
-use Rattle.sd_cut.specs.Cells.{span_within, spans_within}
+use Rattle.sd_cut.specs.Cells.{spans_within}
 use Rattle.sd_cut.specs.Cutting.{element_there}
 use Rattle.sd_cut.specs.declared.elements.CutElement.{CutElement}
 use Rattle.sd_cut.specs.Elements.{told, told_at}

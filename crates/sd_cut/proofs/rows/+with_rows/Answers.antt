@@ -1,11 +1,11 @@
-use Rattle.std.proofs.Common.{rules, FitsSigned, to_z-of_z, ◌≡◌, ◌≤◌, ◌<◌, ◌+ℤ◌, ◌++◌, ◌∷◌, [], ◌∙◌, List, ℤ, IfErr, IfOk, ap, length, map, neg_ℤ, pos, refl, subst, sym}
+use Rattle.std.proofs.Common.{rules, FitsSigned, to_z-of_z, ◌≡◌, ◌≤◌, ◌+ℤ◌, ◌++◌, ◌∷◌, [], ◌∙◌, List, ℤ, IfErr, IfOk, ap, length, map, neg_ℤ, pos, refl, subst, sym}
 use Rattle.std.specs.Int.{w128}
 use Rattle.sd_range.specs.Points.{tuples}
 use Rattle.sd_range.specs.Subset.{dim_values}
 use Rattle.sd_cut.specs.Cells.{spans_within}
 use Rattle.sd_cut.specs.Elements.{told}
 use Rattle.sd_cut.specs.Rows.{all_told, indices_behind, AreThere, IsMissing}
-use Rattle.sd_cut.proofs.RowLemmas.{rows_left, none_left, one_left, tails, window_rows, last_off, missing_row, there_all, there_both, there_more, there_one, told_all, told_more}
+use Rattle.sd_cut.proofs.RowLemmas.{none_left, one_left, tails, window_rows, last_off, missing_row, there_all, there_both, there_more, there_one, told_all, told_more}
 use Rattle.sd_cut.proofs.rows.+with_rows.Goals as goal
 
 pub returns-in_default-clause-refused : goal.returns-in_default-clause-refused

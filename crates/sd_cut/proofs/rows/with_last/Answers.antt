@@ -1,4 +1,4 @@
-use Rattle.std.proofs.Common.{rules, FitsSigned, to_z-of_z, ◌≡◌, ◌∙◌, ◌+ℤ◌, ◌-◌, ◌<◌, ◌++◌, ◌∷◌, [], None, Some, IsSome, arith, ap, map, neg_ℤ, pos, refl, slice_get, subst, sym}
+use Rattle.std.proofs.Common.{rules, FitsSigned, to_z-of_z, ◌≡◌, ◌∙◌, ◌+ℤ◌, ◌-◌, ◌<◌, ◌++◌, ◌∷◌, [], None, IsSome, arith, ap, map, neg_ℤ, pos, refl, slice_get, subst, sym}
 use Rattle.std.specs.Int.{w128}
 use Rattle.sd_mem.specs.mem.Shaped.{place_in, shape_at}
 use Rattle.sd_cut.specs.Elements.{told}

@@ -1,4 +1,4 @@
-use Rattle.std.proofs.Common.{rules, FitsSigned, to_z-of_z, ◌∙◌, ap, refl, map}
+use Rattle.std.proofs.Common.{rules, FitsSigned, to_z-of_z, ◌∙◌, refl, map}
 use Rattle.std.specs.Int.{w64}
 use Rattle.sd_work.specs.Memory.{elements_of}
 use Rattle.sd_mem.specs.mem.Cells.{array_lent}
