@@ -190,14 +190,21 @@ def many_scopes() -> Calls:
 
 @case
 def many_rows() -> Calls:
-    """150,000 rows of two elements, by a map of an element statement and by one of a branch."""
+    """150,000 rows of two elements, by a map of an element statement, by one of a branch and by one that writes to computed places."""
     count = 150000
-    body = ["for i, j in dace.map[0:N, 0:2]:", "    A[i, j] = A[i, j] + i", "for i, j in dace.map[0:N, 0:2]:", "    with dace.tasklet:"]
-    body += ["        a << A[i, j]", "        b >> A[i, j]", "        if a % 3 == 0:", "            b = a - 7"]
+    rows = "for i, j in dace.map[0:N, 0:2]:"
+    body = [rows, "    A[i, j] = A[i, j] + i", rows, "    with dace.tasklet:", "        a << A[i, j]", "        b >> A[i, j]"]
+    body += ["        if a % 3 == 0:", "            b = a - 7", rows, "    with dace.tasklet:", "        a << A[i, j]"]
+    body += ["        h >> H(1, lambda x, y: x + y)[0:7]", "        h[a % 7] = 1"]
     a = [[n * 7919 % 1000, -n] for n in range(count)]
     after = [[it - 7 if it % 3 == 0 else it for it in (x + n, y + n)] for n, (x, y) in enumerate(a)]
-    source = program(body, "A: dace.int64[N, 2]", "N")
-    yield Call("150,000 rows of two elements", RUN, files(source, {"N": count, "A": a}), printed(A=after))
+    h = [0] * 7
+    for row in after:
+        for it in row:
+            h[it % 7] += 1
+    source = program(body, "A: dace.int64[N, 2], H: dace.int64[7]", "N")
+    found = files(source, {"N": count, "A": a, "H": [0] * 7})
+    yield Call("150,000 rows of two elements", RUN, found, printed(A=after, H=h))
 
 
 @case
