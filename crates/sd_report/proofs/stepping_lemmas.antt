@@ -1,3 +1,4 @@
 pub mod Traces
 pub mod Steps
 pub mod Ends
+pub mod Rewritten

@@ -12,5 +12,5 @@ mod write;
 pub use same_end::{
     a_run_by_picks_is_told_as_the_sequential_run, memories_that_are_alike_have_one_text,
 };
-pub use stepping::step;
+pub use stepping::{run_rewritten, step, step_rewritten};
 pub use write::{write_graph, write_run, write_text};

@@ -4,6 +4,11 @@
 //! (`specs/stepping/Step.antt`). Where the run is done, its own end is told, which is that of the sequential run but for the order of
 //! values in streams; and else that of the sequential run from the opening memory. So no fault of a picked run is told,
 //! whatever the picks are.
+//!
+//! `run_rewritten` and `step_rewritten` do the same of a graph that was made of another one and runs the same where it is done. What
+//! they tell is the end of the other one's sequential run: where the new graph's run is not done, the other one is run.
+mod rewritten;
 mod telling;
 
+pub use rewritten::{run_rewritten, step_rewritten};
 pub use telling::step;

@@ -21,7 +21,7 @@ without_steps term turns picks true outcome asked run = cc
 without_steps term turns picks false outcome asked run = let trace = trace_of term turns picks outcome run in record { trace = trace.0; traced = trace.1; kept = refl }
 
 -- the run of which steps are told
-run_of_steps : {P : Type 0} (term : Term P) (turns : ℕ) (picks : List ℕ) (traces : Bool) (outcome : Outcome P Left) (steps : List (ℕ × ℕ)) → IsPicked term turns picks traces outcome steps → Run term turns picks outcome
+pub run_of_steps : {P : Type 0} (term : Term P) (turns : ℕ) (picks : List ℕ) (traces : Bool) (outcome : Outcome P Left) (steps : List (ℕ × ℕ)) → IsPicked term turns picks traces outcome steps → Run term turns picks outcome
 run_of_steps term turns picks traces outcome steps is = (is.traced.looks, is.traced.runs)
 
 -- what is told of its end is told of it

@@ -29,3 +29,9 @@ pub record IsStep {P : Type 0} (term : Term P) (turns : ℕ) (picks : List ℕ) 
   pub picked : Outcome P Left
   pub run : IsPicked term turns picks traces picked steps
   pub told : IsToldEnd term turns end
+
+-- the same of a run by picks of one graph's work, of which the end is told as that of another's, which it was made of
+pub record IsRewrittenStep {P : Type 0} (source rewritten : Term P) (turns : ℕ) (picks : List ℕ) (traces : Bool) (end : Outcome P Left) (steps : List (ℕ × ℕ)) : Type 0 where
+  pub picked : Outcome P Left
+  pub run : IsPicked rewritten turns picks traces picked steps
+  pub told : IsToldEnd source turns end

@@ -17,7 +17,7 @@ use sd_seq::{RunEnd, run_seq};
 use std::alloc::Global;
 
 /// Whether a run is done.
-fn is_done(end: &RunEnd) -> bool
+pub(crate) fn is_done(end: &RunEnd) -> bool
     ensures { IsTrue result → (left : Left) × (outcome_of end.now ≡ Done left) }
 {
     match end {
@@ -27,7 +27,7 @@ fn is_done(end: &RunEnd) -> bool
 }
 
 /// Runs a graph by picks. Its steps are kept where they are asked for.
-fn picked(
+pub(crate) fn picked(
     alloc: Global,
     bound: &Bound,
     memory: Memory,
