@@ -8,13 +8,13 @@ use sd_list::NoMemory;
 use sd_row::Runner;
 use std::alloc::Global;
 
-/// The flat code of an item; `None` where it is no tasklet, or one with inputs of more than one element.
+/// The flat code of an item; `None` where it is no tasklet.
 fn runner_of(alloc: Global, item: &Item) -> Result<Option<Runner>, NoMemory>
     ensures { IfOk result (λ runner. MatchOption runner ⊤ (IsRunnerOf item.now)) }
 {
     match &item.kind {
         ItemKind::Task { code, ins, outs } => {
-            Runner::of(alloc, code, ins.as_slice(), outs.as_slice())
+            Runner::made(alloc, code, ins.as_slice(), outs.as_slice())
         }
         _ => Ok(None),
     }

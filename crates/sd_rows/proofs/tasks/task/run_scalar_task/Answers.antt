@@ -7,7 +7,7 @@ use Rattle.sd_row.specs.instance.Fit.{IsRunner}
 use Rattle.sd_row.specs.instance.Known.{AreKnown}
 use Rattle.sd_row.proofs.instance_lemmas.Given.{room_known}
 use Rattle.sd_row.proofs.instance_lemmas.Matched.{found_so, always_ok}
-use Rattle.sd_rows.proofs.tasks.task.run_task_by.Goals as goal
+use Rattle.sd_rows.proofs.tasks.task.run_scalar_task.Goals as goal
 
 pub returns-then-not-branch-clause-runner : goal.returns-then-not-branch-clause-runner
 returns-then-not-branch-clause-runner c = always_ok _ c.run_task.result (c.in_ok-shape.ensures.runner (tasklet_tree c.args.code.now) c.requires.runner)
