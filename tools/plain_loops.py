@@ -91,8 +91,13 @@ def tasklets(N, T, A, B):
             B[i] = B[i] ^ 7
 
 
+def gather(N, K, H, A, B):
+    for i in range(N):
+        B[i] = H[A[i]]
+
+
 PROGRAMS = {
-    it.__name__: it for it in (product, heat, histogram, fib, inc, two, columns, bands, strides, sums, scatter, tasklets)
+    it.__name__: it for it in (product, heat, histogram, fib, inc, two, gather, columns, bands, strides, sums, scatter, tasklets)
 }
 
 

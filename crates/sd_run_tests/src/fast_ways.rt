@@ -48,6 +48,19 @@ def two(A: dace.int64[8], B: dace.int64[8], C: dace.int64[8]):
         C[i] = A[i] * 2
 ";
 
+const GATHER: &[u8] = b"
+import dace
+
+@dace.program
+def gather(H: dace.int64[4], A: dace.int64[8], B: dace.int64[8]):
+    for i in dace.map[0:8]:
+        with dace.tasklet:
+            h << H[0:4]
+            a << A[i]
+            b >> B[i]
+            b = h[a]
+";
+
 const POOL: &[u8] = b"
 import dace
 
@@ -150,6 +163,11 @@ fn a_map_of_one_tasklet_goes_by_rows(rt: HostRuntime) {
 fn a_map_of_two_tasklets_has_flat_code(rt: HostRuntime) {
     assert_eq!(rt; finished(&rt, rt.alloc(), TWO_STATEMENTS), 0);
     assert_eq!(rt; flat_bodies(&rt, rt.alloc(), TWO_STATEMENTS), 1);
+}
+
+#[test]
+fn a_map_of_a_tasklet_that_reads_an_array_has_flat_code(rt: HostRuntime) {
+    assert_eq!(rt; flat_bodies(&rt, rt.alloc(), GATHER), 1);
 }
 
 #[test]
