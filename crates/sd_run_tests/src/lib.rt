@@ -1,5 +1,6 @@
 //! Tests of what runs stand on, where no command shows it: the size of an instruction, flat code that reads an array, the
-//! memories of a run, maps whose points are ordered, containers of 32 bits, transitions one by one, and that fast ways are taken. They are in a crate of their own so that the crates of runs are proved without them.
+//! memories of a run, maps whose points are ordered, pieces of a map, containers of 32 bits, transitions one by one, and that fast
+//! ways are taken. They are in a crate of their own so that the crates of runs are proved without them.
 #![tactic(auto)]
 
 #[cfg(test)]
@@ -14,6 +15,8 @@ mod instructions;
 mod machines;
 #[cfg(test)]
 mod neighbours;
+#[cfg(test)]
+mod pieces;
 #[cfg(test)]
 mod sources;
 #[cfg(test)]

@@ -13,15 +13,25 @@ use std::alloc::Global;
 use std::process::Abort;
 use std::test::Fail;
 
-/// An array of four elements, and the map of `A[i] = A[i + 1]` over `i` from 0 to 2 alone in the one state.
-fn graph(rt: &impl Abort, alloc: Global, sequential: bool) -> Bound {
+/// An array of four elements, and the map of `A[i] = A[i + 1]` over `i` from 0 to the last one alone in the one state.
+fn shifted_by(rt: &impl Abort, alloc: Global, last: i128, sequential: bool) -> Bound {
     let from = element(rt, alloc, 0, parameter(rt, alloc, 1), None);
     let to = element(rt, alloc, 0, parameter(rt, alloc, 0), None);
-    let kind = map(rt, alloc, 2, sequential, assignment(rt, alloc, to, from));
+    let kind = map(rt, alloc, last, sequential, assignment(rt, alloc, to, from));
     let arguments = sure(rt, vec![in alloc; argument(rt, alloc, 4, Width::W64)]);
     Bound {
         graph: building::graph(rt, alloc, arguments, kind),
     }
+}
+
+/// The same over `i` from 0 to 2.
+fn graph(rt: &impl Abort, alloc: Global, sequential: bool) -> Bound {
+    shifted_by(rt, alloc, 2, sequential)
+}
+
+/// The same in any order, over `i` from 0 to the last one.
+pub(crate) fn shifted(rt: &impl Abort, alloc: Global, last: i128) -> Bound {
+    shifted_by(rt, alloc, last, false)
 }
 
 /// A memory in which the elements are 1 to 4.
