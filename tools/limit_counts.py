@@ -104,8 +104,10 @@ def many_locals_of_a_tasklet() -> Calls:
         for n in range(1, 1000):
             x.append(wrapped(3 * x[n - 1] - x[n // 2]))
         b.append(x[999] ^ x[500])
-    for place, more in (("1,000 locals", []), ("1,000 locals beside another tasklet", ["    C[i] = A[i] + 1"])):
-        body = ["for i in dace.map[0:N]:", *(f"    {it}" for it in code), *more]
+    branch = ["    if a == a:", "        b = x999 ^ x500"]
+    ways = (("1,000 locals", code, []), ("1,000 locals before a branch, beside another tasklet", code[:-1] + branch, ["    C[i] = A[i] + 1"]))
+    for place, lines, more in ways:
+        body = ["for i in dace.map[0:N]:", *(f"    {it}" for it in lines), *more]
         source = program(body, "A: dace.int64[N], B: dace.int64[N], C: dace.int64[N]", "N")
         given = {"N": len(a), "A": a, "B": [0] * len(a), "C": a}
         yield from both(place, source, given, printed(A=a, B=b, C=[wrapped(it + 1) for it in a] if more else a))

@@ -162,14 +162,6 @@ def private_arrays_that_are_let_go() -> Calls:
 
 
 @case
-def calls_of_a_map_of_many_statements() -> Calls:
-    """64 calls of one program, whose map of 1,000 statements is looked at once for races."""
-    inner = program(["for i in dace.map[0:1]:"] + [f"    A[i + {n}] = {n}" for n in range(1000)], "A: dace.int64[1000]", name="g")
-    found = files(inner + program(["g(A)"] * 64, "A: dace.int64[1000]"), {"A": [1] * 1000})
-    yield Call("64 calls of a map of 1,000 statements", CHECK, found, b"accepted\n", seconds=WAITS, processor=8)
-
-
-@case
 def memory_of_points_that_have_begun() -> Calls:
     """200,000 points by picks of which each has begun before one is finished: each takes some 200 bytes."""
     count = 200000

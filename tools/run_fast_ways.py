@@ -100,7 +100,7 @@ OWN = [
     ("rows of four elements", "bands", short_rows, 1 / 8),
     ("elements that stand apart", "strides", fours, 1 / 40),
     ("one write for many values", "sums", one_sum, 1 / 40),
-    ("places that are computed", "scatter", places, 1 / 8),
+    ("places that are computed", "scatter", places, 1 / 12),
     ("a list of two tasklets", "tasklets", one_row(2**13, ROUNDS), 1 / 4),
 ]
 
