@@ -1,7 +1,9 @@
-//! Tests of lists, numbers, points, ranges, subsets, shelves and sinks, in a crate of their own so that the crates at the base are
+//! Tests of lists, numbers, points, ranges, subsets, shelves, sinks and gates, in a crate of their own so that the crates at the base are
 //! proved without them. What the program shows of them stands in the tables of `tools/calls`.
 #![tactic(auto)]
 
+#[cfg(test)]
+mod gates;
 #[cfg(test)]
 mod lists;
 #[cfg(test)]
