@@ -1,6 +1,6 @@
 -- Items stay fit where other parameters are in force around them.
 use Rattle.std.specs.List.{AllByRecursion}
-use Rattle.std.proofs.Common.{ℕ, ℤ, List, [], ◌∷◌, map, ◌++◌}
+use Rattle.std.proofs.Common.{ℕ, ℤ, List, [], ◌∷◌, ◌++◌}
 use Rattle.sd_range.specs.declared.affine.Affine.{Affine}
 use Rattle.sd_range.specs.declared.range.Range.{Range}
 use Rattle.sd_subset.specs.boxes.Box.{Parameter}

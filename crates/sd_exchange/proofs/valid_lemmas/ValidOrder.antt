@@ -1,5 +1,5 @@
 -- A valid graph and the graph with two maps interchanged, or with one cut into tiles, end alike.
-use Rattle.std.proofs.Common.{◌≡◌, ℕ, List, [], sym, subst}
+use Rattle.std.proofs.Common.{ℕ, List, [], sym, subst}
 use Rattle.sd_graph.specs.PlainTree.{GraphTree}
 use Rattle.sd_safe.specs.normal.NormalForm.{IsGraphNormal}
 use Rattle.sd_validity.specs.rules.Valid.{IsValid}
