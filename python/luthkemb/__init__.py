@@ -3,7 +3,8 @@
 A function under `@dace.program` of the stand-in `luthkemb.dace` is called as in DaCe: `inc(A, B)` changes its arrays in place, and
 `inc.to_sdfg(N=5)` gives its graph. `run(program, turns=2**40, **sizes_and_arrays)` gives the arrays after the run instead, of such a
 function, a path or a text: NumPy arrays where such were given, else lists. `graph(program, **sizes_and_arrays)` gives the graph
-that is run, which a notebook draws, and `check(program, **sizes_and_arrays)` makes its race check. `step(program, picks=(), ..)`
+that is run, which a notebook draws, `check(program, **sizes_and_arrays)` makes its race check, and `matches` tells the rewrites
+that may be done on it. `step(program, picks=(), ..)`
 runs it in an order that is picked, to the same end. Sizes that follow from the shapes of arrays need not be given. What the
 program refuses is raised, by a class for each status.
 """
@@ -38,6 +39,7 @@ from .refusals import (
     TurnsSpent,
     WriteFault,
 )
+from .rewrites import MapCollapse, MapExpansion, Rewrite
 
 __version__ = "0.1.0"
 __all__ = [
@@ -51,6 +53,8 @@ __all__ = [
     "Frame",
     "FunctionRefused",
     "LuthkembError",
+    "MapCollapse",
+    "MapExpansion",
     "Move",
     "NotBuilt",
     "NotInLanguage",
@@ -63,6 +67,7 @@ __all__ = [
     "Race",
     "ReadFault",
     "Refused",
+    "Rewrite",
     "SDFG",
     "ScopeAccess",
     "SourceRefused",

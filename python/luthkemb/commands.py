@@ -14,6 +14,7 @@ from .moves import After, picks_file, read_moves
 from .picture import Picture
 from .programs import ended
 from .refusals import MOST_BYTES, LuthkembError, ProgramFailed, refusal
+from .rewrites import Rewrite, read_rewrites
 from .sizes import Signature
 from .sources import Given, Source, source_of
 
@@ -132,6 +133,11 @@ def read_check(output: BinaryIO, _: Entries) -> list[ScopeAccess]:
     return read_accesses(output.read().decode())
 
 
+def read_matches(output: BinaryIO, _: Entries) -> list[Rewrite]:
+    """Gives the rewrites that may be done on a graph, or raises `ValueError`."""
+    return read_rewrites(output.read().decode())
+
+
 def read_step(output: BinaryIO, given: Entries) -> After:
     """Gives the arrays after a run by picks, with its moves, or raises `ValueError`."""
     moves = read_moves(output)
@@ -168,6 +174,11 @@ COMMANDS: dict[str, Command] = {
         "check",
         read_check,
         "Makes the race check of a program, with the sizes of these arrays, and gives what each of its scopes accesses.",
+    ),
+    "matches": Command(
+        "matches",
+        read_matches,
+        "Gives each rewrite that may be done on the graph of a program, with the sizes of these arrays.",
     ),
 }
 CALLS = {name: call_of(name, command) for name, command in COMMANDS.items()}

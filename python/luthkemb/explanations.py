@@ -71,8 +71,9 @@ USAGE: Sequence[str] = (
     "sdfg step SOURCE ARRAYS PICKS --turns B --trace",
     "sdfg print SOURCE ARRAYS",
     "sdfg check SOURCE ARRAYS",
+    "sdfg matches SOURCE ARRAYS",
 )
-FILES = {"run": 2, "step": 3, "print": 2, "check": 2}
+FILES = {"run": 2, "step": 3, "print": 2, "check": 2, "matches": 2}
 MOST_TURNS = 2**40
 Line = Callable[[int], int]
 # Text of a file that a terminal would take for more than text.
@@ -196,7 +197,7 @@ def _wrong_word(words: Sequence[str]) -> str:
 
 
 def _wrong_option(command: str, options: Sequence[str]) -> str:
-    if command in ("print", "check") and options:
+    if command in ("print", "check", "matches") and options:
         return f"`{command}` has two files and no options."
     known = ["--turns", "--trace"] if command == "step" else ["--turns"]
     at = 0

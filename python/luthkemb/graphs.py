@@ -14,6 +14,7 @@ from .commands import COMMANDS, Entries
 from .dace import Program
 from .picture import FORMATS, Picture
 from .refusals import NotThereYet
+from .rewrites import Rewrite
 from .sizes import Signature
 from .sources import Source, source_of
 
@@ -34,6 +35,10 @@ class SDFG(Picture):
     def check(self) -> list[ScopeAccess]:
         """Makes the race check, and gives what each scope accesses, or raises `Race`."""
         return _called("check", self._source, self._entries)
+
+    def matches(self) -> list[Rewrite]:
+        """Gives each rewrite that may be done on the graph."""
+        return _called("matches", self._source, self._entries)
 
     def save(self, name: FileName) -> None:
         """Writes the graph to a file: as a picture where its ending is that of one, as text for Graphviz or Mermaid, or as its text."""
@@ -58,7 +63,7 @@ class SDFG(Picture):
 
     def apply(self, *rewrites: Any) -> SDFG:
         """Raises `NotThereYet`: the program cannot rewrite graphs yet."""
-        raise NotThereYet("the program cannot rewrite graphs yet, so no rewrite can be applied: its commands are run, step, print and check")
+        raise NotThereYet("the program cannot rewrite graphs yet, so no rewrite can be applied: its commands are run, step, print, check and matches")
 
 
 def graph_of(program: Program, given: Entries) -> SDFG:

@@ -6,6 +6,7 @@
   # fake turns B        the run wants so many turns
   # fake graph TEXT     the text of the graph, with / between its lines
   # fake check TEXT     what the race check tells, so too
+  # fake matches TEXT   the rewrites that may be done, so too
   # fake moves TEXT     the trace of a run by picks, so too
 
 The true program passes comments over, and comes to the same answer by the rest of the source.
@@ -22,7 +23,7 @@ from typing import Any, Iterator
 
 LIMITS = (2**20, 2**26, 2**24)
 # How many files and options the words of each command may have.
-FILES = {"run": 2, "print": 2, "check": 2, "step": 3}
+FILES = {"run": 2, "print": 2, "check": 2, "matches": 2, "step": 3}
 OPTIONS = {"run": {"--turns"}, "step": {"--turns", "--trace"}}
 MOST_TURNS = 10_000_000
 ANSWER = re.compile(r"# fake (-?\d+) ?([^\r\n]*)")
@@ -30,6 +31,7 @@ STATEMENTS = re.compile(r"# fake: (.*)")
 TURNS = re.compile(r"# fake turns (\d+)")
 GRAPH = re.compile(r"# fake graph (.*)")
 CHECK = re.compile(r"# fake check (.*)")
+MATCHES = re.compile(r"# fake matches ?(.*)")
 MOVES = re.compile(r"# fake moves (.*)")
 SYMBOL = re.compile(r"^(\w+) = dace\.symbol\('\w+'\)$", re.MULTILINE)
 FUNCTION = re.compile(r"^def \w+\((.*)\):$", re.MULTILINE)
@@ -122,6 +124,8 @@ def answer(words: list[str]) -> str:
         return GRAPH.findall(source)[-1].replace("/", "\n")
     if words[0] == "check":
         return CHECK.findall(source)[-1].replace("/", "\n")
+    if words[0] == "matches":
+        return MATCHES.findall(source)[-1].replace("/", "\n")
     wanted, turns = TURNS.search(source), int(options.get("--turns", MOST_TURNS))
     if wanted and int(wanted[1]) > turns:
         raise Ended(8, f"{moves}turns spent {turns}")

@@ -7,12 +7,12 @@ use Rattle.sd_work.specs.Step.{Outcome, Done, Faulted, Spent}
 use Rattle.sd_graph.specs.declared.place.Place.{Place}
 use Rattle.sd_race.specs.race.Pairs.{IsGraphAccepted}
 use Rattle.sd_report.specs.write.RunText.{steps_text, end_text}
-use Rattle.sd_words.specs.Command.{Command, Call, to_run, to_step, to_print, to_check}
+use Rattle.sd_words.specs.Command.{Command, Call, to_run, to_step, to_print, to_check, to_match}
 use Rattle.sd_tool.specs.Work.{Work}
-use Rattle.sd_tool.specs.Answers.{ShelfUse, ran, listed, checked, answer_of_run, text_of}
+use Rattle.sd_tool.specs.Answers.{ShelfUse, ran, listed, checked, matched, answer_of_run, text_of}
 use Rattle.sd_tool.specs.Ends.{SinkUse, Writes}
 use Rattle.sd_tool.specs.Headline.{Prints, PrintsTraced}
-use Rattle.sd_tool.specs.Statuses.{Statuses, TellsSteps, Runs, ListsGraph, AcceptsGraph, EndsAs}
+use Rattle.sd_tool.specs.Statuses.{Statuses, TellsSteps, Runs, ListsGraph, AcceptsGraph, MatchesGraph, EndsAs}
 use Rattle.sd_tool.specs.Told.{Asks}
 use Rattle.sd_promise.specs.Promise.{FilesSay, PrintsWhatIsSaid, EndsAsSaid, wants_moves, RunWasSaid}
 use Rattle.sd_promise.proofs.Files.{read_by_grammar, run_is_said, said_is_run, status_told}
@@ -49,6 +49,7 @@ module _ (words : List (List ℕ)) (shelf : ShelfUse) (sink : SinkUse) (status :
   none_told work picks (to_step step) moves told none = told.1.kept ∙ ap (λ traces. if traces then told.1.trace else []) none
   none_told work picks to_print moves told none = told
   none_told work picks to_check moves told none = told
+  none_told work picks to_match moves told none = told
 
   run_was_said : (work : Work) (turns : ℕ) (moves : List (ℕ × ℕ)) (outcome : Outcome Place Left) → Runs words shelf work turns moves outcome → Writes sink (text_of (ran moves work.tree turns outcome)) → RunWasSaid words shelf sink outcome
   run_was_said work turns moves outcome runs writes =
@@ -73,7 +74,7 @@ module _ (words : List (List ℕ)) (shelf : ShelfUse) (sink : SinkUse) (status :
         writes = writes;
       }
 
-  pub done_was_said : Statuses words shelf sink status → status ≡ 0 → ((left : Left) × RunWasSaid words shelf sink (Done left)) ⊎ ((work : Work) × ListsGraph words shelf work × Writes sink (text_of (listed work.tree))) ⊎ ((work : Work) × AcceptsGraph words shelf work × Writes sink (text_of (checked work.tree)))
+  pub done_was_said : Statuses words shelf sink status → status ≡ 0 → ((left : Left) × RunWasSaid words shelf sink (Done left)) ⊎ ((work : Work) × ListsGraph words shelf work × Writes sink (text_of (listed work.tree))) ⊎ ((work : Work) × AcceptsGraph words shelf work × Writes sink (text_of (checked work.tree))) ⊎ ((work : Work) × MatchesGraph words shelf work × Writes sink (text_of (matched work.tree)))
   done_was_said statuses is = elim (statuses.zero is) [
     | inl run ↦ inl (run.3, run_was_said run.0 run.1 run.2 (Done run.3) run.4 run.5)
     | inr other ↦ inr other

@@ -10,7 +10,7 @@ use Rattle.sd_parse.specs.grammar.Programs.{tree_of}
 use Rattle.sd_json.specs.Given.{Contents}
 use Rattle.sd_says.specs.Says.{Says}
 use Rattle.sd_report.specs.write.RunText.{steps_text}
-use Rattle.sd_words.specs.Command.{Command, Call, IsCall, to_run, to_step, to_print, to_check, RunsWith}
+use Rattle.sd_words.specs.Command.{Command, Call, IsCall, to_run, to_step, to_print, to_check, to_match, RunsWith}
 use Rattle.sd_tool.specs.Answers.{ShelfUse, Reads}
 use Rattle.sd_tool.specs.Ends.{SinkUse, Writes}
 use Rattle.sd_promise.specs.Source.{file_read, memory_given, text_said, status_said}
@@ -44,6 +44,7 @@ wants_moves (to_run turns) = false
 wants_moves (to_step step) = step.traces
 wants_moves to_print = false
 wants_moves to_check = false
+wants_moves to_match = false
 
 -- the words ask for a run, by picks or without, of two files that were read, the source without an error, which say this outcome, and its text was written; lines of moves stand before it where they are asked for, and else none
 pub record RunWasSaid (words : List (List ℕ)) (shelf : ShelfUse) (sink : SinkUse) (outcome : Outcome Place Left) : Type 0 where

@@ -8,10 +8,10 @@ ghost use Rattle.sd_report.specs.write.RunText.{end_text};
 ghost use Rattle.sd_words.specs.Command.{Call, to_run};
 ghost use Rattle.sd_tool.specs.Work.{Work, source_graph, prepared, run_of_work};
 ghost use Rattle.sd_race.specs.race.Pairs.{IsGraphAccepted};
-ghost use Rattle.sd_tool.specs.Answers.{ShelfUse, listed, checked, text_of};
+ghost use Rattle.sd_tool.specs.Answers.{ShelfUse, listed, checked, matched, text_of};
 ghost use Rattle.sd_tool.specs.Ends.{SinkUse, Writes};
 ghost use Rattle.sd_tool.specs.Headline.{Prints, PrintsTraced};
-ghost use Rattle.sd_tool.specs.Statuses.{Statuses, ListsGraph, AcceptsGraph};
+ghost use Rattle.sd_tool.specs.Statuses.{Statuses, ListsGraph, AcceptsGraph, MatchesGraph};
 ghost use Rattle.sd_tool.specs.Accepted.{IsRaceFree};
 ghost use Rattle.sd_tool.specs.Told.{Asks, Presents};
 ghost use Rattle.sd_parse.specs.grammar.Small.{small_source};
@@ -43,7 +43,7 @@ pub fn run_prints_what_the_source_says()
         → Statuses words shelf sink status → (asks : Asks words shelf call work) → call.command ≡ to_run turns → IsGraphAccepted work.tree
         → FilesSay asks.source asks.arrays turns outcome printed → EndsAsSaid outcome printed sink status }
     ensures done { (words : List (List ℕ)) (shelf : ShelfUse) (sink : SinkUse) (status : ℕ) → Statuses words shelf sink status → status ≡ 0
-        → ((left : Left) × RunWasSaid words shelf sink (Done left)) ⊎ ((work : Work) × ListsGraph words shelf work × Writes sink (text_of (listed work.tree))) ⊎ ((work : Work) × AcceptsGraph words shelf work × Writes sink (text_of (checked work.tree))) }
+        → ((left : Left) × RunWasSaid words shelf sink (Done left)) ⊎ ((work : Work) × ListsGraph words shelf work × Writes sink (text_of (listed work.tree))) ⊎ ((work : Work) × AcceptsGraph words shelf work × Writes sink (text_of (checked work.tree))) ⊎ ((work : Work) × MatchesGraph words shelf work × Writes sink (text_of (matched work.tree))) }
     ensures fault { (words : List (List ℕ)) (shelf : ShelfUse) (sink : SinkUse) (status : ℕ) → Statuses words shelf sink status → status ≡ 7
         → (fault : Fault Place) × RunWasSaid words shelf sink (Faulted fault) }
     ensures spent { (words : List (List ℕ)) (shelf : ShelfUse) (sink : SinkUse) (status : ℕ) → Statuses words shelf sink status → status ≡ 8 → RunWasSaid words shelf sink Spent }

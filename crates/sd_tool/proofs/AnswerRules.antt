@@ -3,7 +3,7 @@ use Rattle.std.proofs.Common.{◌≡◌, ℕ, ◌^◌, ◌≤◌, List, Option, 
 use Rattle.std.proofs.lemmas.Option.{IfSome_then}
 use Rattle.sd_io.specs.Shelf.{IsTold, IsToldLonger}
 use Rattle.sd_graph.specs.PlainTree.{GraphTree}
-use Rattle.sd_words.specs.Command.{Command, to_run, to_step, to_print, to_check, Call, IsCall, command_of}
+use Rattle.sd_words.specs.Command.{Command, to_run, to_step, to_print, to_check, to_match, Call, IsCall, command_of}
 use Rattle.sd_tool.specs.Work.{Work, source_graph, prepared}
 use Rattle.sd_tool.specs.Answers.{ShelfUse, shelf_use, Answer, source_refused, arrays_refused, picks_refused, Reads, Unread, faulty, longer, ReadsSource, Comes, NoPicks, no_file, no_pick, HasPicks, LacksPicks, Answers, no_source, no_program, no_arrays, no_work}
 use Rattle.sd_chain.specs.Picks.{picks_reading, IsRefusal}
@@ -118,6 +118,7 @@ HasPicks-part part whole (to_run turns) picks is_part has = has
 HasPicks-part part whole (to_step step) picks is_part has = record { file = has.file; reads = Reads-part part whole step.picks (2 ^ 24) has.file is_part has.reads; is = has.is }
 HasPicks-part part whole to_print picks is_part has = has
 HasPicks-part part whole to_check picks is_part has = has
+HasPicks-part part whole to_match picks is_part has = has
 
 NoPicks-part : (part whole : ShelfUse) (name : List ℕ) {answer : Answer} → IsPart part whole → NoPicks part name answer → NoPicks whole name answer
 NoPicks-part part whole name is_part (no_file why) = no_file (Unread-part part whole name (2 ^ 24) is_part why)
@@ -128,6 +129,7 @@ LacksPicks-part part whole (to_run turns) answer is_part lacks = lacks
 LacksPicks-part part whole (to_step step) answer is_part lacks = NoPicks-part part whole step.picks is_part lacks
 LacksPicks-part part whole to_print answer is_part lacks = lacks
 LacksPicks-part part whole to_check answer is_part lacks = lacks
+LacksPicks-part part whole to_match answer is_part lacks = lacks
 
 -- a picks file that is not read
 pub lacks_file : (shelf : ShelfUse) (command : asked_command.Command) (step : asked_step.Step) (ending : Ending) → command ≡ asked.Step step → IfSome (answer_of ending) (Unread shelf step.picks.now (2 ^ 24)) →

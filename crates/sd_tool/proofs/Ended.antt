@@ -13,8 +13,8 @@ use Rattle.sd_report.specs.write.RunText.{steps_text, run_text}
 use Rattle.sd_race.specs.race.Pairs.{IsGraphAccepted}
 use Rattle.sd_words.specs.Command.{Step, command_of}
 use Rattle.sd_words.specs.declared.command.Command as asked_command
-use Rattle.sd_words.specs.declared.command.Command.TheVariants.{Print, Check}
-use Rattle.sd_tool.specs.Answers.{Answer, ran, listed, checked, TellsRun, TellsStep, Tells, status_of_end}
+use Rattle.sd_words.specs.declared.command.Command.TheVariants.{Print, Check, Matches}
+use Rattle.sd_tool.specs.Answers.{Answer, ran, listed, checked, matched, TellsRun, TellsStep, Tells, status_of_end}
 use Rattle.sd_tool.specs.Report.{SaysAs, Says}
 use Rattle.sd_tool.specs.Work.{Work, run_of_work}
 
@@ -48,6 +48,10 @@ says_step work picks step end steps is = record {
 -- the text of a graph
 pub says_print : (work : Work) (picks : List ℕ) (command : asked_command.Command) → command ≡ Print → Says (Tells work picks (command_of command)) (listed work.tree)
 says_print work picks command is = says (Tells work picks (command_of command)) (listed work.tree) (subst (λ c. Tells work picks (command_of c) (listed work.tree)) (sym is) refl)
+
+-- the rewrites that may be done
+pub says_matches : (work : Work) (picks : List ℕ) (command : asked_command.Command) → command ≡ Matches → Says (Tells work picks (command_of command)) (matched work.tree)
+says_matches work picks command is = says (Tells work picks (command_of command)) (matched work.tree) (subst (λ c. Tells work picks (command_of c) (matched work.tree)) (sym is) refl)
 
 -- the accesses of an accepted graph
 pub says_check : (work after : Work) (picks : List ℕ) (command : asked_command.Command) → command ≡ Check → after ≡ work → IsGraphAccepted after.tree → Says (Tells work picks (command_of command)) (checked after.tree)

@@ -1,7 +1,7 @@
 -- What alone can be answered where a picks file is told.
 use Rattle.std.proofs.Common.{◌≡◌, ℕ, ◌<◌, ◌≤◌, ◌^◌, List, length, Ok, Err, refl, ap, sym, ◌∙◌, subst, arith, inl, inr}
 use Rattle.sd_chain.specs.Picks.{picks_reading}
-use Rattle.sd_words.specs.Command.{Command, Step, to_run, to_step, to_print, to_check, Call}
+use Rattle.sd_words.specs.Command.{Command, Step, to_run, to_step, to_print, to_check, to_match, Call}
 use Rattle.sd_tool.specs.Work.{Work}
 use Rattle.sd_tool.specs.Answers.{ShelfUse, Answer, picks_refused, too_long, Reads, Unread, faulty, longer, no_file, no_pick, HasPicks, LacksPicks, Tells, Answers}
 use Rattle.sd_tool.specs.Told.{Asks, TellsPicks, GivesPicks}
@@ -23,6 +23,7 @@ module _ (shelf : ShelfUse) where
       (subst (λ f. picks_reading f ≡ Err word) (read_content shelf step.picks gives.file file (2 ^ 24) gives.tells.told reads) is)
   not_lacking to_print picks answer gives lacks = lacks
   not_lacking to_check picks answer gives lacks = lacks
+  not_lacking to_match picks answer gives lacks = lacks
 
   -- and the command has these
   has_told : (command : Command) (found picks : List ℕ) → HasPicks shelf command found → GivesPicks shelf command picks → found ≡ picks
@@ -32,6 +33,7 @@ module _ (shelf : ShelfUse) where
       (subst (λ f. picks_reading f ≡ Ok found) (read_content shelf step.picks gives.file has.file (2 ^ 24) gives.tells.told has.reads) has.is) gives.is
   has_told to_print found picks has gives = has ∙ sym gives
   has_told to_check found picks has gives = has ∙ sym gives
+  has_told to_match found picks has gives = has ∙ sym gives
 
   pub told_later : (command : Command) (work : Work) (picks : List ℕ) (answer : Answer) → GivesPicks shelf command picks → Later shelf command work answer → Tells work picks command answer
   told_later command work picks answer gives (inl lacks) = absurd (not_lacking command picks answer gives lacks)

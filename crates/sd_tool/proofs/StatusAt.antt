@@ -10,9 +10,9 @@ use Rattle.sd_race.specs.race.Race.{Race}
 use Rattle.sd_context.specs.declared.blocks.refusal.Refusal.{Refusal}
 use Rattle.sd_tool.specs.declared.ending.ArraysRefusal.{ArraysRefusal}
 use Rattle.sd_tool.specs.Work.{Work}
-use Rattle.sd_tool.specs.Answers.{ShelfUse, Answer, ran, listed, checked, raced, bad_words, source_refused, arrays_refused, picks_refused, read_fault, too_long, Answers, status_of, text_of}
+use Rattle.sd_tool.specs.Answers.{ShelfUse, Answer, ran, listed, checked, matched, raced, bad_words, source_refused, arrays_refused, picks_refused, read_fault, too_long, Answers, status_of, text_of}
 use Rattle.sd_tool.specs.Ends.{SinkUse, Writes}
-use Rattle.sd_tool.specs.Statuses.{NamesNothing, HasNoProgram, HasNoWork, HasNoPick, Runs, ListsGraph, AcceptsGraph, HasRace, IsFile}
+use Rattle.sd_tool.specs.Statuses.{NamesNothing, HasNoProgram, HasNoWork, HasNoPick, Runs, ListsGraph, AcceptsGraph, MatchesGraph, HasRace, IsFile}
 use Rattle.sd_tool.proofs.StatusRows.{Cause}
 
 -- what a status says of its answer
@@ -20,12 +20,13 @@ abbrev pub Told : List (List ℕ) → ShelfUse → SinkUse → ℕ → Answer �
 Told words shelf sink status answer = (status ≡ status_of answer) × Answers words shelf answer × Cause words shelf answer × Writes sink (text_of answer)
 
 module _ (words : List (List ℕ)) (shelf : ShelfUse) (sink : SinkUse) where
-  pub zero_at : (answer : Answer) → Told words shelf sink 0 answer → ((work : Work) × (turns : ℕ) × (steps : List (ℕ × ℕ)) × (left : Left) × Runs words shelf work turns steps (Done left) × Writes sink (text_of (ran steps work.tree turns (Done left)))) ⊎ ((work : Work) × ListsGraph words shelf work × Writes sink (text_of (listed work.tree))) ⊎ ((work : Work) × AcceptsGraph words shelf work × Writes sink (text_of (checked work.tree)))
+  pub zero_at : (answer : Answer) → Told words shelf sink 0 answer → ((work : Work) × (turns : ℕ) × (steps : List (ℕ × ℕ)) × (left : Left) × Runs words shelf work turns steps (Done left) × Writes sink (text_of (ran steps work.tree turns (Done left)))) ⊎ ((work : Work) × ListsGraph words shelf work × Writes sink (text_of (listed work.tree))) ⊎ ((work : Work) × AcceptsGraph words shelf work × Writes sink (text_of (checked work.tree))) ⊎ ((work : Work) × MatchesGraph words shelf work × Writes sink (text_of (matched work.tree)))
   zero_at (ran steps tree turns (Done left)) t = inl (t.2.0, turns, steps, left, t.2.1, subst (λ g. Writes sink (text_of (ran steps g turns (Done left)))) t.2.2 t.3)
   zero_at (ran steps tree turns (Faulted fault)) t = absurd (let e = t.0 in omega arith)
   zero_at (ran steps tree turns Spent) t = absurd (let e = t.0 in omega arith)
   zero_at (listed tree) t = inr (inl (t.2.0, t.2.1, subst (λ g. Writes sink (text_of (listed g))) t.2.2 t.3))
-  zero_at (checked tree) t = inr (inr (t.2.0, t.2.1, subst (λ g. Writes sink (text_of (checked g))) t.2.2 t.3))
+  zero_at (checked tree) t = inr (inr (inl (t.2.0, t.2.1, subst (λ g. Writes sink (text_of (checked g))) t.2.2 t.3)))
+  zero_at (matched tree) t = inr (inr (inr (t.2.0, t.2.1, subst (λ g. Writes sink (text_of (matched g))) t.2.2 t.3)))
   zero_at (raced tree race) t = absurd (let e = t.0 in omega arith)
   zero_at bad_words t = absurd (let e = t.0 in omega arith)
   zero_at (source_refused refusal) t = absurd (let e = t.0 in omega arith)
@@ -40,6 +41,7 @@ module _ (words : List (List ℕ)) (shelf : ShelfUse) (sink : SinkUse) where
   seven_at (ran steps tree turns Spent) t = absurd (let e = t.0 in omega arith)
   seven_at (listed tree) t = absurd (let e = t.0 in omega arith)
   seven_at (checked tree) t = absurd (let e = t.0 in omega arith)
+  seven_at (matched tree) t = absurd (let e = t.0 in omega arith)
   seven_at (raced tree race) t = absurd (let e = t.0 in omega arith)
   seven_at bad_words t = absurd (let e = t.0 in omega arith)
   seven_at (source_refused refusal) t = absurd (let e = t.0 in omega arith)
@@ -54,6 +56,7 @@ module _ (words : List (List ℕ)) (shelf : ShelfUse) (sink : SinkUse) where
   eight_at (ran steps tree turns Spent) t = (t.2.0, turns, steps, t.2.1, subst (λ g. Writes sink (text_of (ran steps g turns Spent))) t.2.2 t.3)
   eight_at (listed tree) t = absurd (let e = t.0 in omega arith)
   eight_at (checked tree) t = absurd (let e = t.0 in omega arith)
+  eight_at (matched tree) t = absurd (let e = t.0 in omega arith)
   eight_at (raced tree race) t = absurd (let e = t.0 in omega arith)
   eight_at bad_words t = absurd (let e = t.0 in omega arith)
   eight_at (source_refused refusal) t = absurd (let e = t.0 in omega arith)
@@ -68,6 +71,7 @@ module _ (words : List (List ℕ)) (shelf : ShelfUse) (sink : SinkUse) where
   six_at (ran steps tree turns Spent) t = absurd (let e = t.0 in omega arith)
   six_at (listed tree) t = absurd (let e = t.0 in omega arith)
   six_at (checked tree) t = absurd (let e = t.0 in omega arith)
+  six_at (matched tree) t = absurd (let e = t.0 in omega arith)
   six_at (raced tree race) t = (t.2.0, race, t.2.1, subst (λ g. Writes sink (text_of (raced g race))) t.2.2 t.3)
   six_at bad_words t = absurd (let e = t.0 in omega arith)
   six_at (source_refused refusal) t = absurd (let e = t.0 in omega arith)
@@ -82,6 +86,7 @@ module _ (words : List (List ℕ)) (shelf : ShelfUse) (sink : SinkUse) where
   two_at (ran steps tree turns Spent) t = absurd (let e = t.0 in omega arith)
   two_at (listed tree) t = absurd (let e = t.0 in omega arith)
   two_at (checked tree) t = absurd (let e = t.0 in omega arith)
+  two_at (matched tree) t = absurd (let e = t.0 in omega arith)
   two_at (raced tree race) t = absurd (let e = t.0 in omega arith)
   two_at bad_words t = (t.2, t.3)
   two_at (source_refused refusal) t = absurd (let e = t.0 in omega arith)
@@ -96,6 +101,7 @@ module _ (words : List (List ℕ)) (shelf : ShelfUse) (sink : SinkUse) where
   three_at (ran steps tree turns Spent) t = absurd (let e = t.0 in omega arith)
   three_at (listed tree) t = absurd (let e = t.0 in omega arith)
   three_at (checked tree) t = absurd (let e = t.0 in omega arith)
+  three_at (matched tree) t = absurd (let e = t.0 in omega arith)
   three_at (raced tree race) t = absurd (let e = t.0 in omega arith)
   three_at bad_words t = absurd (let e = t.0 in omega arith)
   three_at (source_refused refusal) t = (refusal, t.2, t.3)
@@ -110,6 +116,7 @@ module _ (words : List (List ℕ)) (shelf : ShelfUse) (sink : SinkUse) where
   four_at (ran steps tree turns Spent) t = absurd (let e = t.0 in omega arith)
   four_at (listed tree) t = absurd (let e = t.0 in omega arith)
   four_at (checked tree) t = absurd (let e = t.0 in omega arith)
+  four_at (matched tree) t = absurd (let e = t.0 in omega arith)
   four_at (raced tree race) t = absurd (let e = t.0 in omega arith)
   four_at bad_words t = absurd (let e = t.0 in omega arith)
   four_at (source_refused refusal) t = absurd (let e = t.0 in omega arith)
@@ -124,6 +131,7 @@ module _ (words : List (List ℕ)) (shelf : ShelfUse) (sink : SinkUse) where
   five_at (ran steps tree turns Spent) t = absurd (let e = t.0 in omega arith)
   five_at (listed tree) t = absurd (let e = t.0 in omega arith)
   five_at (checked tree) t = absurd (let e = t.0 in omega arith)
+  five_at (matched tree) t = absurd (let e = t.0 in omega arith)
   five_at (raced tree race) t = absurd (let e = t.0 in omega arith)
   five_at bad_words t = absurd (let e = t.0 in omega arith)
   five_at (source_refused refusal) t = absurd (let e = t.0 in omega arith)
@@ -138,6 +146,7 @@ module _ (words : List (List ℕ)) (shelf : ShelfUse) (sink : SinkUse) where
   nine_at (ran steps tree turns Spent) t = absurd (let e = t.0 in omega arith)
   nine_at (listed tree) t = absurd (let e = t.0 in omega arith)
   nine_at (checked tree) t = absurd (let e = t.0 in omega arith)
+  nine_at (matched tree) t = absurd (let e = t.0 in omega arith)
   nine_at (raced tree race) t = absurd (let e = t.0 in omega arith)
   nine_at bad_words t = absurd (let e = t.0 in omega arith)
   nine_at (source_refused refusal) t = absurd (let e = t.0 in omega arith)
@@ -152,6 +161,7 @@ module _ (words : List (List ℕ)) (shelf : ShelfUse) (sink : SinkUse) where
   eleven_at (ran steps tree turns Spent) t = absurd (let e = t.0 in omega arith)
   eleven_at (listed tree) t = absurd (let e = t.0 in omega arith)
   eleven_at (checked tree) t = absurd (let e = t.0 in omega arith)
+  eleven_at (matched tree) t = absurd (let e = t.0 in omega arith)
   eleven_at (raced tree race) t = absurd (let e = t.0 in omega arith)
   eleven_at bad_words t = absurd (let e = t.0 in omega arith)
   eleven_at (source_refused refusal) t = absurd (let e = t.0 in omega arith)
@@ -167,6 +177,7 @@ ten_at (ran steps tree turns (Faulted fault)) e = omega arith
 ten_at (ran steps tree turns Spent) e = omega arith
 ten_at (listed tree) e = omega arith
 ten_at (checked tree) e = omega arith
+ten_at (matched tree) e = omega arith
 ten_at (raced tree race) e = omega arith
 ten_at bad_words e = omega arith
 ten_at (source_refused refusal) e = omega arith
@@ -182,6 +193,7 @@ one_at (ran steps tree turns (Faulted fault)) e = omega arith
 one_at (ran steps tree turns Spent) e = omega arith
 one_at (listed tree) e = omega arith
 one_at (checked tree) e = omega arith
+one_at (matched tree) e = omega arith
 one_at (raced tree race) e = omega arith
 one_at bad_words e = omega arith
 one_at (source_refused refusal) e = omega arith

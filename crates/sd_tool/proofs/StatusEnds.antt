@@ -7,9 +7,9 @@ use Rattle.sd_graph.specs.PlainTree.{GraphTree}
 use Rattle.sd_graph.specs.declared.place.Place.{Place}
 use Rattle.sd_race.specs.race.Pairs.{IsGraphAccepted}
 use Rattle.sd_report.specs.stepping.Step.{IsPicked}
-use Rattle.sd_words.specs.Command.{Step, to_run, to_step, to_print, to_check, MakesRaceCheck, Call}
+use Rattle.sd_words.specs.Command.{Step, to_run, to_step, to_print, to_check, to_match, MakesRaceCheck, Call}
 use Rattle.sd_tool.specs.Work.{Work, run_of_work}
-use Rattle.sd_tool.specs.Answers.{ShelfUse, Answer, ran, listed, checked, bad_words, source_refused, arrays_refused, picks_refused, too_long, Answers, answer_of_run, TellsRace, Tells, status_of, text_of}
+use Rattle.sd_tool.specs.Answers.{ShelfUse, Answer, ran, listed, checked, matched, bad_words, source_refused, arrays_refused, picks_refused, too_long, Answers, answer_of_run, TellsRace, Tells, status_of, text_of}
 use Rattle.sd_tool.specs.Ends.{SinkUse, Ends, written, sink_failed, cut_short, no_memory, Writes, WritesPrefix}
 use Rattle.sd_tool.specs.Told.{Asks, GivesPicks}
 use Rattle.sd_tool.specs.Statuses.{EndsAs, EndsWithRace, Statuses}
@@ -106,6 +106,11 @@ pub asked_text : (words : List (List ℕ)) (shelf : ShelfUse) (call : Call) (wor
 asked_text words shelf call work asks is =
     one_answer words shelf call work [] (listed work.tree) asks (subst (λ c. GivesPicks shelf c []) (sym is) refl) (subst (λ c. Tells work [] c (listed work.tree)) (sym is) refl)
 
+-- the rewrites that are asked for are those of the graph
+pub asked_matches : (words : List (List ℕ)) (shelf : ShelfUse) (call : Call) (work : Work) → Asks words shelf call work → call.command ≡ to_match → (answer : Answer) → Answers words shelf answer → answer ≡ matched work.tree
+asked_matches words shelf call work asks is =
+    one_answer words shelf call work [] (matched work.tree) asks (subst (λ c. GivesPicks shelf c []) (sym is) refl) (subst (λ c. Tells work [] c (matched work.tree)) (sym is) refl)
+
 -- the race check of an accepted graph tells its accesses
 pub asked_check : (words : List (List ℕ)) (shelf : ShelfUse) (call : Call) (work : Work) → Asks words shelf call work → call.command ≡ to_check → IsGraphAccepted work.tree → (answer : Answer) → Answers words shelf answer → answer ≡ checked work.tree
 asked_check words shelf call work asks is accepted =
@@ -126,6 +131,7 @@ statuses words shelf sink status ends = record {
       ends_as words shelf sink status (ran steps work.tree step.turns outcome) (asked_step words shelf call step work picks steps picked outcome asks is gives accepted run ran_so) ends;
   listed_where = λ call work asks is. ends_as words shelf sink status (listed work.tree) (asked_text words shelf call work asks is) ends;
   checked_where = λ call work asks is accepted. ends_as words shelf sink status (checked work.tree) (asked_check words shelf call work asks is accepted) ends;
+  matched_where = λ call work asks is. ends_as words shelf sink status (matched work.tree) (asked_matches words shelf call work asks is) ends;
   six = at_status words shelf sink status 6 (six_at words shelf sink) (λ e. omega arith) (λ e. omega arith) ends;
   six_where = λ call work picks asks gives checks refused. ends_with_race words shelf sink status work.tree (one_race words shelf call work picks asks gives checks refused) ends;
   two = at_status words shelf sink status 2 (two_at words shelf sink) (λ e. omega arith) (λ e. omega arith) ends;

@@ -2,16 +2,17 @@
 use Rattle.std.proofs.Common.{◌≡◌, ℕ, ◌^◌, List, [], refl, sym, subst, inl, inr}
 use Rattle.sd_io.specs.Count.{HasRisen}
 use Rattle.sd_io.specs.Shelf.{IsToldLonger}
-use Rattle.sd_words.specs.Command.{Command, to_run, to_step, to_print, to_check, RunsWith, MakesRaceCheck, Call}
+use Rattle.sd_words.specs.Command.{Command, to_run, to_step, to_print, to_check, to_match, RunsWith, MakesRaceCheck, Call}
 use Rattle.sd_tool.specs.Work.{Work}
-use Rattle.sd_tool.specs.Answers.{ShelfUse, Answer, ran, listed, checked, raced, bad_words, source_refused, arrays_refused, picks_refused, read_fault, too_long, Unread, faulty, longer, Comes, no_file, no_pick, HasPicks, LacksPicks, Answers, no_command, no_source, no_program, no_arrays, no_work, no_picks, answered, TellsRace, Tells}
-use Rattle.sd_tool.specs.Statuses.{NamesNothing, HasNoProgram, HasNoWork, HasNoPick, TellsSteps, Runs, ListsGraph, AcceptsGraph, HasRace, names_source, names_arrays, names_picks, IsFile}
+use Rattle.sd_tool.specs.Answers.{ShelfUse, Answer, ran, listed, checked, matched, raced, bad_words, source_refused, arrays_refused, picks_refused, read_fault, too_long, Unread, faulty, longer, Comes, no_file, no_pick, HasPicks, LacksPicks, Answers, no_command, no_source, no_program, no_arrays, no_work, no_picks, answered, TellsRace, Tells}
+use Rattle.sd_tool.specs.Statuses.{NamesNothing, HasNoProgram, HasNoWork, HasNoPick, TellsSteps, Runs, ListsGraph, AcceptsGraph, MatchesGraph, HasRace, names_source, names_arrays, names_picks, IsFile}
 
 -- the cause of each answer
 abbrev pub Cause : List (List ℕ) → ShelfUse → Answer → Type 0
 Cause words shelf (ran steps tree turns outcome) = (work : Work) × Runs words shelf work turns steps outcome × (tree ≡ work.tree)
 Cause words shelf (listed tree) = (work : Work) × ListsGraph words shelf work × (tree ≡ work.tree)
 Cause words shelf (checked tree) = (work : Work) × AcceptsGraph words shelf work × (tree ≡ work.tree)
+Cause words shelf (matched tree) = (work : Work) × MatchesGraph words shelf work × (tree ≡ work.tree)
 Cause words shelf (raced tree race) = (work : Work) × HasRace words shelf work race × (tree ≡ work.tree)
 Cause words shelf bad_words = NamesNothing words
 Cause words shelf (source_refused refusal) = HasNoProgram words shelf refusal
@@ -31,6 +32,7 @@ lacking words shelf call work (to_step step) answer comes asks (no_pick file wor
     record { call = call; step = step; work = work; file = file; comes = comes; asks = asks; reads = reads; is = is }
 lacking words shelf call work to_print answer comes asks lacks = absurd lacks
 lacking words shelf call work to_check answer comes asks lacks = absurd lacks
+lacking words shelf call work to_match answer comes asks lacks = absurd lacks
 
 module _ (words : List (List ℕ)) (shelf : ShelfUse) (call : Call) (work : Work) (picks : List ℕ) (answer : Answer) (comes : Comes words shelf call work) (has : HasPicks shelf call.command picks) where
   raced_so : MakesRaceCheck call.command → TellsRace work.tree answer → Cause words shelf answer
@@ -74,6 +76,7 @@ module _ (words : List (List ℕ)) (shelf : ShelfUse) (call : Call) (work : Work
   told to_print asks tells = subst (Cause words shelf) (sym tells) (work, record { call = call; comes = comes; asks = asks }, refl)
   told to_check asks (inl tells) = subst (Cause words shelf) (sym tells.1) (work, record { call = call; comes = comes; asks = asks; accepted = tells.0 }, refl)
   told to_check asks (inr tells) = raced_so (subst MakesRaceCheck (sym asks) tt) tells
+  told to_match asks tells = subst (Cause words shelf) (sym tells) (work, record { call = call; comes = comes; asks = asks }, refl)
 
 pub cause : (words : List (List ℕ)) (shelf : ShelfUse) {answer : Answer} → Answers words shelf answer → Cause words shelf answer
 cause words shelf (no_command none) = none

@@ -5,7 +5,7 @@ use Rattle.sd_graph.specs.PlainTree.{GraphTree}
 use Rattle.sd_race.specs.race.Pairs.{IsGraphAccepted}
 use Rattle.sd_race.proofs.race_lemmas.FirstLaws.{no-race, one-race}
 use Rattle.sd_report.proofs.stepping_lemmas.Traces.{IsPicked-unique}
-use Rattle.sd_words.specs.Command.{Command, Step, to_run, to_step, to_print, to_check, MakesRaceCheck}
+use Rattle.sd_words.specs.Command.{Command, Step, to_run, to_step, to_print, to_check, to_match, MakesRaceCheck}
 use Rattle.sd_tool.specs.Work.{Work, run_of_work}
 use Rattle.sd_tool.specs.Answers.{Answer, ran, raced, TellsRun, TellsStep, TellsRace, UnlessRace, Tells}
 
@@ -32,6 +32,7 @@ Tells-unique work picks (to_run turns) a b x y = verdict_unique work.tree a b (r
 Tells-unique work picks (to_step step) a b x y = verdict_unique work.tree a b (step_unique work picks step a b) x y
 Tells-unique work picks to_print a b x y = x ∙ sym y
 Tells-unique work picks to_check a b x y = verdict_unique work.tree a b (λ is other. is ∙ sym other) x y
+Tells-unique work picks to_match a b x y = x ∙ sym y
 
 -- of a graph that is not accepted a command that makes the race check tells the race
 pub race_told : (work : Work) (picks : List ℕ) (command : Command) (answer : Answer) → MakesRaceCheck command → ¬ IsGraphAccepted work.tree → Tells work picks command answer → TellsRace work.tree answer
@@ -42,3 +43,4 @@ race_told work picks (to_step step) answer checks refused (inr tells) = tells
 race_told work picks to_print answer checks refused tells = absurd checks
 race_told work picks to_check answer checks refused (inl tells) = absurd (refused tells.0)
 race_told work picks to_check answer checks refused (inr tells) = tells
+race_told work picks to_match answer checks refused tells = absurd checks

@@ -13,18 +13,20 @@ use Rattle.sd_race.specs.race.Race.{Race, IsRaceOf}
 use Rattle.sd_race.specs.text.CheckText.{check_text}
 use Rattle.sd_race.specs.text.RaceText.{race_text}
 use Rattle.sd_chain.specs.Picks.{picks_reading}
+use Rattle.sd_steps.specs.StepText.{matches_text}
 use Rattle.sd_report.specs.stepping.Step.{IsPicked}
 use Rattle.sd_report.specs.write.RunText.{line, run_text}
-use Rattle.sd_words.specs.Command.{Command, Step, to_run, to_step, to_print, to_check, Call, IsCall}
+use Rattle.sd_words.specs.Command.{Command, Step, to_run, to_step, to_print, to_check, to_match, Call, IsCall}
 use Rattle.sd_tool.specs.declared.ending.ArraysRefusal.{ArraysRefusal}
 use Rattle.sd_tool.specs.Work.{Work, source_graph, prepared, run_of_work}
 use Rattle.sd_tool.specs.AnswerText.{source_text, arrays_text, picks_text}
 
--- how a run has ended, behind the steps that are told of it; the text of a graph; what the race check tells of it; or why there is none of these
+-- how a run has ended, behind the steps that are told of it; the text of a graph; what the race check tells of it; the rewrites that may be done on it; or why there is none of these
 pub data Answer : Type 0 where
   ran : (steps : List (ℕ × ℕ)) → (tree : GraphTree) → (turns : ℕ) → Outcome Place Left → Answer
   listed : (tree : GraphTree) → Answer
   checked : (tree : GraphTree) → Answer
+  matched : (tree : GraphTree) → Answer
   raced : (tree : GraphTree) → (race : Race) → Answer
   bad_words : Answer
   source_refused : Refusal → Answer
@@ -43,6 +45,7 @@ abbrev pub status_of : Answer → ℕ
 status_of (ran steps tree turns outcome) = status_of_end outcome
 status_of (listed tree) = 0
 status_of (checked tree) = 0
+status_of (matched tree) = 0
 status_of (raced tree race) = 6
 status_of bad_words = 2
 status_of (source_refused refusal) = 3
@@ -55,6 +58,7 @@ abbrev pub text_of : Answer → List ℕ
 text_of (ran steps tree turns outcome) = run_text steps tree turns outcome
 text_of (listed tree) = graph_text tree
 text_of (checked tree) = check_text tree
+text_of (matched tree) = matches_text tree
 text_of (raced tree race) = line (race_text tree race)
 text_of bad_words = line (codes "bad words")
 text_of (source_refused refusal) = source_text refusal
@@ -96,6 +100,7 @@ Tells work picks (to_run turns) answer = UnlessRace work.tree (TellsRun work tur
 Tells work picks (to_step step) answer = UnlessRace work.tree (TellsStep work picks step answer) answer
 Tells work picks to_print answer = answer ≡ listed work.tree
 Tells work picks to_check answer = UnlessRace work.tree (answer ≡ checked work.tree) answer
+Tells work picks to_match answer = answer ≡ matched work.tree
 
 -- what a shelf tells, and the counts of each name before and after it was used
 pub record ShelfUse : Type 0 where
@@ -156,6 +161,7 @@ HasPicks shelf (to_run turns) picks = picks ≡ []
 HasPicks shelf (to_step step) picks = ReadsPicks shelf step.picks picks
 HasPicks shelf to_print picks = picks ≡ []
 HasPicks shelf to_check picks = picks ≡ []
+HasPicks shelf to_match picks = picks ≡ []
 
 -- a command has a picks file that gives it none
 abbrev pub LacksPicks : ShelfUse → Command → Answer → Type 0
@@ -163,6 +169,7 @@ LacksPicks shelf (to_run turns) answer = ⊥
 LacksPicks shelf (to_step step) answer = NoPicks shelf step.picks answer
 LacksPicks shelf to_print answer = ⊥
 LacksPicks shelf to_check answer = ⊥
+LacksPicks shelf to_match answer = ⊥
 
 -- the places in their order: words, source read, its form, arrays read, their form, sizes and shapes, picks read, their form, what the command answers; the first that refuses decides
 pub data Answers (words : List (List ℕ)) (shelf : ShelfUse) : Answer → Type 0 where

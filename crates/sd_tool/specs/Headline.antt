@@ -7,6 +7,7 @@ use Rattle.sd_print.specs.graphs.GraphText.{graph_text}
 use Rattle.sd_race.specs.race.Race.{Race, IsRaceOf}
 use Rattle.sd_race.specs.text.CheckText.{check_text}
 use Rattle.sd_race.specs.text.RaceText.{race_text}
+use Rattle.sd_steps.specs.StepText.{matches_text}
 use Rattle.sd_core.specs.Traced.{IsTraced}
 use Rattle.sd_report.specs.write.RunText.{line, end_text, run_text}
 use Rattle.sd_tool.specs.Work.{Work, run_of_work}
@@ -39,6 +40,10 @@ Lists work sink status = ((status ≡ 0) × Writes sink (graph_text work.tree)) 
 -- what the race check tells of the work's graph, which is accepted, is written whole and the status is 0, or memory was wanting
 abbrev pub Accepts : Work → SinkUse → (status : ℕ) → Type 0
 Accepts work sink status = ((status ≡ 0) × Writes sink (check_text work.tree)) ⊎ (status ≡ 1)
+
+-- the rewrites that may be done on the work's graph are written whole and the status is 0, or memory was wanting
+abbrev pub TellsMatches : Work → SinkUse → (status : ℕ) → Type 0
+TellsMatches work sink status = ((status ≡ 0) × Writes sink (matches_text work.tree)) ⊎ (status ≡ 1)
 
 -- the race of the work's graph is written whole, as a line, and the status is 6, or memory was wanting
 abbrev pub TellsItsRace : Work → SinkUse → (status : ℕ) → Type 0

@@ -13,9 +13,9 @@ use Rattle.sd_context.specs.declared.blocks.refusal.Refusal.{Refusal}
 use Rattle.sd_tool.specs.declared.ending.ArraysRefusal.{ArraysRefusal}
 use Rattle.sd_chain.specs.Picks.{picks_reading}
 use Rattle.sd_report.specs.stepping.Step.{IsPicked}
-use Rattle.sd_words.specs.Command.{Command, Step, to_run, to_step, to_print, to_check, RunsWith, MakesRaceCheck, Call, IsCall}
+use Rattle.sd_words.specs.Command.{Command, Step, to_run, to_step, to_print, to_check, to_match, RunsWith, MakesRaceCheck, Call, IsCall}
 use Rattle.sd_tool.specs.Work.{Work, source_graph, prepared, run_of_work}
-use Rattle.sd_tool.specs.Answers.{ShelfUse, Answer, ran, listed, checked, raced, bad_words, source_refused, arrays_refused, picks_refused, read_fault, too_long, Reads, ReadsSource, Comes, HasPicks, Answers, answer_of_run, status_of, text_of}
+use Rattle.sd_tool.specs.Answers.{ShelfUse, Answer, ran, listed, checked, matched, raced, bad_words, source_refused, arrays_refused, picks_refused, read_fault, too_long, Reads, ReadsSource, Comes, HasPicks, Answers, answer_of_run, status_of, text_of}
 use Rattle.sd_tool.specs.Ends.{SinkUse, Writes, WritesPrefix}
 use Rattle.sd_tool.specs.Told.{TellsSource, TellsArrays, Asks, TellsPicks, GivesPicks}
 
@@ -57,6 +57,7 @@ TellsSteps work picks (to_run turns) steps = steps ≡ []
 TellsSteps work picks (to_step step) steps = (outcome : Outcome Place Left) × IsPicked (run_of_work work) step.turns picks step.traces outcome steps
 TellsSteps work picks to_print steps = steps ≡ []
 TellsSteps work picks to_check steps = steps ≡ []
+TellsSteps work picks to_match steps = steps ≡ []
 
 -- the files come to this work, whose graph is accepted, and a run of it with so many turns is asked for, of which these steps are told; the outcome of the sequential run is this
 pub record Runs (words : List (List ℕ)) (shelf : ShelfUse) (work : Work) (turns : ℕ) (steps : List (ℕ × ℕ)) (outcome : Outcome Place Left) : Type 0 where
@@ -81,6 +82,12 @@ pub record AcceptsGraph (words : List (List ℕ)) (shelf : ShelfUse) (work : Wor
   pub comes : Comes words shelf call work
   pub asks : call.command ≡ to_check
   pub accepted : IsGraphAccepted work.tree
+
+-- the files come to this work, and the rewrites that may be done on it are asked for
+pub record MatchesGraph (words : List (List ℕ)) (shelf : ShelfUse) (work : Work) : Type 0 where
+  pub call : Call
+  pub comes : Comes words shelf call work
+  pub asks : call.command ≡ to_match
 
 -- the files come to this work, the command has its picks and makes the race check of the graph, which has this race
 pub record HasRace (words : List (List ℕ)) (shelf : ShelfUse) (work : Work) (race : Race) : Type 0 where
@@ -117,7 +124,7 @@ EndsWithRace tree sink status =
 
 pub record Statuses (words : List (List ℕ)) (shelf : ShelfUse) (sink : SinkUse) (status : ℕ) : Type 0 where
   -- 0 only where the sequential run is done of a run that is asked for, where the text of the graph is asked for, or where its race check is and accepts it
-  pub zero : status ≡ 0 → ((work : Work) × (turns : ℕ) × (steps : List (ℕ × ℕ)) × (left : Left) × Runs words shelf work turns steps (Done left) × Writes sink (text_of (ran steps work.tree turns (Done left)))) ⊎ ((work : Work) × ListsGraph words shelf work × Writes sink (text_of (listed work.tree))) ⊎ ((work : Work) × AcceptsGraph words shelf work × Writes sink (text_of (checked work.tree)))
+  pub zero : status ≡ 0 → ((work : Work) × (turns : ℕ) × (steps : List (ℕ × ℕ)) × (left : Left) × Runs words shelf work turns steps (Done left) × Writes sink (text_of (ran steps work.tree turns (Done left)))) ⊎ ((work : Work) × ListsGraph words shelf work × Writes sink (text_of (listed work.tree))) ⊎ ((work : Work) × AcceptsGraph words shelf work × Writes sink (text_of (checked work.tree))) ⊎ ((work : Work) × MatchesGraph words shelf work × Writes sink (text_of (matched work.tree)))
   -- 7 and 8 only where the sequential run of one that is asked for has a fault, or wants a turn when none is left
   pub seven : status ≡ 7 → (work : Work) × (turns : ℕ) × (steps : List (ℕ × ℕ)) × (fault : Fault Place) × Runs words shelf work turns steps (Faulted fault) × Writes sink (text_of (ran steps work.tree turns (Faulted fault)))
   pub eight : status ≡ 8 → (work : Work) × (turns : ℕ) × (steps : List (ℕ × ℕ)) × Runs words shelf work turns steps Spent × Writes sink (text_of (ran steps work.tree turns Spent))
@@ -126,6 +133,7 @@ pub record Statuses (words : List (List ℕ)) (shelf : ShelfUse) (sink : SinkUse
   pub step_where : (call : Call) (step : Step) (work : Work) (picks : List ℕ) (steps : List (ℕ × ℕ)) (picked outcome : Outcome Place Left) → Asks words shelf call work → call.command ≡ to_step step → GivesPicks shelf call.command picks → IsGraphAccepted work.tree → IsPicked (run_of_work work) step.turns picks step.traces picked steps → Sequential (run_of_work work) step.turns outcome → EndsAs (ran steps work.tree step.turns outcome) sink status
   pub listed_where : (call : Call) (work : Work) → Asks words shelf call work → call.command ≡ to_print → EndsAs (listed work.tree) sink status
   pub checked_where : (call : Call) (work : Work) → Asks words shelf call work → call.command ≡ to_check → IsGraphAccepted work.tree → EndsAs (checked work.tree) sink status
+  pub matched_where : (call : Call) (work : Work) → Asks words shelf call work → call.command ≡ to_match → EndsAs (matched work.tree) sink status
   -- 6 exactly where the graph is not accepted and the command makes the race check: with the race of the graph
   pub six : status ≡ 6 → (work : Work) × (race : Race) × HasRace words shelf work race × Writes sink (text_of (raced work.tree race))
   pub six_where : (call : Call) (work : Work) (picks : List ℕ) → Asks words shelf call work → GivesPicks shelf call.command picks → MakesRaceCheck call.command → ¬ IsGraphAccepted work.tree → EndsWithRace work.tree sink status

@@ -8,7 +8,7 @@ use Rattle.sd_elab.specs.elab.Elaboration.{graph_of}
 use Rattle.sd_chain.specs.Picks.{picks_reading}
 use Rattle.serde_json.specs.Data.{Members}
 use Rattle.sd_json.specs.ArraysReading.{entries_of}
-use Rattle.sd_words.specs.Command.{Command, to_run, to_step, to_print, to_check, Call, IsCall}
+use Rattle.sd_words.specs.Command.{Command, to_run, to_step, to_print, to_check, to_match, Call, IsCall}
 use Rattle.sd_tool.specs.Work.{Work, source_graph, prepared, work_of}
 use Rattle.sd_tool.specs.Answers.{ShelfUse}
 
@@ -68,3 +68,4 @@ GivesPicks shelf (to_run turns) picks = picks ≡ []
 GivesPicks shelf (to_step step) picks = HoldsPicks shelf step.picks picks
 GivesPicks shelf to_print picks = picks ≡ []
 GivesPicks shelf to_check picks = picks ≡ []
+GivesPicks shelf to_match picks = picks ≡ []

@@ -1,12 +1,12 @@
 ghost use Rattle.std.specs.Prelude.{◌≡◌, ◌≤◌, ℕ, true, false, List, map, IfOk, IfErr, IfSome, string_bytes};
 ghost use Rattle.sd_io.specs.Count.{HasRisen};
 ghost use Rattle.sd_race.specs.race.Pairs.{IsGraphAccepted};
-ghost use Rattle.sd_words.specs.Command.{Call, Step, to_run, to_step, to_print, to_check, MakesRaceCheck};
+ghost use Rattle.sd_words.specs.Command.{Call, Step, to_run, to_step, to_print, to_check, to_match, MakesRaceCheck};
 ghost use Rattle.sd_tool.specs.Accepted.{IsRaceFree};
 ghost use Rattle.sd_tool.specs.Answers.{ShelfUse, Answers, shelf_use};
 ghost use Rattle.sd_tool.specs.Ending.{answer_of};
 ghost use Rattle.sd_tool.specs.Ends.{Ends, sink_use};
-ghost use Rattle.sd_tool.specs.Headline.{Prints, PrintsUnlessRefused, PrintsTraced, Lists, Accepts, TellsItsRace};
+ghost use Rattle.sd_tool.specs.Headline.{Prints, PrintsUnlessRefused, PrintsTraced, Lists, Accepts, TellsMatches, TellsItsRace};
 ghost use Rattle.sd_tool.specs.Report.{reported, Says};
 ghost use Rattle.sd_tool.specs.Statuses.{Statuses};
 ghost use Rattle.sd_tool.specs.Told.{Asks, Presents, GivesPicks};
@@ -159,6 +159,14 @@ pub fn sdfg<R, S: Shelf, K: Sink, G: Gate>(
         → IsGraphAccepted work.tree
         → ¬ HasRisen (K.faults out.old) (K.faults out.new)
         → Accepts work (sink_use K.taken K.faults out.old out.new) result }
+
+    // The words ask for the rewrites that may be done on the graph of such files. Then exactly these are appended, as lines
+    // of a chain file, and the status is 0, or memory is wanting.
+    ensures matching { (call : Call) (work : Work)
+        → Asks (map string_bytes words.now) (shelf_use S.told S.faults S.overruns shelf.old shelf.new) call work
+        → call.command ≡ to_match
+        → ¬ HasRisen (K.faults out.old) (K.faults out.new)
+        → TellsMatches work (sink_use K.taken K.faults out.old out.new) result }
 
     // The words ask for a run of such files, by picks or without, or for their race check, and their graph is not
     // accepted. Then exactly its race is appended, the first pair of accesses that is not accepted, and the status is

@@ -4,6 +4,7 @@ ghost use Rattle.sd_io.specs.Sink.{Appends, AppendsPrefix};
 ghost use Rattle.sd_graph.specs.TreeFold.{graph_tree};
 ghost use Rattle.sd_race.specs.text.CheckText as checking;
 ghost use Rattle.sd_validity.specs.rules.Valid.{IsValid};
+ghost use Rattle.sd_steps.specs.StepText.{matches_text};
 ghost use Rattle.sd_words.specs.Command.{command_of};
 ghost use Rattle.sd_tool.specs.Answers.{Tells, text_of};
 ghost use Rattle.sd_tool.specs.Answers as answers;
@@ -31,6 +32,8 @@ pub(crate) enum Report {
     Graph(Bound),
     /// An accepted graph, of which the accesses of its scopes are wanted.
     Accepted(Bound),
+    /// A graph, of which the rewrites that may be done are wanted.
+    Matches(Bound),
 }
 
 /// Writes what the race check tells of an accepted graph.
@@ -46,9 +49,22 @@ fn write_accesses<K: Sink>(alloc: Global, out: &mut K, bound: &Bound) -> Result<
     }
 }
 
+/// Writes the rewrites that may be done on a graph.
+fn write_matches<K: Sink>(alloc: Global, out: &mut K, bound: &Bound) -> Result<(), SinkError>
+    ensures ok { OnOk result (Appends (K.taken out.old) (K.taken out.new) (matches_text (graph_tree bound.now.graph))) }
+    ensures err { OnErr result (AppendsPrefix (K.taken out.old) (K.taken out.new) (matches_text (graph_tree bound.now.graph))) }
+    ensures failed { IsErrOf result SinkError.Failed → HasRisen (K.faults out.old) (K.faults out.new) }
+    ensures faults_never_fall { K.faults out.old ≤ K.faults out.new }
+{
+    match sd_steps::matches_text(alloc, bound) {
+        Ok(steps) => write_text(out, steps.as_bytes()),
+        Err(_) => Err(SinkError::Memory),
+    }
+}
+
 impl Report {
-    /// What a command gives of a graph and its memory, and by these picks, or why it gives nothing. All but `print` make the
-    /// race check first. The memory of a graph that is not run is let go.
+    /// What a command gives of a graph and its memory, and by these picks, or why it gives nothing. All but `print` and `matches` make
+    /// the race check first. The memory of a graph that is not run is let go.
     pub(crate) fn of<'a>(
         alloc: Global,
         command: Command<'a>,
@@ -72,6 +88,10 @@ impl Report {
                 let Workspace { bound, .. } = opened;
                 Ok(Report::Graph(bound))
             }
+            Command::Matches => {
+                let Workspace { bound, .. } = opened;
+                Ok(Report::Matches(bound))
+            }
             Command::Check => {
                 let Workspace { bound, .. } = accepted(alloc, opened)?;
                 Ok(Report::Accepted(bound))
@@ -89,7 +109,7 @@ impl Report {
                 RunEnd::Fault(..) => 7,
                 RunEnd::Spent => 8,
             },
-            Report::Graph(_) | Report::Accepted(_) => 0,
+            Report::Graph(_) | Report::Accepted(_) | Report::Matches(_) => 0,
         }
     }
 
@@ -107,6 +127,7 @@ impl Report {
             }
             Report::Graph(bound) => write_graph(alloc, out, bound),
             Report::Accepted(bound) => write_accesses(alloc, out, bound),
+            Report::Matches(bound) => write_matches(alloc, out, bound),
         }
     }
 }

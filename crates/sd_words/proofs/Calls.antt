@@ -1,6 +1,6 @@
 -- The words are one call.
 use Rattle.std.proofs.Common.{◌≡◌, ℕ, List, [], ◌∷◌, Bool, true, false, refl, ap, sym, ◌∙◌, subst, codes, arith}
-use Rattle.sd_words.specs.Command.{Step, Command, to_run, to_step, to_print, to_check, Call, IsCall, IsCommand, GiveTurns, GiveStep, AskForStep}
+use Rattle.sd_words.specs.Command.{Step, Command, to_run, to_step, to_print, to_check, to_match, Call, IsCall, IsCommand, GiveTurns, GiveStep, AskForStep}
 use Rattle.sd_words.proofs.Options.{other_word, not_alone, same_others}
 
 -- ---- options
@@ -51,24 +51,45 @@ step_or_check word = other_word 0 word (codes "step") (codes "check") (λ e. let
 print_or_check : (word : List ℕ) → word ≡ codes "print" → word ≡ codes "check" → ⊥
 print_or_check word = other_word 0 word (codes "print") (codes "check") (λ e. let bytes : 112 ≡ 99 = e in omega arith)
 
+run_or_match : (word : List ℕ) → word ≡ codes "run" → word ≡ codes "matches" → ⊥
+run_or_match word = other_word 0 word (codes "run") (codes "matches") (λ e. let bytes : 114 ≡ 109 = e in omega arith)
+
+step_or_match : (word : List ℕ) → word ≡ codes "step" → word ≡ codes "matches" → ⊥
+step_or_match word = other_word 0 word (codes "step") (codes "matches") (λ e. let bytes : 115 ≡ 109 = e in omega arith)
+
+print_or_match : (word : List ℕ) → word ≡ codes "print" → word ≡ codes "matches" → ⊥
+print_or_match word = other_word 0 word (codes "print") (codes "matches") (λ e. let bytes : 112 ≡ 109 = e in omega arith)
+
+check_or_match : (word : List ℕ) → word ≡ codes "check" → word ≡ codes "matches" → ⊥
+check_or_match word = other_word 0 word (codes "check") (codes "matches") (λ e. let bytes : 99 ≡ 109 = e in omega arith)
+
 -- a word and those behind the arrays file are one command
 IsCommand-unique : (word : List ℕ) (others : List (List ℕ)) (a b : Command) → IsCommand word others a → IsCommand word others b → a ≡ b
 IsCommand-unique word others (to_run turns) (to_run other) x y = ap to_run (GiveTurns-unique others turns other x.1 y.1)
 IsCommand-unique word others (to_run turns) (to_step step) x y = absurd (run_or_step word x.0 y.0)
 IsCommand-unique word others (to_run turns) to_print x y = absurd (run_or_print word x.0 y.0)
 IsCommand-unique word others (to_run turns) to_check x y = absurd (run_or_check word x.0 y.0)
+IsCommand-unique word others (to_run turns) to_match x y = absurd (run_or_match word x.0 y.0)
 IsCommand-unique word others (to_step step) (to_run other) x y = absurd (run_or_step word y.0 x.0)
 IsCommand-unique word others (to_step step) (to_step other) x y = ap to_step (AskForStep-unique others step other x.1 y.1)
 IsCommand-unique word others (to_step step) to_print x y = absurd (step_or_print word x.0 y.0)
 IsCommand-unique word others (to_step step) to_check x y = absurd (step_or_check word x.0 y.0)
+IsCommand-unique word others (to_step step) to_match x y = absurd (step_or_match word x.0 y.0)
 IsCommand-unique word others to_print (to_run other) x y = absurd (run_or_print word y.0 x.0)
 IsCommand-unique word others to_print (to_step other) x y = absurd (step_or_print word y.0 x.0)
 IsCommand-unique word others to_print to_print x y = refl
 IsCommand-unique word others to_print to_check x y = absurd (print_or_check word x.0 y.0)
+IsCommand-unique word others to_print to_match x y = absurd (print_or_match word x.0 y.0)
 IsCommand-unique word others to_check (to_run other) x y = absurd (run_or_check word y.0 x.0)
 IsCommand-unique word others to_check (to_step other) x y = absurd (step_or_check word y.0 x.0)
 IsCommand-unique word others to_check to_print x y = absurd (print_or_check word y.0 x.0)
 IsCommand-unique word others to_check to_check x y = refl
+IsCommand-unique word others to_check to_match x y = absurd (check_or_match word x.0 y.0)
+IsCommand-unique word others to_match (to_run other) x y = absurd (run_or_match word y.0 x.0)
+IsCommand-unique word others to_match (to_step other) x y = absurd (step_or_match word y.0 x.0)
+IsCommand-unique word others to_match to_print x y = absurd (print_or_match word y.0 x.0)
+IsCommand-unique word others to_match to_check x y = absurd (check_or_match word y.0 x.0)
+IsCommand-unique word others to_match to_match x y = refl
 
 -- ---- calls
 
@@ -99,3 +120,4 @@ no_step_command word others is none (to_run turns) asks = run_or_step word asks.
 no_step_command word others is none (to_step step) asks = none step asks.1
 no_step_command word others is none to_print asks = step_or_print word is asks.0
 no_step_command word others is none to_check asks = step_or_check word is asks.0
+no_step_command word others is none to_match asks = step_or_match word is asks.0

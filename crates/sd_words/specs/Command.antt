@@ -17,12 +17,13 @@ pub record Step : Type 0 where
   pub turns : ℕ
   pub traces : Bool
 
--- what is wanted of the two files: a run that may spend so many turns, one by picks, the text of their graph, or its race check
+-- what is wanted of the two files: a run that may spend so many turns, one by picks, the text of their graph, its race check, or the rewrites that may be done on it
 pub data Command : Type 0 where
   to_run : (turns : ℕ) → Command
   to_step : Step → Command
   to_print : Command
   to_check : Command
+  to_match : Command
 
 -- the names of the two files, and what is wanted of them
 pub record Call : Type 0 where
@@ -38,6 +39,7 @@ command_of (variants.Run turns) = to_run turns
 command_of (variants.Step step) = to_step (step_of step)
 command_of variants.Print = to_print
 command_of variants.Check = to_check
+command_of variants.Matches = to_match
 
 abbrev pub call_of : Asked → Call
 call_of asked = record { source = asked.source.now; arrays = asked.arrays.now; command = command_of asked.command }
@@ -72,12 +74,13 @@ pub record AskForStep (words : List (List ℕ)) (step : Step) : Type 0 where
   pub picks_word : IsTrue (is_file_word step.picks)
   pub give : GiveStep options step.turns step.traces
 
--- the first word and those behind the arrays file are this command: `run` with its turns, `step` with its picks file and options, or `print` or `check` alone
+-- the first word and those behind the arrays file are this command: `run` with its turns, `step` with its picks file and options, or `print`, `check` or `matches` alone
 abbrev pub IsCommand : (word : List ℕ) → (others : List (List ℕ)) → Command → Type 0
 IsCommand word others (to_run turns) = (word ≡ codes "run") × GiveTurns others turns
 IsCommand word others (to_step step) = (word ≡ codes "step") × AskForStep others step
 IsCommand word others to_print = (word ≡ codes "print") × (others ≡ [])
 IsCommand word others to_check = (word ≡ codes "check") × (others ≡ [])
+IsCommand word others to_match = (word ≡ codes "matches") × (others ≡ [])
 
 -- the command asks for a run that may spend so many turns
 abbrev pub RunsWith : Command → (turns : ℕ) → Type 0
@@ -85,6 +88,7 @@ RunsWith (to_run given) turns = given ≡ turns
 RunsWith (to_step step) turns = step.turns ≡ turns
 RunsWith to_print turns = ⊥
 RunsWith to_check turns = ⊥
+RunsWith to_match turns = ⊥
 
 -- the command makes the race check
 abbrev pub MakesRaceCheck : Command → Type 0
@@ -92,6 +96,7 @@ MakesRaceCheck (to_run turns) = ⊤
 MakesRaceCheck (to_step step) = ⊤
 MakesRaceCheck to_print = ⊥
 MakesRaceCheck to_check = ⊤
+MakesRaceCheck to_match = ⊥
 
 -- the words are a command with the names of these files
 pub record IsCall (words : List (List ℕ)) (call : Call) : Type 0 where

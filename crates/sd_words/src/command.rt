@@ -30,6 +30,8 @@ pub enum Command<'a> {
     Print,
     /// The race check of their graph.
     Check,
+    /// The rewrites that may be done on their graph.
+    Matches,
 }
 
 /// The files of a call, and what is asked of them.
@@ -120,6 +122,7 @@ fn command_in<'a>(word: &str, others: &'a [String]) -> Option<Command<'a>>
         "step" => Some(Command::Step(step_in(others)?)),
         "print" if others.is_empty() => Some(Command::Print),
         "check" if others.is_empty() => Some(Command::Check),
+        "matches" if others.is_empty() => Some(Command::Matches),
         _ => None,
     }
 }

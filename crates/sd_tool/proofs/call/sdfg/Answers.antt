@@ -1,9 +1,9 @@
 use Rattle.std.proofs.Common.{[]}
-use Rattle.sd_tool.specs.Answers.{listed, checked}
+use Rattle.sd_tool.specs.Answers.{listed, checked, matched}
 use Rattle.sd_tool.proofs.EndLemmas.{prints_from_end, traced_from_end, written_from_end, race_from_end}
 use Rattle.sd_tool.proofs.Presented.{asked_prints, presented_prints}
 use Rattle.sd_tool.proofs.RunOutcome.{ends_somehow, steps_somehow}
-use Rattle.sd_tool.proofs.StatusEnds.{one_race, asked_step, asked_text, asked_check, statuses}
+use Rattle.sd_tool.proofs.StatusEnds.{one_race, asked_step, asked_text, asked_check, asked_matches, statuses}
 use Rattle.sd_tool.proofs.call.sdfg.Goals as goal
 
 pub returns-clause-headline : goal.returns-clause-headline
@@ -32,6 +32,9 @@ returns-clause-listing g c = λ call work asks is quiet. written_from_end _ _ _ 
 
 pub returns-clause-verdict : goal.returns-clause-verdict
 returns-clause-verdict g c = λ call work asks is accepted quiet. written_from_end _ _ _ c.perform.result (checked work.tree) (asked_check _ _ call work asks is accepted) quiet c.perform.ensures.ends
+
+pub returns-clause-matching : goal.returns-clause-matching
+returns-clause-matching g c = λ call work asks is quiet. written_from_end _ _ _ c.perform.result (matched work.tree) (asked_matches _ _ call work asks is) quiet c.perform.ensures.ends
 
 pub returns-clause-race : goal.returns-clause-race
 returns-clause-race g c = λ call work picks asks gives checks refused quiet. race_from_end _ _ _ c.perform.result work.tree (one_race _ _ call work picks asks gives checks refused) quiet c.perform.ensures.ends

@@ -3,7 +3,7 @@ use Rattle.sd_validity.specs.rules.Valid.{IsValid}
 use Rattle.sd_validity.proofs.rules_lemmas.UpwardsLemmas.{leads_upwards}
 use Rattle.sd_tool.specs.Work.{Work}
 use Rattle.sd_tool.specs.Workspace.{work_of}
-use Rattle.sd_tool.proofs.Ended.{says_print, says_check}
+use Rattle.sd_tool.proofs.Ended.{says_print, says_check, says_matches}
 use Rattle.sd_tool.proofs.report.Report.of.Goals as goal
 
 pub run-requires : goal.run-requires
@@ -14,6 +14,9 @@ run-requires c =
 
 pub returns-in-Print-clause-tells : goal.returns-in-Print-clause-tells
 returns-in-Print-clause-tells c = says_print (work_of c.args.opened) c.args.picks.now c.args.command c.in-Print.is
+
+pub returns-in-Matches-clause-tells : goal.returns-in-Matches-clause-tells
+returns-in-Matches-clause-tells c = says_matches (work_of c.args.opened) c.args.picks.now c.args.command c.in-Matches.is
 
 pub returns-in_ok-bound-in-Check-clause-tells : goal.returns-in_ok-bound-in-Check-clause-tells
 returns-in_ok-bound-in-Check-clause-tells c =

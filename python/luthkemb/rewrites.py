@@ -1,0 +1,44 @@
+"""Rewrites of graphs, as values that print as lines of a chain file."""
+from __future__ import annotations
+
+import re
+from dataclasses import dataclass
+
+PATH = re.compile(r"\d+(?:\.\d+)*", re.ASCII)
+
+
+@dataclass(frozen=True)
+class Rewrite:
+    """A rewrite of the item at a path: numbers of states and nodes in turn, with points between them."""
+
+    path: str
+
+    def __post_init__(self) -> None:
+        if not isinstance(self.path, str) or not PATH.fullmatch(self.path):
+            raise ValueError(f"{self.path!r} is no path; '1.1' is the path of node 1 of state 1")
+
+    def __str__(self) -> str:
+        return f"{type(self).__name__} {self.path}"
+
+
+class MapCollapse(Rewrite):
+    """The map at the path and the one map in it become one."""
+
+
+class MapExpansion(Rewrite):
+    """The map at the path becomes a map of its first parameter round a map of the others."""
+
+
+REWRITES = {it.__name__: it for it in (MapCollapse, MapExpansion)}
+
+
+def read_rewrites(text: str) -> list[Rewrite]:
+    """Gives the rewrites of a text, a line each, or raises `ValueError`."""
+    return [_rewrite(line) for line in text.splitlines()]
+
+
+def _rewrite(line: str) -> Rewrite:
+    name, _, path = line.partition(" ")
+    if name not in REWRITES:
+        raise ValueError(f"{line!r} is no rewrite")
+    return REWRITES[name](path)
