@@ -96,12 +96,12 @@ def gathered(many):
 # What is shown of a program, its name, its arrays, and half the greatest ratio to CPython's seconds.
 OWN = [
     ("a map of two statements", "two", two, 3 / 8),
-    ("blocks of rows", "columns", one_row(2**13, 2 * ROUNDS), 1 / 40),
+    ("blocks of rows", "columns", one_row(2**13, 2 * ROUNDS), 1 / 28),
     ("rows of four elements", "bands", short_rows, 1 / 8),
-    ("elements that stand apart", "strides", fours, 1 / 40),
+    ("elements that stand apart", "strides", fours, 1 / 20),
     ("one write for many values", "sums", one_sum, 1 / 40),
     ("places that are computed", "scatter", places, 1 / 12),
-    ("a list of two tasklets", "tasklets", one_row(2**13, ROUNDS), 1 / 4),
+    ("a list of two tasklets", "tasklets", one_row(2**13, ROUNDS), 3 / 8),
 ]
 
 
