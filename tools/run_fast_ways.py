@@ -101,7 +101,7 @@ OWN = [
     ("elements that stand apart", "strides", fours, 1 / 20),
     ("one write for many values", "sums", one_sum, 1 / 40),
     ("places that are computed", "scatter", places, 1 / 12),
-    ("a list of two tasklets", "tasklets", one_row(2**13, ROUNDS), 3 / 8),
+    ("a list of two tasklets", "tasklets", one_row(2**13, ROUNDS), 1 / 2),
 ]
 
 
