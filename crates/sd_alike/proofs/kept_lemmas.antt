@@ -5,9 +5,11 @@ pub mod HeldReplaced
 pub mod LocalRules
 pub mod NamesThere
 pub mod NamesAsked
+pub mod Wider
 pub mod OnceThings
 pub mod OwnThings
 pub mod EachGraph
 pub mod NumbersKept
+pub mod GivenBelow
 pub mod RuleOfNames
 pub mod NamesKept

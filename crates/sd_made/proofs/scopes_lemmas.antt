@@ -1,4 +1,3 @@
-pub mod Times
 pub mod Counted
 pub mod Privates
 pub mod StatesCounted

@@ -1,3 +1,4 @@
+pub mod Times
 pub mod Paths
 pub mod Within
 pub mod Walked

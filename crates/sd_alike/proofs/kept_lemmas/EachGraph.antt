@@ -107,11 +107,11 @@ module _ (Holding : GraphTree → Type 0) where
   among_then no_item others each rest = rest
   among_then (and_item line kind items) others each rest = (each.0, among_then items others each.1 rest)
 
-  module _ (Leading : ℕ → KindTree → Type 0) (replacing : Replacing)
+  module _ (names : List (List ℕ)) (Leading : ℕ → KindTree → Type 0) (replacing : Replacing)
       (replaced : (variables line : ℕ) (kind : KindTree) → Leading variables kind → InKind kind → AmongItems (replacing variables line kind))
-      (stays : (tree : GraphTree) (path : List ℕ) → GraphLeads Leading tree path → Holding tree → Holding (graph_with replacing [] tree path)) where
+      (stays : (tree : GraphTree) (path : List ℕ) → GraphLeads Leading tree path → Holding tree → Holding (graph_with replacing names tree path)) where
     mutual
-      kind_stays : (kind : KindTree) (path : List ℕ) (variables : ℕ) → KindLeads Leading variables kind path → InKind kind → InKind (kind_with replacing [] variables kind path)
+      kind_stays : (kind : KindTree) (path : List ℕ) (variables : ℕ) → KindLeads Leading variables kind path → InKind kind → InKind (kind_with replacing names variables kind path)
       kind_stays (task code ins outs) path variables leads each = elim leads [ ]
       kind_stays (map_scope sequential params private body) path variables leads each = items_stay body path variables leads each
       kind_stays (consume_scope stream element private body) path variables leads each = items_stay body path variables leads each
@@ -119,19 +119,19 @@ module _ (Holding : GraphTree → Type 0) where
       kind_stays (reduction resolution axis identity from to) path variables leads each = elim leads [ ]
       kind_stays (copy from to) path variables leads each = elim leads [ ]
 
-      items_stay : (items : ItemTrees) (path : List ℕ) (variables : ℕ) → ItemsLead Leading variables items path → AmongItems items → AmongItems (items_with replacing [] variables items path)
+      items_stay : (items : ItemTrees) (path : List ℕ) (variables : ℕ) → ItemsLead Leading variables items path → AmongItems items → AmongItems (items_with replacing names variables items path)
       items_stay no_item path variables leads each = elim leads [ ]
       items_stay (and_item line kind items) [] variables leads each = elim leads [ ]
       items_stay (and_item line kind items) (zero ∷ []) variables leads each = among_then (replacing variables line kind) items (replaced variables line kind leads each.0) each.1
       items_stay (and_item line kind items) (zero ∷ next ∷ path) variables leads each = (kind_stays kind (next ∷ path) variables leads each.0, each.1)
       items_stay (and_item line kind items) (suc number ∷ path) variables leads each = (each.0, items_stay items (number ∷ path) variables leads each.1)
 
-      states_stay : (states : StateTrees) (path : List ℕ) (variables : ℕ) → StatesLead Leading variables states path → AmongStates states → AmongStates (states_with replacing [] variables states path)
+      states_stay : (states : StateTrees) (path : List ℕ) (variables : ℕ) → StatesLead Leading variables states path → AmongStates states → AmongStates (states_with replacing names variables states path)
       states_stay no_state path variables leads each = elim leads [ ]
       states_stay (and_state items exits states) [] variables leads each = elim leads [ ]
       states_stay (and_state items exits states) (zero ∷ path) variables leads each = (items_stay items path variables leads each.0, each.1)
       states_stay (and_state items exits states) (suc number ∷ path) variables leads each = (each.0, states_stay states (number ∷ path) variables leads each.1)
 
-      pub each_stays : (tree : GraphTree) (path : List ℕ) → GraphLeads Leading tree path → EachGraph tree → EachGraph (graph_with replacing [] tree path)
+      pub each_stays : (tree : GraphTree) (path : List ℕ) → GraphLeads Leading tree path → EachGraph tree → EachGraph (graph_with replacing names tree path)
       each_stays (graph name containers arguments variables symbols states) path leads each =
           (stays (graph name containers arguments variables symbols states) path leads each.0, states_stay states path (length variables) leads each.1)

@@ -1,5 +1,5 @@
 -- Rules that ask something of what stands at a place, of the graph there and of what is in force there, over the whole of a graph.
-use Rattle.std.proofs.Common.{◌≡◌, ℕ, suc, List, [], Bool, true}
+use Rattle.std.proofs.Common.{◌≡◌, ℕ, suc, ◌≤◌, List, [], ◌++◌, length, Bool, true}
 use Rattle.std.specs.Bool.{⊤}
 use Rattle.sd_range.specs.declared.range.Range.{Range}
 use Rattle.sd_graph.specs.PlainTree.{KindTree, task, map_scope, consume_scope, nested_graph, reduction, copy, ItemTrees, no_item, and_item, StateTrees, no_state, and_state, GraphTree, graph, ExitTree}
@@ -71,8 +71,32 @@ pub record IsLocal (asked : Asked) : Type 0 where
       asked tree loops scopes (doing (nested_graph other links)) ≡ asked tree loops scopes (doing (nested_graph inner links))
   pub scopes : (tree : GraphTree) (loops : List ℕ) (scopes others : Scopes) (thing : Thing) → AreSameScopes scopes others → asked tree loops others thing ≡ asked tree loops scopes thing
 
--- What a replaced item must keep: what is asked holds of all that stands in its place, where it holds of the item and of all in it; and what is written is the same.
-pub record KeepsHolding (asked : Asked) (Holds : ℕ → KindTree → Type 0) (replacing : Replacing) : Type 0 where
-  pub items : (tree : GraphTree) (loops : List ℕ) (scopes : Scopes) (variables line : ℕ) (kind : KindTree) → Holds variables kind →
+-- more is in force: these loop variables, and those of the scopes about, are among the others
+pub record IsWider (some others : List ℕ) (scopes wider : Scopes) : Type 0 where
+  pub loops : (number : ℕ) → has_number some number ≡ true → has_number others number ≡ true
+  pub private : (number : ℕ) → has_number scopes.private number ≡ true → has_number wider.private number ≡ true
+  pub params : (number : ℕ) → has_number scopes.params number ≡ true → has_number wider.params number ≡ true
+
+-- what is asked stays where the graph has more variables and more is in force
+abbrev pub StaysWider : Asked → Type 0
+StaysWider asked =
+    (name : List ℕ) (containers : Containers) (arguments : ℕ) (variables more : List (List ℕ)) (symbols : ℕ) (states : StateTrees) (loops others : List ℕ) (scopes wider : Scopes) (thing : Thing) →
+    length variables ≤ length more → IsWider loops others scopes wider →
+    asked (graph name containers arguments variables symbols states) loops scopes thing ≡ true → asked (graph name containers arguments more symbols states) others wider thing ≡ true
+
+-- What a replaced item must keep, in a graph of which this is known: what is asked holds of all that stands in its place, where it holds of the item and of all in it; and what is written is the same.
+pub record KeepsAsked (asked : Asked) (Known : GraphTree → (variables : ℕ) → Type 0) (Holds : ℕ → KindTree → Type 0) (replacing : Replacing) : Type 0 where
+  pub items : (tree : GraphTree) (loops : List ℕ) (scopes : Scopes) (variables line : ℕ) (kind : KindTree) → Known tree variables → Holds variables kind →
       asked tree loops scopes (doing kind) ≡ true → HoldsIn asked tree loops scopes kind → HoldsAmong asked tree loops scopes (replacing variables line kind)
   pub written : (variables line : ℕ) (kind : KindTree) → Holds variables kind → written_in (replacing variables line kind) ≡ written_by kind
+
+-- of the graph nothing need be known
+abbrev pub KeepsHolding : Asked → (Holds : ℕ → KindTree → Type 0) → Replacing → Type 0
+KeepsHolding asked Holds replacing = KeepsAsked asked (λ tree variables. ⊤) Holds replacing
+
+-- of a graph that gets further variables, what is asked stays, and this is known of the new one
+pub record Grows (asked : Asked) (names : List (List ℕ)) (Known : GraphTree → (variables : ℕ) → Type 0) : Type 0 where
+  pub stays : (name : List ℕ) (containers : Containers) (arguments : ℕ) (variables : List (List ℕ)) (symbols : ℕ) (states : StateTrees) →
+      HoldsAll asked (graph name containers arguments variables symbols states) → HoldsAll asked (graph name containers arguments (variables ++ names) symbols states)
+  pub known : (name : List ℕ) (containers : Containers) (arguments : ℕ) (variables : List (List ℕ)) (symbols : ℕ) (states : StateTrees) →
+      HoldsAll asked (graph name containers arguments variables symbols states) → Known (graph name containers arguments (variables ++ names) symbols states) (length variables)

@@ -150,6 +150,23 @@ shapes_params = record { test = λ tree param. true; is = λ tree loops scopes s
 pub sizes_params : AsksParams sizes_asked
 sizes_params = record { test = λ tree param. is_range_passed (sizes_tests (symbols_in tree)) param.1; is = λ tree loops scopes sequential params private body. refl }
 
+-- those that ask nothing of a parameter
+pub dimensions_any : (tree : GraphTree) (param : ℕ × Range) → dimensions_params.test tree param ≡ true
+unfolding dimensions_params
+dimensions_any tree param = refl
+
+pub streams_any : (tree : GraphTree) (param : ℕ × Range) → streams_params.test tree param ≡ true
+unfolding streams_params
+streams_any tree param = refl
+
+pub nesting_any : (tree : GraphTree) (param : ℕ × Range) → nesting_params.test tree param ≡ true
+unfolding nesting_params
+nesting_any tree param = refl
+
+pub shapes_any : (tree : GraphTree) (param : ℕ × Range) → shapes_params.test tree param ≡ true
+unfolding shapes_params
+shapes_any tree param = refl
+
 -- ---- maps
 
 -- inside a collapsed map what is in force is what was in force inside both maps
@@ -179,17 +196,17 @@ expanded_writes variables line kind expandable =
     subst (λ kind. written_in (expanded variables line kind) ≡ written_by kind) (sym expandable.shape) (append-nil (written_in expandable.body ++ []) ∙ append-nil (written_in expandable.body))
 
 module _ (asked : Asked) (local : IsLocal asked) (params : AsksParams asked) where
-  asked_of : (tree : GraphTree) (loops : List ℕ) (scopes : Scopes) (sequential : Bool) (some : List (ℕ × Range)) (private : List ℕ) (body : ItemTrees) →
+  pub asked_of : (tree : GraphTree) (loops : List ℕ) (scopes : Scopes) (sequential : Bool) (some : List (ℕ × Range)) (private : List ℕ) (body : ItemTrees) →
       list_all (params.test tree) some ≡ true → asked tree loops scopes (doing (map_scope sequential some private body)) ≡ true
   asked_of tree loops scopes sequential some private body all = params.is tree loops scopes sequential some private body ∙ all
 
-  of_asked : (tree : GraphTree) (loops : List ℕ) (scopes : Scopes) (sequential : Bool) (some : List (ℕ × Range)) (private : List ℕ) (body : ItemTrees) →
+  pub of_asked : (tree : GraphTree) (loops : List ℕ) (scopes : Scopes) (sequential : Bool) (some : List (ℕ × Range)) (private : List ℕ) (body : ItemTrees) →
       asked tree loops scopes (doing (map_scope sequential some private body)) ≡ true → list_all (params.test tree) some ≡ true
   of_asked tree loops scopes sequential some private body is = sym (params.is tree loops scopes sequential some private body) ∙ is
 
   pub collapsed_keeps : KeepsHolding asked IsCollapsible collapsed
   collapsed_keeps = record {
-    items = λ tree loops scopes variables line kind collapsible is holds.
+    items = λ tree loops scopes variables line kind known collapsible is holds.
         let outer = collapsible.outer in
         let inner = collapsible.inner in
         let private = collapsible.private in
@@ -210,7 +227,7 @@ module _ (asked : Asked) (local : IsLocal asked) (params : AsksParams asked) whe
 
   pub expanded_keeps : KeepsHolding asked IsExpandable expanded
   expanded_keeps = record {
-    items = λ tree loops scopes variables line kind expandable is holds.
+    items = λ tree loops scopes variables line kind known expandable is holds.
         let first = expandable.first in
         let rest = expandable.second ∷ expandable.others in
         let private = expandable.private in

@@ -11,7 +11,7 @@ use Rattle.sd_graph.specs.declared.link.Link.{Link}
 use Rattle.sd_validity.specs.rules.Places.{Thing, whole, leaving, doing, Place, Scopes, no_scopes, in_map, in_consume, loops_at, all_places}
 use Rattle.sd_validity.specs.rules.Parts.{Tests, is_range_passed, is_dim_passed, is_link_passed, are_links_passed, is_condition_passed, is_exit_passed, is_kind_passed, is_thing_passed}
 use Rattle.sd_validity.specs.rules.Failing.{Holds}
-use Rattle.sd_validity.specs.rules.NamesInForce.{rule_1, is_there, names_tests, is_each_held, are_own_private, are_single, of_graph, is_stream_in_force, are_given_there, are_names_in_force}
+use Rattle.sd_validity.specs.rules.NamesInForce.{rule_1, is_there, names_tests, is_each_held, are_symbols_apart, are_own_private, are_single, of_graph, is_stream_in_force, are_given_there, are_names_in_force}
 use Rattle.sd_graph.specs.TreeParts.{containers_of}
 use Rattle.sd_validity.proofs.rules_lemmas.HoldingLemmas.{both, each_passes}
 use Rattle.sd_alike.specs.alike.Alike.{AffineBelow, RangeBelow, DimBelow, LinkBelow, CodeBelow, GuardBelow, ExitBelow, KindBelow, ItemsBelow, StatesBelow, NamesItsVariables}
@@ -38,11 +38,11 @@ all_weaker test other weaker (member ∷ members) all =
     let parts = both (test member) (list_all test members) all in
     joined (other member) (list_all other members) (weaker member parts.0) (all_weaker test other weaker members parts.1)
 
-record AskLess (tests others : Tests) : Type 0 where
-  link : (link : Link) → tests.link link ≡ true → others.link link ≡ true
-  range : (range : Range) → tests.range range ≡ true → others.range range ≡ true
-  expression : (a : Affine) → tests.expression a ≡ true → others.expression a ≡ true
-  code : (code : TaskletTree) → tests.code code ≡ true → others.code code ≡ true
+pub record AskLess (tests others : Tests) : Type 0 where
+  pub link : (link : Link) → tests.link link ≡ true → others.link link ≡ true
+  pub range : (range : Range) → tests.range range ≡ true → others.range range ≡ true
+  pub expression : (a : Affine) → tests.expression a ≡ true → others.expression a ≡ true
+  pub code : (code : TaskletTree) → tests.code code ≡ true → others.code code ≡ true
 
 module _ (tests others : Tests) (less : AskLess tests others) where
   range_less : (range : Range) → is_range_passed tests range ≡ true → is_range_passed others range ≡ true
@@ -92,7 +92,7 @@ module _ (tests others : Tests) (less : AskLess tests others) where
       let parts = both (is_link_passed tests from) (is_link_passed tests to) is in
       joined (is_link_passed others from) (is_link_passed others to) (link_less from parts.0) (link_less to parts.1)
 
-  thing_less : (thing : Thing) → is_thing_passed tests thing ≡ true → is_thing_passed others thing ≡ true
+  pub thing_less : (thing : Thing) → is_thing_passed tests thing ≡ true → is_thing_passed others thing ≡ true
   thing_less whole is = refl
   thing_less (leaving items exits) is = all_weaker (is_exit_passed tests) (is_exit_passed others) exit_less exits is
   thing_less (doing kind) is = kind_less kind is
@@ -208,8 +208,8 @@ pub valid_names_its_variables : (tree : GraphTree) → Holds rule_1 tree → Nam
 valid_names_its_variables tree holds =
     graph_names tree (all_held there_asked tree [] 0 (each_passes rule_1 (test_of there_asked)
     (λ before place is.
-    let first = both (are_names_in_force place && is_each_held place.graph place.thing) (are_own_private (containers_of place.graph) place.thing && are_single (of_graph before place) place.thing) is in
-    let names = both (are_names_in_force place) (is_each_held place.graph place.thing) first.0 in
+    let first = both (are_names_in_force place && (is_each_held place.graph place.thing && are_symbols_apart place.graph place.thing)) (are_own_private (containers_of place.graph) place.thing && are_single (of_graph before place) place.thing) is in
+    let names = both (are_names_in_force place) (is_each_held place.graph place.thing && are_symbols_apart place.graph place.thing) first.0 in
     let named = both (is_thing_passed (names_tests place) place.thing && is_stream_in_force (containers_of place.graph) place.scopes.private place.thing) (are_given_there place) names.0 in
     let passed = both (is_thing_passed (names_tests place) place.thing) (is_stream_in_force (containers_of place.graph) place.scopes.private place.thing) named.0 in
     thing_less (names_tests place) (there_tests place.graph) (names_less place) place.thing passed.0)

@@ -1,13 +1,15 @@
 -- The numbers that stand in a graph, containers of scopes, parameters and variables that are set, are those of the graph with an item replaced.
-use Rattle.std.proofs.Common.{◌≡◌, ℕ, zero, suc, List, [], ◌∷◌, ◌++◌, length, Bool, true, refl, sym, ◌∙◌, ap, subst, append_assoc, append-nil}
+use Rattle.std.proofs.Common.{◌≡◌, ℕ, zero, suc, ◌+◌, ◌<◌, ◌≤◌, nat_lt, List, [], ◌∷◌, ◌++◌, length, Bool, true, false, refl, sym, ◌∙◌, ap, subst, append_assoc, append-nil, arith}
 use Rattle.std.specs.List.{list_all, flat_map}
 use Rattle.sd_range.specs.declared.range.Range.{Range}
 use Rattle.sd_graph.specs.PlainTree.{KindTree, task, map_scope, consume_scope, nested_graph, reduction, copy, ItemTrees, no_item, and_item, StateTrees, no_state, and_state, GraphTree, graph, ExitTree}
+use Rattle.sd_graph.specs.ContainerParts.{Containers}
 use Rattle.sd_graph.specs.LoopScope.{numbers_below}
 use Rattle.sd_graph.specs.declared.link.Link.{Link}
 use Rattle.sd_graph.specs.Wiring.{has_number}
 use Rattle.sd_validity.specs.rules.Places.{Thing, whole, leaving, doing, param_numbers}
 use Rattle.sd_validity.specs.rules.NamesInForce.{held_at, held_in_kind, held_in, held_in_states, is_private_held, are_private_held, params_at, set_at, are_new}
+use Rattle.sd_validity.proofs.things_lemmas.Times.{times, times_joined, is_there, no_times, some_times, new_from, new_times}
 use Rattle.sd_validity.specs.things.Things.{things_in, item_things, state_things, graph_things}
 use Rattle.sd_alike.specs.alike.Places.{Replacing, items_then, kind_with, items_with, states_with, graph_with, KindLeads, ItemsLead, StatesLead, GraphLeads}
 use Rattle.sd_alike.specs.alike.Maps.{IsCollapsible, collapsed, IsExpandable, expanded}
@@ -43,65 +45,131 @@ things_then (and_item line kind items) others =
 
 -- ---- with an item replaced
 
--- what stands in the place of an item has the item's numbers
-abbrev pub KeepsNumbers : (numbers : Thing → List ℕ) → (ℕ → KindTree → Type 0) → Replacing → Type 0
-KeepsNumbers numbers Leading replacing =
-    (variables line : ℕ) (kind : KindTree) → Leading variables kind → flat_map numbers (item_things (replacing variables line kind)) ≡ numbers (doing kind) ++ flat_map numbers (things_in kind)
+-- what is said of numbers in the place of others, in a graph of so many variables: it holds of the numbers themselves, and with the same numbers before and behind
+pub record IsJoined (Same : (variables : ℕ) → (numbers others : List ℕ) → Type 0) : Type 0 where
+  pub itself : (variables : ℕ) (numbers : List ℕ) → Same variables numbers numbers
+  pub behind : (variables : ℕ) (before numbers others : List ℕ) → Same variables numbers others → Same variables (before ++ numbers) (before ++ others)
+  pub before : (variables : ℕ) (numbers others behind : List ℕ) → Same variables numbers others → Same variables (numbers ++ behind) (others ++ behind)
 
-module _ (numbers : Thing → List ℕ) (outside : AreOutside numbers) (Leading : ℕ → KindTree → Type 0) (replacing : Replacing) (keeps : KeepsNumbers numbers Leading replacing) where
-  flat_item : (line : ℕ) (kind : KindTree) (items : ItemTrees) → flat_map numbers (item_things (and_item line kind items)) ≡ numbers (doing kind) ++ (flat_map numbers (things_in kind) ++ flat_map numbers (item_things items))
-  flat_item line kind items = ap (λ rest. numbers (doing kind) ++ rest) (flat_both numbers (things_in kind) (item_things items))
+-- it is said of the numbers of what stands in the place of an item
+abbrev pub KeepsBy : (Same : (variables : ℕ) → (numbers others : List ℕ) → Type 0) → (numbers : Thing → List ℕ) → (ℕ → KindTree → Type 0) → Replacing → Type 0
+KeepsBy Same numbers Leading replacing =
+    (variables line : ℕ) (kind : KindTree) → Leading variables kind → Same variables (numbers (doing kind) ++ flat_map numbers (things_in kind)) (flat_map numbers (item_things (replacing variables line kind)))
+
+-- they are the same numbers
+abbrev pub AreSame : (variables : ℕ) → (numbers others : List ℕ) → Type 0
+AreSame variables numbers others = others ≡ numbers
+
+abbrev pub KeepsNumbers : (numbers : Thing → List ℕ) → (ℕ → KindTree → Type 0) → Replacing → Type 0
+KeepsNumbers numbers Leading replacing = KeepsBy AreSame numbers Leading replacing
+
+same_joined : IsJoined AreSame
+same_joined = record {
+  itself = λ variables numbers. refl;
+  behind = λ variables before numbers others same. ap (λ rest. before ++ rest) same;
+  before = λ variables numbers others behind same. ap (λ first. first ++ behind) same;
+}
+
+-- each of the graph's variables stands as often; any other number may stand once more
+pub record AreAmong (variables : ℕ) (numbers others : List ℕ) : Type 0 where
+  pub known : (number : ℕ) → number < variables → times number others ≡ times number numbers
+  pub fresh : (number : ℕ) → times number others ≤ times number numbers + 1
+
+among_joined : IsJoined AreAmong
+among_joined = record {
+  itself = λ variables numbers. record { known = λ number below. refl; fresh = λ number. omega arith };
+  behind = λ variables before numbers others among. record {
+    known = λ number below. omega (arith, times_joined number before numbers, times_joined number before others, among.known number below);
+    fresh = λ number. omega (arith, times_joined number before numbers, times_joined number before others, among.fresh number);
+  };
+  before = λ variables numbers others behind among. record {
+    known = λ number below. omega (arith, times_joined number numbers behind, times_joined number others behind, among.known number below);
+    fresh = λ number. omega (arith, times_joined number numbers behind, times_joined number others behind, among.fresh number);
+  };
+}
+
+pub same_among : (variables : ℕ) (numbers others : List ℕ) → others ≡ numbers → AreAmong variables numbers others
+same_among variables numbers others same = subst (AreAmong variables numbers) (sym same) (among_joined.itself variables numbers)
+
+module _ (Same : (variables : ℕ) → (numbers others : List ℕ) → Type 0) (joins : IsJoined Same)
+    (numbers : Thing → List ℕ) (outside : AreOutside numbers) (Leading : ℕ → KindTree → Type 0) (names : List (List ℕ)) (replacing : Replacing) (keeps : KeepsBy Same numbers Leading replacing) where
+  moved : (variables : ℕ) (few few' many many' : List ℕ) → few' ≡ few → many' ≡ many → Same variables few' many' → Same variables few many
+  moved variables few few' many many' e e' same = subst (λ few. Same variables few many) e (subst (λ many. Same variables few' many) e' same)
+
+  flat_item : (line : ℕ) (kind : KindTree) (items : ItemTrees) → (numbers (doing kind) ++ flat_map numbers (things_in kind)) ++ flat_map numbers (item_things items) ≡ flat_map numbers (item_things (and_item line kind items))
+  flat_item line kind items =
+      append_assoc (numbers (doing kind)) (flat_map numbers (things_in kind)) (flat_map numbers (item_things items))
+      ∙ ap (λ rest. numbers (doing kind) ++ rest) (sym (flat_both numbers (things_in kind) (item_things items)))
 
   mutual
     kind_kept : (kind : KindTree) (path : List ℕ) (variables : ℕ) → KindLeads Leading variables kind path →
-        (numbers (doing (kind_with replacing [] variables kind path)) ≡ numbers (doing kind)) × (flat_map numbers (things_in (kind_with replacing [] variables kind path)) ≡ flat_map numbers (things_in kind))
+        (numbers (doing (kind_with replacing names variables kind path)) ≡ numbers (doing kind)) × Same variables (flat_map numbers (things_in kind)) (flat_map numbers (things_in (kind_with replacing names variables kind path)))
     kind_kept (task code ins outs) path variables leads = elim leads [ ]
-    kind_kept (map_scope sequential params private body) path variables leads = (outside.map_body sequential params private body (items_with replacing [] variables body path), items_kept body path variables leads)
-    kind_kept (consume_scope stream element private body) path variables leads = (outside.consume_body stream element private body (items_with replacing [] variables body path), items_kept body path variables leads)
-    kind_kept (nested_graph inner links) path variables leads = (outside.inner inner (graph_with replacing [] inner path) links, refl)
+    kind_kept (map_scope sequential params private body) path variables leads = (outside.map_body sequential params private body (items_with replacing names variables body path), items_kept body path variables leads)
+    kind_kept (consume_scope stream element private body) path variables leads = (outside.consume_body stream element private body (items_with replacing names variables body path), items_kept body path variables leads)
+    kind_kept (nested_graph inner links) path variables leads = (outside.inner inner (graph_with replacing names inner path) links, joins.itself variables [])
     kind_kept (reduction resolution axis identity from to) path variables leads = elim leads [ ]
     kind_kept (copy from to) path variables leads = elim leads [ ]
 
     items_kept : (items : ItemTrees) (path : List ℕ) (variables : ℕ) → ItemsLead Leading variables items path →
-        flat_map numbers (item_things (items_with replacing [] variables items path)) ≡ flat_map numbers (item_things items)
+        Same variables (flat_map numbers (item_things items)) (flat_map numbers (item_things (items_with replacing names variables items path)))
     items_kept no_item path variables leads = elim leads [ ]
     items_kept (and_item line kind items) [] variables leads = elim leads [ ]
     items_kept (and_item line kind items) (zero ∷ []) variables leads =
-        ap (flat_map numbers) (things_then (replacing variables line kind) items)
-        ∙ flat_both numbers (item_things (replacing variables line kind)) (item_things items)
-        ∙ ap (λ first. first ++ flat_map numbers (item_things items)) (keeps variables line kind leads)
-        ∙ append_assoc (numbers (doing kind)) (flat_map numbers (things_in kind)) (flat_map numbers (item_things items))
-        ∙ sym (flat_item line kind items)
+        let own = numbers (doing kind) ++ flat_map numbers (things_in kind) in
+        let other = flat_map numbers (item_things (replacing variables line kind)) in
+        let rest = flat_map numbers (item_things items) in
+        moved variables (flat_map numbers (item_things (and_item line kind items))) (own ++ rest) (flat_map numbers (item_things (items_then (replacing variables line kind) items))) (other ++ rest)
+        (flat_item line kind items)
+        (sym (ap (flat_map numbers) (things_then (replacing variables line kind) items) ∙ flat_both numbers (item_things (replacing variables line kind)) (item_things items)))
+        (joins.before variables own other rest (keeps variables line kind leads))
     items_kept (and_item line kind items) (zero ∷ next ∷ path) variables leads =
+        let other : KindTree = kind_with replacing names variables kind (next ∷ path) in
         let kept = kind_kept kind (next ∷ path) variables leads in
-        flat_item line (kind_with replacing [] variables kind (next ∷ path)) items
-        ∙ (λ i. kept.0 i ++ (kept.1 i ++ flat_map numbers (item_things items)))
-        ∙ sym (flat_item line kind items)
+        let first = numbers (doing kind) in
+        let rest = flat_map numbers (item_things items) in
+        moved variables (flat_map numbers (item_things (and_item line kind items))) ((first ++ flat_map numbers (things_in kind)) ++ rest)
+        (flat_map numbers (item_things (and_item line other items))) ((first ++ flat_map numbers (things_in other)) ++ rest)
+        (flat_item line kind items)
+        (ap (λ first. (first ++ flat_map numbers (things_in other)) ++ rest) (sym kept.0) ∙ flat_item line other items)
+        (joins.before variables (first ++ flat_map numbers (things_in kind)) (first ++ flat_map numbers (things_in other)) rest
+        (joins.behind variables first (flat_map numbers (things_in kind)) (flat_map numbers (things_in other)) kept.1))
     items_kept (and_item line kind items) (suc number ∷ path) variables leads =
-        flat_item line kind (items_with replacing [] variables items (number ∷ path))
-        ∙ ap (λ rest. numbers (doing kind) ++ (flat_map numbers (things_in kind) ++ rest)) (items_kept items (number ∷ path) variables leads)
-        ∙ sym (flat_item line kind items)
+        let others : ItemTrees = items_with replacing names variables items (number ∷ path) in
+        let own = numbers (doing kind) ++ flat_map numbers (things_in kind) in
+        let rest = flat_map numbers (item_things items) in
+        let other = flat_map numbers (item_things others) in
+        moved variables (flat_map numbers (item_things (and_item line kind items))) (own ++ rest) (flat_map numbers (item_things (and_item line kind others))) (own ++ other)
+        (flat_item line kind items) (flat_item line kind others)
+        (joins.behind variables own rest other (items_kept items (number ∷ path) variables leads))
 
   flat_state : (items : ItemTrees) (exits : List ExitTree) (states : StateTrees) →
-      flat_map numbers (state_things (and_state items exits states)) ≡ numbers (leaving items exits) ++ (flat_map numbers (item_things items) ++ flat_map numbers (state_things states))
-  flat_state items exits states = ap (λ rest. numbers (leaving items exits) ++ rest) (flat_both numbers (item_things items) (state_things states))
+      numbers (leaving items exits) ++ (flat_map numbers (item_things items) ++ flat_map numbers (state_things states)) ≡ flat_map numbers (state_things (and_state items exits states))
+  flat_state items exits states = ap (λ rest. numbers (leaving items exits) ++ rest) (sym (flat_both numbers (item_things items) (state_things states)))
 
   pub states_kept : (states : StateTrees) (path : List ℕ) (variables : ℕ) → StatesLead Leading variables states path →
-      flat_map numbers (state_things (states_with replacing [] variables states path)) ≡ flat_map numbers (state_things states)
+      Same variables (flat_map numbers (state_things states)) (flat_map numbers (state_things (states_with replacing names variables states path)))
   states_kept no_state path variables leads = elim leads [ ]
   states_kept (and_state items exits states) [] variables leads = elim leads [ ]
   states_kept (and_state items exits states) (zero ∷ path) variables leads =
-      let after : ItemTrees = items_with replacing [] variables items path in
-      flat_state after exits states
-      ∙ (λ i. outside.list items after exits i ++ (items_kept items path variables leads i ++ flat_map numbers (state_things states)))
-      ∙ sym (flat_state items exits states)
+      let after : ItemTrees = items_with replacing names variables items path in
+      let first = numbers (leaving items exits) in
+      let own = flat_map numbers (item_things items) in
+      let other = flat_map numbers (item_things after) in
+      let rest = flat_map numbers (state_things states) in
+      moved variables (flat_map numbers (state_things (and_state items exits states))) (first ++ (own ++ rest)) (flat_map numbers (state_things (and_state after exits states))) (first ++ (other ++ rest))
+      (flat_state items exits states)
+      (ap (λ first. first ++ (other ++ rest)) (sym (outside.list items after exits)) ∙ flat_state after exits states)
+      (joins.behind variables first (own ++ rest) (other ++ rest) (joins.before variables own other rest (items_kept items path variables leads)))
   states_kept (and_state items exits states) (suc number ∷ path) variables leads =
-      flat_state items exits (states_with replacing [] variables states (number ∷ path))
-      ∙ ap (λ rest. numbers (leaving items exits) ++ (flat_map numbers (item_things items) ++ rest)) (states_kept states (number ∷ path) variables leads)
-      ∙ sym (flat_state items exits states)
-
-  whole_kept : (states after : StateTrees) → flat_map numbers (state_things after) ≡ flat_map numbers (state_things states) → flat_map numbers (whole ∷ state_things after) ≡ flat_map numbers (whole ∷ state_things states)
-  whole_kept states after same = ap (λ rest. numbers whole ++ rest) same
+      let after : StateTrees = states_with replacing names variables states (number ∷ path) in
+      let first = numbers (leaving items exits) in
+      let own = flat_map numbers (item_things items) in
+      let rest = flat_map numbers (state_things states) in
+      let other = flat_map numbers (state_things after) in
+      moved variables (flat_map numbers (state_things (and_state items exits states))) (first ++ (own ++ rest)) (flat_map numbers (state_things (and_state items exits after))) (first ++ (own ++ other))
+      (flat_state items exits states) (flat_state items exits after)
+      (joins.behind variables first (own ++ rest) (own ++ other) (joins.behind variables own rest other (states_kept states (number ∷ path) variables leads)))
 
 -- ---- the containers that scopes make their own
 
@@ -127,18 +195,46 @@ held_states_are (and_state items exits states) = (λ i. held_items_are items i +
 
 -- ---- the graph
 
-module _ (Leading : ℕ → KindTree → Type 0) (replacing : Replacing) (held : KeepsNumbers held_at Leading replacing) (params : KeepsNumbers params_at Leading replacing) (set : KeepsNumbers set_at Leading replacing) where
-  pub once_stays : (tree : GraphTree) (path : List ℕ) → GraphLeads Leading tree path → IsOnceGraph tree → IsOnceGraph (graph_with replacing [] tree path)
-  once_stays (graph name containers arguments variables symbols states) path leads was =
-      let after : StateTrees = states_with replacing [] (length variables) states path in
-      let held_same = states_kept held_at held_outside Leading replacing held states path (length variables) leads in
-      let params_same = states_kept params_at params_outside Leading replacing params states path (length variables) leads in
-      let set_same = states_kept set_at set_outside Leading replacing set states path (length variables) leads in
+-- the parameters and the variables that are set are variables of the graph
+pub record AreGivenBelow (variables : ℕ) (states : StateTrees) : Type 0 where
+  pub params : (number : ℕ) → has_number (flat_map params_at (state_things states)) number ≡ true → number < variables
+  pub set : (number : ℕ) → has_number (flat_map set_at (state_things states)) number ≡ true → number < variables
+
+module _ (variables : ℕ) (numbers others : List ℕ) (among : AreAmong variables numbers others) (below : (number : ℕ) → has_number numbers number ≡ true → number < variables) where
+  -- they stand once still
+  stay_new : are_new [] numbers ≡ true → are_new [] others ≡ true
+  stay_new new = new_from [] others (λ number. at_most number (nat_lt number variables) refl) (λ number some. refl)
+    where
+      none_there : (number : ℕ) → variables ≤ number → times number numbers ≡ 0
+      none_there number behind = by (has_number numbers number) refl
+        where
+          by : (there : Bool) → has_number numbers number ≡ there → times number numbers ≡ 0
+          by true is = absurd (omega (arith, behind, below number is))
+          by false is = no_times number numbers is
+
+      at_most : (number : ℕ) (less : Bool) → nat_lt number variables ≡ less → times number others ≤ 1
+      at_most number true is = omega (arith, among.known number (grind (arith, is)), (new_times number [] numbers new).0)
+      at_most number false is = omega (arith, among.fresh number, none_there number (grind (arith, is)))
+
+  -- one of them that is a variable of the graph was there before
+  was_there : (number : ℕ) → number < variables → has_number others number ≡ true → has_number numbers number ≡ true
+  was_there number less is = is_there number numbers (omega (arith, among.known number less, some_times number others is))
+
+module _ (Leading : ℕ → KindTree → Type 0) (names : List (List ℕ)) (replacing : Replacing) (held : KeepsNumbers held_at Leading replacing) (params : KeepsBy AreAmong params_at Leading replacing) (set : KeepsNumbers set_at Leading replacing) where
+  pub once_stays : (name : List ℕ) (containers : Containers) (arguments : ℕ) (variables more : List (List ℕ)) (symbols : ℕ) (states : StateTrees) (path : List ℕ) → StatesLead Leading (length variables) states path →
+      AreGivenBelow (length variables) states → IsOnceGraph (graph name containers arguments variables symbols states) → IsOnceGraph (graph name containers arguments more symbols (states_with replacing names (length variables) states path))
+  once_stays name containers arguments variables more symbols states path leads below was =
+      let after : StateTrees = states_with replacing names (length variables) states path in
+      let held_same = states_kept AreSame same_joined held_at held_outside Leading names replacing held states path (length variables) leads in
+      let params_among = states_kept AreAmong among_joined params_at params_outside Leading names replacing params states path (length variables) leads in
+      let set_same = states_kept AreSame same_joined set_at set_outside Leading names replacing set states path (length variables) leads in
       record {
         once = record {
           held = ap (are_new []) held_same ∙ was.once.held;
-          params = ap (are_new []) params_same ∙ was.once.params;
-          apart = λ n param there. was.once.apart n (sym (ap (λ numbers. has_number numbers n) params_same) ∙ param) (sym (ap (λ numbers. has_number numbers n) set_same) ∙ there);
+          params = stay_new (length variables) (flat_map params_at (state_things states)) (flat_map params_at (state_things after)) params_among below.params was.once.params;
+          apart = λ n param there.
+              let was_set = sym (ap (λ numbers. has_number numbers n) set_same) ∙ there in
+              was.once.apart n (was_there (length variables) (flat_map params_at (state_things states)) (flat_map params_at (state_things after)) params_among below.params n (below.set n was_set) param) was_set;
         };
         held = ap (λ own. list_all (is_private_held containers own) (numbers_below (length containers))) (held_states_are after ∙ held_same ∙ sym (held_states_are states)) ∙ was.held;
       }
@@ -149,10 +245,10 @@ pub collapsed_held : KeepsNumbers held_at IsCollapsible collapsed
 collapsed_held variables line kind collapsible =
     subst (λ kind. flat_map held_at (item_things (collapsed variables line kind)) ≡ held_at (doing kind) ++ flat_map held_at (things_in kind)) (sym collapsible.shape) refl
 
-pub collapsed_params : KeepsNumbers params_at IsCollapsible collapsed
-collapsed_params variables line kind collapsible =
+pub collapsed_params : KeepsBy AreAmong params_at IsCollapsible collapsed
+collapsed_params variables line kind collapsible = same_among variables (params_at (doing kind) ++ flat_map params_at (things_in kind)) (flat_map params_at (item_things (collapsed variables line kind))) (
     subst (λ kind. flat_map params_at (item_things (collapsed variables line kind)) ≡ params_at (doing kind) ++ flat_map params_at (things_in kind)) (sym collapsible.shape)
-    (joined_numbers collapsible.outer collapsible.inner (flat_map params_at (item_things collapsible.body ++ [])))
+    (joined_numbers collapsible.outer collapsible.inner (flat_map params_at (item_things collapsible.body ++ []))))
   where
     joined_numbers : (outer inner : List (ℕ × Range)) (rest : List ℕ) → param_numbers (outer ++ inner) ++ rest ≡ param_numbers outer ++ (param_numbers inner ++ rest)
     joined_numbers [] inner rest = refl
@@ -171,10 +267,10 @@ expanded_held variables line kind expandable =
     subst (λ kind. flat_map held_at (item_things (expanded variables line kind)) ≡ held_at (doing kind) ++ flat_map held_at (things_in kind)) (sym expandable.shape)
     (ap (λ things. expandable.private ++ flat_map held_at things) (ended expandable.body))
 
-pub expanded_params : KeepsNumbers params_at IsExpandable expanded
-expanded_params variables line kind expandable =
+pub expanded_params : KeepsBy AreAmong params_at IsExpandable expanded
+expanded_params variables line kind expandable = same_among variables (params_at (doing kind) ++ flat_map params_at (things_in kind)) (flat_map params_at (item_things (expanded variables line kind))) (
     subst (λ kind. flat_map params_at (item_things (expanded variables line kind)) ≡ params_at (doing kind) ++ flat_map params_at (things_in kind)) (sym expandable.shape)
-    (ap (λ things. expandable.first.0 ∷ (param_numbers (expandable.second ∷ expandable.others) ++ flat_map params_at things)) (ended expandable.body))
+    (ap (λ things. expandable.first.0 ∷ (param_numbers (expandable.second ∷ expandable.others) ++ flat_map params_at things)) (ended expandable.body)))
 
 pub expanded_set : KeepsNumbers set_at IsExpandable expanded
 expanded_set variables line kind expandable =

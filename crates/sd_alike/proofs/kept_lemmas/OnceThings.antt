@@ -39,7 +39,7 @@ itself a = grind arith
 in_first : (xs ys : List ℕ) (n : ℕ) → has_number xs n ≡ true → has_number (xs ++ ys) n ≡ true
 in_first xs ys n is = has_both xs ys n ∙ or_first (has_number xs n) (has_number ys n) is
 
-in_second : (xs ys : List ℕ) (n : ℕ) → has_number ys n ≡ true → has_number (xs ++ ys) n ≡ true
+pub in_second : (xs ys : List ℕ) (n : ℕ) → has_number ys n ≡ true → has_number (xs ++ ys) n ≡ true
 in_second xs ys n is = has_both xs ys n ∙ or_second (has_number xs n) (has_number ys n) is
 
 in_one : (xs ys : List ℕ) (n : ℕ) → has_number (xs ++ ys) n ≡ true → (has_number xs n ≡ true) ⊎ (has_number ys n ≡ true)
@@ -52,7 +52,7 @@ each_there test (x ∷ xs) passes =
     joined (test x) (list_all test xs) (passes x (or_first (nat_eq x x) (has_number xs x) (itself x)))
     (each_there test xs (λ n is. passes n (or_second (nat_eq n x) (has_number xs n) is)))
 
-each_of : (test : ℕ → Bool) (xs : List ℕ) (n : ℕ) → list_all test xs ≡ true → has_number xs n ≡ true → test n ≡ true
+pub each_of : (test : ℕ → Bool) (xs : List ℕ) (n : ℕ) → list_all test xs ≡ true → has_number xs n ≡ true → test n ≡ true
 each_of test [] n all is = cc
 each_of test (x ∷ xs) n all is =
     let parts = both (test x) (list_all test xs) all in

@@ -6,7 +6,7 @@ use Rattle.sd_graph.specs.PlainTree.{GraphTree, graph}
 use Rattle.sd_graph.specs.TreeParts.{containers_of}
 use Rattle.sd_validity.specs.rules.Places.{Thing, whole, leaving, doing, Place, places_of, all_places}
 use Rattle.sd_validity.specs.rules.Failing.{failing, Holds}
-use Rattle.sd_validity.specs.rules.NamesInForce.{held_at, params_at, set_at, of_graph, numbers_at, are_new, are_apart, are_own_private, are_private_held, is_each_held, are_single, are_names_in_force, rule_1}
+use Rattle.sd_validity.specs.rules.NamesInForce.{held_at, params_at, set_at, of_graph, numbers_at, are_new, are_apart, are_own_private, are_private_held, is_each_held, are_symbols_apart, are_single, are_names_in_force, rule_1}
 use Rattle.sd_validity.specs.things.Behind.{AllBehind, things_at, StandsBehind}
 use Rattle.sd_validity.proofs.rules_lemmas.HoldingLemmas.{both, each_passes, parts}
 use Rattle.sd_validity.proofs.things_lemmas.Walked.{places_walked}
@@ -24,22 +24,39 @@ numbers_are : (numbers : Thing → List ℕ) (places : List Place) → numbers_a
 numbers_are numbers [] = refl
 numbers_are numbers (place ∷ places) = ap (λ rest. numbers place.thing ++ rest) (numbers_are numbers places)
 
+-- its four parts
+record IsNamedAt (before : List Place) (place : Place) : Type 0 where
+  names : are_names_in_force place ≡ true
+  held : is_each_held place.graph place.thing ≡ true
+  apart : are_symbols_apart place.graph place.thing ≡ true
+  own : are_own_private (containers_of place.graph) place.thing ≡ true
+  single : are_single (of_graph before place) place.thing ≡ true
+
+named_at : (before : List Place) (place : Place) → rule_1 before place ≡ true → IsNamedAt before place
+named_at before place is =
+    let held = is_each_held place.graph place.thing in
+    let apart = are_symbols_apart place.graph place.thing in
+    let own = are_own_private (containers_of place.graph) place.thing in
+    let single = are_single (of_graph before place) place.thing in
+    let parts = both (are_names_in_force place && (held && apart)) (own && single) is in
+    let first = both (are_names_in_force place) (held && apart) parts.0 in
+    let graph_parts = both held apart first.1 in
+    let rest = both own single parts.1 in
+    record { names = first.0; held = graph_parts.0; apart = graph_parts.1; own = rest.0; single = rest.1 }
+
 names_of : (before : List Place) (place : Place) → rule_1 before place ≡ true → test_of names_asked place ≡ true
 names_of before place is =
-    let own = are_own_private (containers_of place.graph) place.thing in
-    let parts = both (are_names_in_force place && is_each_held place.graph place.thing) (own && are_single (of_graph before place) place.thing) is in
-    joined (are_names_in_force place) own (both (are_names_in_force place) (is_each_held place.graph place.thing) parts.0).0 (both own (are_single (of_graph before place) place.thing) parts.1).0
+    let at = named_at before place is in
+    joined (are_names_in_force place && are_symbols_apart place.graph place.thing) (are_own_private (containers_of place.graph) place.thing)
+    (joined (are_names_in_force place) (are_symbols_apart place.graph place.thing) at.names at.apart) at.own
 
 held_of : (before : List Place) (place : Place) → rule_1 before place ≡ true → is_each_held place.graph place.thing ≡ true
-held_of before place is =
-    (both (are_names_in_force place) (is_each_held place.graph place.thing)
-    (both (are_names_in_force place && is_each_held place.graph place.thing) (are_own_private (containers_of place.graph) place.thing && are_single (of_graph before place) place.thing) is).0).1
+held_of before place is = (named_at before place is).held
 
 single_of : (before : List Place) (place : Place) → rule_1 before place ≡ true → IsSingle (things_of place.graph_path before) place.thing
 single_of before place is =
     let earlier = of_graph before place in
-    let own = are_own_private (containers_of place.graph) place.thing in
-    let single = (both own (are_single earlier place.thing) (both (are_names_in_force place && is_each_held place.graph place.thing) (own && are_single earlier place.thing) is).1).1 in
+    let single = (named_at before place is).single in
     let held = are_new (numbers_at held_at earlier) (held_at place.thing) in
     let new = are_new (numbers_at params_at earlier ++ numbers_at set_at earlier) (params_at place.thing) in
     let first = both (held && new) (are_apart (numbers_at params_at earlier) (set_at place.thing)) single in
@@ -95,22 +112,37 @@ once_along before (place ∷ places) none once path =
     (once_along (before ++ place ∷ []) places first.1
     (λ path. one_more path before place (bytes_eq place.graph_path path) refl (once path) (single_of before place first.0)) path)
 
-module _ (tree : GraphTree) (holds : Holds rule_1 tree) where
-  pub names_held : HoldsAll names_asked tree
-  names_held = all_held names_asked tree [] 0 (each_passes rule_1 (test_of names_asked) names_of [] (all_places tree) holds)
+-- what is known of each graph
+pub record IsNamedGraph (tree : GraphTree) : Type 0 where
+  pub once : IsOnceGraph tree
+  pub named : HoldsAll names_asked tree
 
-  part_once : (inner : GraphTree) (path : List ℕ) (depth : ℕ) → IsPart (λ tree. IsOnceGraph tree) (all_places tree) (places_of inner path depth) → IsOnceGraph inner
+module _ (tree : GraphTree) (holds : Holds rule_1 tree) where
+  names_pass : list_all (test_of names_asked) (all_places tree) ≡ true
+  names_pass = each_passes rule_1 (test_of names_asked) names_of [] (all_places tree) holds
+
+  pub symbols_pass : list_all (λ (place : Place). are_symbols_apart place.graph place.thing) (all_places tree) ≡ true
+  symbols_pass = each_passes rule_1 (λ (place : Place). are_symbols_apart place.graph place.thing) (λ before place is. (named_at before place is).apart) [] (all_places tree) holds
+
+  pub names_held : HoldsAll names_asked tree
+  names_held = all_held names_asked tree [] 0 names_pass
+
+  part_once : (inner : GraphTree) (path : List ℕ) (depth : ℕ) → IsPart (λ tree. IsNamedGraph tree) (all_places tree) (places_of inner path depth) → IsNamedGraph inner
   part_once inner path depth (before, (behind, e)) =
       let mid = places_of inner path depth in
       let all = once_along [] (all_places tree) holds (λ path. record { held = refl; params = refl; apart = λ n param set. no_number n param }) path in
       let tests = each_passes rule_1 (λ place. is_each_held place.graph place.thing) held_of [] (all_places tree) holds in
       let split = parts (λ place. is_each_held place.graph place.thing) before (mid ++ behind) (sym (ap (list_all (λ place. is_each_held place.graph place.thing)) e) ∙ tests) in
       let here = parts (λ place. is_each_held place.graph place.thing) mid behind split.1 in
+      let named = parts (test_of names_asked) before (mid ++ behind) (sym (ap (list_all (test_of names_asked)) e) ∙ names_pass) in
       record {
-        once = subst AreOnce (own_things inner path depth)
-            (once_part (things_of path before) (things_of path mid) (things_of path behind)
-            (subst AreOnce (ap (things_of path) e ∙ things_joined path before (mid ++ behind) ∙ ap (λ rest. things_of path before ++ rest) (things_joined path mid behind)) all));
-        held = first_held inner path depth here.0;
+        once = record {
+          once = subst AreOnce (own_things inner path depth)
+              (once_part (things_of path before) (things_of path mid) (things_of path behind)
+              (subst AreOnce (ap (things_of path) e ∙ things_joined path before (mid ++ behind) ∙ ap (λ rest. things_of path before ++ rest) (things_joined path mid behind)) all));
+          held = first_held inner path depth here.0;
+        };
+        named = all_held names_asked inner path depth (parts (test_of names_asked) mid behind named.1).0;
       }
     where
       no_number : (n : ℕ) → false ≡ true → ⊥
@@ -119,8 +151,8 @@ module _ (tree : GraphTree) (holds : Holds rule_1 tree) where
       first_held : (inner : GraphTree) (path : List ℕ) (depth : ℕ) → list_all (λ place. is_each_held place.graph place.thing) (places_of inner path depth) ≡ true → are_private_held inner ≡ true
       first_held (graph name containers arguments variables symbols states) path depth all = (both (are_private_held (graph name containers arguments variables symbols states)) _ all).0
 
-  pub each_once : EachGraph (λ tree. IsOnceGraph tree) tree
-  each_once = graph_each (λ tree. IsOnceGraph tree) (all_places tree) part_once tree [] 0 ([], ([], sym (nothing (all_places tree))))
+  pub each_once : EachGraph (λ tree. IsNamedGraph tree) tree
+  each_once = graph_each (λ tree. IsNamedGraph tree) (all_places tree) part_once tree [] 0 ([], ([], sym (nothing (all_places tree))))
     where
       nothing : (places : List Place) → places ++ [] ≡ places
       nothing [] = refl
@@ -135,20 +167,23 @@ each_held_at tree (doing kind) is = refl
 
 rule_at : (before : List Place) (place : Place) → StandsBehind before place → test_of names_asked place ≡ true → IsOnceGraph place.graph → rule_1 before place ≡ true
 rule_at before place (rest, stands) named once =
+    let held = is_each_held place.graph place.thing in
+    let apart = are_symbols_apart place.graph place.thing in
     let own = are_own_private (containers_of place.graph) place.thing in
-    let names = both (are_names_in_force place) own named in
-    joined (are_names_in_force place && is_each_held place.graph place.thing) (own && are_single (of_graph before place) place.thing)
-    (joined (are_names_in_force place) (is_each_held place.graph place.thing) names.0 (each_held_at place.graph place.thing once.held))
+    let names = both (are_names_in_force place && apart) own named in
+    let first = both (are_names_in_force place) apart names.0 in
+    joined (are_names_in_force place && (held && apart)) (own && are_single (of_graph before place) place.thing)
+    (joined (are_names_in_force place) (held && apart) first.0 (joined held apart (each_held_at place.graph place.thing once.held) first.1))
     (joined own (are_single (of_graph before place) place.thing) names.1
     (single_is before place (once_single (things_of place.graph_path before) place.thing rest (subst AreOnce stands once.once))))
 
-none_fails : (before places : List Place) → AllBehind StandsBehind before places → list_all (test_of names_asked) places ≡ true → AllByRecursion (λ (place : Place). IsOnceGraph place.graph) places → failing rule_1 before places ≡ None
+none_fails : (before places : List Place) → AllBehind StandsBehind before places → list_all (test_of names_asked) places ≡ true → AllByRecursion (λ (place : Place). IsNamedGraph place.graph) places → failing rule_1 before places ≡ None
 none_fails before [] stands named once = refl
 none_fails before (place ∷ places) stands named once =
     let names = both (test_of names_asked place) (list_all (test_of names_asked) places) named in
-    ap (λ passes. if passes then failing rule_1 (before ++ place ∷ []) places else Some place.path) (rule_at before place stands.0 names.0 once.0)
+    ap (λ passes. if passes then failing rule_1 (before ++ place ∷ []) places else Some place.path) (rule_at before place stands.0 names.0 once.0.once)
     ∙ none_fails (before ++ place ∷ []) places stands.1 names.1 once.1
 
-pub rule_of_names : (tree : GraphTree) → HoldsAll names_asked tree → EachGraph (λ tree. IsOnceGraph tree) tree → Holds rule_1 tree
+pub rule_of_names : (tree : GraphTree) → HoldsAll names_asked tree → EachGraph (λ tree. IsNamedGraph tree) tree → Holds rule_1 tree
 rule_of_names tree named once =
-    none_fails [] (all_places tree) (places_walked tree) (all_passes names_asked tree [] 0 named) (graph_places (λ tree. IsOnceGraph tree) tree [] 0 once)
+    none_fails [] (all_places tree) (places_walked tree) (all_passes names_asked tree [] 0 named) (graph_places (λ tree. IsNamedGraph tree) tree [] 0 once)

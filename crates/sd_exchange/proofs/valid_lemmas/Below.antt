@@ -15,7 +15,7 @@ use Rattle.sd_validity.specs.rules.GraphParts.{symbols_in, variables_of}
 use Rattle.sd_validity.specs.rules.Places.{Place, Scopes, no_scopes, in_map, in_consume, param_numbers, graph_place, state_place, item_place, places_in, item_places, state_places, places_of, all_places}
 use Rattle.sd_validity.specs.rules.Parts.{is_range_passed, is_dim_passed, is_link_passed, are_links_passed, are_params_passed, is_condition_passed, is_exit_passed, is_thing_passed}
 use Rattle.sd_validity.specs.rules.Failing.{Holds}
-use Rattle.sd_validity.specs.rules.NamesInForce.{is_there, is_variable_in_force, names_tests, params_at, set_at, is_stream_in_force, are_given_there, are_names_in_force, is_each_held, are_own_private, are_single, of_graph, rule_1}
+use Rattle.sd_validity.specs.rules.NamesInForce.{is_there, is_variable_in_force, names_tests, params_at, set_at, is_stream_in_force, are_given_there, are_names_in_force, is_each_held, are_symbols_apart, are_own_private, are_single, of_graph, rule_1}
 use Rattle.sd_validity.proofs.rules_lemmas.HoldingLemmas.{each_passes}
 use Rattle.sd_safe.proofs.fit_lemmas.Members.{both, each-passes, each-parts}
 use Rattle.sd_exchange.specs.maps.There.{KindGivesBelow, ItemsGiveBelow, StatesGiveBelow, GivesItsVariables}
@@ -34,8 +34,8 @@ true-both false b h k = cc
 one-there : (before : List Place) (place : Place) → rule_1 before place ≡ true → is_named_there place ≡ true
 one-there before place is =
     let containers = containers_of place.graph in
-    let split = both (are_names_in_force place && is_each_held place.graph place.thing) (are_own_private containers place.thing && are_single (of_graph before place) place.thing) is in
-    let names = (both (are_names_in_force place) (is_each_held place.graph place.thing) split.0).0 in
+    let split = both (are_names_in_force place && (is_each_held place.graph place.thing && are_symbols_apart place.graph place.thing)) (are_own_private containers place.thing && are_single (of_graph before place) place.thing) is in
+    let names = (both (are_names_in_force place) (is_each_held place.graph place.thing && are_symbols_apart place.graph place.thing) split.0).0 in
     let named = is_thing_passed (names_tests place) place.thing in
     let stream = is_stream_in_force containers place.scopes.private place.thing in
     let parts = both (named && stream) (are_given_there place) names in

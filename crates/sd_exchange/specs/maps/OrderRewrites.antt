@@ -1,5 +1,5 @@
 -- MapInterchange and MapTiling of the items of a list from one on: when, and what comes to stand there.
-use Rattle.std.specs.Prelude.{ℕ, List, []}
+use Rattle.std.specs.Prelude.{◌≡◌, ℕ, List, [], length}
 use Rattle.sd_subset.specs.boxes.Box.{Parameter}
 use Rattle.sd_graph.specs.ContainerParts.{Containers}
 use Rattle.sd_graph.specs.PlainTree.{KindTree, map_scope, no_item, and_item}
@@ -31,6 +31,11 @@ CanInterchange containers around variables (and_item line kind items) = CanInter
 abbrev pub tiled_by : (sizes : List ℕ) → Replacing
 tiled_by sizes variables line (map_scope sequential params private body) = and_item line (tiled_map sequential sizes variables line params private body) no_item
 tiled_by sizes variables line kind = and_item line kind no_item
+
+-- a map with a size for each parameter
+abbrev pub HasSizes : (sizes : List ℕ) → (variables : ℕ) → KindTree → Type 0
+HasSizes sizes variables (map_scope sequential params private body) = length sizes ≡ length params
+HasSizes sizes variables kind = ⊥
 
 abbrev pub CanTileKind : (sizes : List ℕ) → Containers → (around : List Parameter) → (variables : ℕ) → KindTree → Type 0
 CanTileKind sizes containers around variables (map_scope sequential params private body) = MayTile sequential containers around params private body sizes variables

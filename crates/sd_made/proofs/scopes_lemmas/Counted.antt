@@ -18,7 +18,7 @@ use Rattle.sd_validity.specs.rules.NamesInForce.{held_by, held_at, held_in_kind,
 use Rattle.sd_validity.specs.bound_places.BoundPlace.{bound_thing}
 use Rattle.sd_validity.specs.things.Things.{things_in, item_things, state_things, graph_things}
 use Rattle.sd_validity.specs.things.Behind.{things_at}
-use Rattle.sd_made.proofs.scopes_lemmas.Times.{times, times_joined}
+use Rattle.sd_validity.proofs.things_lemmas.Times.{times, times_joined}
 
 abbrev pub counted : (numbers : Thing → List ℕ) → (number : ℕ) → List Thing → ℕ
 counted numbers number [] = 0

@@ -20,7 +20,7 @@ use Rattle.sd_elab.specs.elab.Elaboration.{start_of, function_graph}
 use Rattle.sd_validity.specs.rules.NamesInForce.{held_at}
 use Rattle.sd_graph.specs.TreeParts.{containers_of}
 use Rattle.sd_validity.specs.things.Things.{item_things, graph_things}
-use Rattle.sd_made.proofs.scopes_lemmas.Times.{one_if, times}
+use Rattle.sd_validity.proofs.things_lemmas.Times.{one_if, times}
 use Rattle.sd_made.proofs.scopes_lemmas.Counted.{counted, element_counted, item_counted}
 use Rattle.sd_made.proofs.scopes_lemmas.Privates.{private_at, nested, within, privates, all_privates, function_private}
 use Rattle.sd_made.proofs.scopes_lemmas.StatesCounted.{set_weight, exits_weight, made, made_all, made_other, all_counted}

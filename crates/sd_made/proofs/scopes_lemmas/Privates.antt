@@ -18,7 +18,7 @@ use Rattle.sd_task.specs.in_force.Ranges.{extents_of}
 use Rattle.sd_elab.specs.items.NamesBehind.{own_before, own_of}
 use Rattle.sd_task.specs.containers.Declarations.{with_element, containers_with, containers_with_all, containers_of_function}
 use Rattle.sd_made.proofs.elab_lemmas.ContainersMade.{holds_here, stands_in_task, element_longer, counted, all_made}
-use Rattle.sd_made.proofs.scopes_lemmas.Times.{one_if, times}
+use Rattle.sd_validity.proofs.things_lemmas.Times.{one_if, times}
 
 -- ---- whether a number is that of a private container
 

@@ -4,7 +4,7 @@ use Rattle.sd_lex.specs.PlainTree.{Dimension}
 use Rattle.sd_program.specs.Names.{Named}
 use Rattle.sd_task.specs.in_force.Ranges.{parameters_of}
 use Rattle.sd_validity.specs.rules.Places.{param_numbers}
-use Rattle.sd_made.proofs.scopes_lemmas.Times.{one_if, times}
+use Rattle.sd_validity.proofs.things_lemmas.Times.{one_if, times}
 
 -- how often a number is among so many from the first one on
 abbrev pub span : (number first count : ℕ) → ℕ

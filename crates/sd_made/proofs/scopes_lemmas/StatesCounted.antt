@@ -15,7 +15,7 @@ use Rattle.sd_elab.specs.states.Standing.{Standing, behind, behind_all, state_be
 use Rattle.sd_elab.specs.states.States.{chained, chained_all, chained_other}
 use Rattle.sd_validity.specs.rules.Places.{Thing, leaving}
 use Rattle.sd_validity.specs.things.Things.{item_things, state_things}
-use Rattle.sd_made.proofs.scopes_lemmas.Times.{times}
+use Rattle.sd_validity.proofs.things_lemmas.Times.{times}
 use Rattle.sd_made.proofs.scopes_lemmas.Counted.{counted, counted_joined}
 
 -- where a variable that a transition sets counts so much

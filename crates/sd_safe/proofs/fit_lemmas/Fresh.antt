@@ -12,7 +12,7 @@ use Rattle.sd_graph.specs.LoopScope.{numbers_below, is_on_loop, closes_loop, is_
 use Rattle.sd_validity.specs.rules.Places.{Place, Scopes, no_scopes, in_map, in_consume, param_numbers, loops_at, graph_place, state_place, item_place, places_in, item_places, state_places, places_of, all_places}
 use Rattle.sd_validity.specs.rules.Parts.{is_thing_passed}
 use Rattle.sd_validity.specs.rules.Failing.{failing, Holds}
-use Rattle.sd_validity.specs.rules.NamesInForce.{params_at, set_at, names_tests, is_stream_in_force, are_given_there, are_names_in_force, is_each_held, are_own_private, are_single, of_graph, rule_1}
+use Rattle.sd_validity.specs.rules.NamesInForce.{params_at, set_at, names_tests, is_stream_in_force, are_given_there, are_names_in_force, is_each_held, are_symbols_apart, are_own_private, are_single, of_graph, rule_1}
 use Rattle.sd_validity.proofs.rules_lemmas.HoldingLemmas.{each_passes}
 use Rattle.sd_graph.specs.TreeParts.{containers_of}
 use Rattle.sd_safe.proofs.fit_lemmas.Members.{both, same_number, each-append, each-member, each-passes, some-passes}
@@ -211,8 +211,8 @@ pub record IsFreshPlace (place : Place) : Type 0 where
 one-names : (before : List Place) (place : Place) → rule_1 before place ≡ true → names_alone place ≡ true
 one-names before place is =
     let containers = containers_of place.graph in
-    let split = both (are_names_in_force place && is_each_held place.graph place.thing) (are_own_private containers place.thing && are_single (of_graph before place) place.thing) is in
-    let names = (both (are_names_in_force place) (is_each_held place.graph place.thing) split.0).0 in
+    let split = both (are_names_in_force place && (is_each_held place.graph place.thing && are_symbols_apart place.graph place.thing)) (are_own_private containers place.thing && are_single (of_graph before place) place.thing) is in
+    let names = (both (are_names_in_force place) (is_each_held place.graph place.thing && are_symbols_apart place.graph place.thing) split.0).0 in
     let stream = is_stream_in_force containers place.scopes.private place.thing in
     (both (names_alone place) stream (both (names_alone place && stream) (are_given_there place) names).0).0
 

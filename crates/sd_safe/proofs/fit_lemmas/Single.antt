@@ -9,7 +9,7 @@ use Rattle.sd_graph.specs.TreeParts.{containers_of}
 use Rattle.sd_graph.specs.Wiring.{has_number}
 use Rattle.sd_validity.specs.rules.Places.{Thing, whole, leaving, doing, Place}
 use Rattle.sd_validity.specs.rules.Failing.{Rule, failing}
-use Rattle.sd_validity.specs.rules.NamesInForce.{held_at, params_at, set_at, of_graph, numbers_at, are_new, are_apart, are_own_private, are_single, is_each_held, are_names_in_force, rule_1}
+use Rattle.sd_validity.specs.rules.NamesInForce.{held_at, params_at, set_at, of_graph, numbers_at, are_new, are_apart, are_own_private, are_single, is_each_held, are_symbols_apart, are_names_in_force, rule_1}
 use Rattle.sd_safe.proofs.fit_lemmas.Members.{both, passes-at, member-found, not_both, same_bytes}
 
 -- each number is another than those after it
@@ -59,7 +59,7 @@ params-single before place is =
     let held = are_new (numbers_at held_at earlier) (held_at thing) in
     let new = are_new (numbers_at params_at earlier ++ numbers_at set_at earlier) (params_at thing) in
     let unset = are_apart (numbers_at params_at earlier) (set_at thing) in
-    let split = both (are_names_in_force place && is_each_held place.graph thing) (are_own_private (containers_of place.graph) thing && are_single earlier thing) is in
+    let split = both (are_names_in_force place && (is_each_held place.graph thing && are_symbols_apart place.graph thing)) (are_own_private (containers_of place.graph) thing && are_single earlier thing) is in
     let single = (both (are_own_private (containers_of place.graph) thing) (are_single earlier thing) split.1).1 in
     let parts = both (held && new) unset single in
     record { new = (both held new parts.0).1; unset = parts.1 }

@@ -13,7 +13,7 @@ use Rattle.sd_graph.specs.declared.container.ContainerKind.TheVariants.{Argument
 use Rattle.sd_graph.specs.declared.link.Link.{Link}
 use Rattle.sd_validity.specs.rules.Places.{doing, Place, Scopes, no_scopes, in_map, in_consume, item_place, state_place, graph_place, places_in, item_places, state_places, places_of, all_places}
 use Rattle.sd_validity.specs.rules.Parts.{is_empty, container_of, is_dim_passed, is_link_passed, are_links_passed, is_condition_passed, is_exit_passed, is_kind_passed, is_thing_passed}
-use Rattle.sd_validity.specs.rules.NamesInForce.{is_container_in_force, is_stream_in_force, is_one, is_element, is_own, are_own_private, is_there, params_at, set_at, is_each_held, names_tests, are_names_in_force, of_graph, are_single, rule_1}
+use Rattle.sd_validity.specs.rules.NamesInForce.{is_container_in_force, is_stream_in_force, is_one, is_element, is_own, are_own_private, is_there, params_at, set_at, is_each_held, are_symbols_apart, names_tests, are_names_in_force, of_graph, are_single, rule_1}
 use Rattle.sd_validity.specs.rules.Failing.{Holds}
 use Rattle.sd_validity.proofs.rules_lemmas.HoldingLemmas.{both, parts, each_passes}
 
@@ -140,8 +140,8 @@ mutual
 one_implies : (before : List Place) (place : Place) → rule_1 before place ≡ true → names_pass place ≡ true
 one_implies before place is =
     let containers = containers_of place.graph in
-    let split = both (are_names_in_force place && is_each_held place.graph place.thing) (are_own_private containers place.thing && are_single (of_graph before place) place.thing) is in
-    let names = (both (are_names_in_force place) (is_each_held place.graph place.thing) split.0).0 in
+    let split = both (are_names_in_force place && (is_each_held place.graph place.thing && are_symbols_apart place.graph place.thing)) (are_own_private containers place.thing && are_single (of_graph before place) place.thing) is in
+    let names = (both (are_names_in_force place) (is_each_held place.graph place.thing && are_symbols_apart place.graph place.thing) split.0).0 in
     let named = is_thing_passed (names_tests place) place.thing && is_stream_in_force containers place.scopes.private place.thing in
     let there = list_all (is_there place.graph) (params_at place.thing) && list_all (is_there place.graph) (set_at place.thing) in
     let first = (both named there names).0 in

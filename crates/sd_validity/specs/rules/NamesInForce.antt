@@ -1,5 +1,5 @@
--- Rule 1: what is named is in force there, and each private container and each parameter has one place.
-use Rattle.std.specs.Prelude.{ℕ, nat_lt, pos, List, [], ◌∷◌, ◌++◌, length, map, Bool, true, false, not, ◌&&◌, ◌||◌, bytes_eq}
+-- Rule 1: what is named is in force there, each private container and each parameter has one place, and size symbols are there and are no parameters.
+use Rattle.std.specs.Prelude.{ℕ, nat_lt, nat_le, pos, List, [], ◌∷◌, ◌++◌, length, map, Bool, true, false, not, ◌&&◌, ◌||◌, bytes_eq}
 use Rattle.std.specs.List.{list_all, flat_map, filter}
 use Rattle.std.specs.Ordering.{int_eq}
 use Rattle.sd_range.specs.declared.affine.Affine.{Affine}
@@ -126,6 +126,18 @@ set_at whole = []
 set_at (leaving items exits) = flat_map (λ exit. map (λ assignment. assignment.0) exit.set) exits
 set_at (doing kind) = []
 
+-- ---- size symbols
+
+-- a variable is none of the size symbols, which are the first variables
+abbrev pub is_no_symbol : (symbols variable : ℕ) → Bool
+is_no_symbol symbols variable = not (nat_lt variable symbols)
+
+-- a graph as a whole has so many variables as it has size symbols, or more, and no parameter is one of them
+abbrev pub are_symbols_apart : GraphTree → Thing → Bool
+are_symbols_apart tree whole = nat_le (symbols_in tree) (length (variables_of tree))
+are_symbols_apart tree (leaving items exits) = true
+are_symbols_apart tree (doing kind) = list_all (is_no_symbol (symbols_in tree)) (params_at (doing kind))
+
 -- ---- places together
 
 -- the places that are of the same graph as this one
@@ -181,5 +193,5 @@ are_names_in_force place =
 
 abbrev pub rule_1 : (before : List Place) → Place → Bool
 rule_1 before place =
-    (are_names_in_force place && is_each_held place.graph place.thing)
+    (are_names_in_force place && (is_each_held place.graph place.thing && are_symbols_apart place.graph place.thing))
     && (are_own_private (containers_of place.graph) place.thing && are_single (of_graph before place) place.thing)

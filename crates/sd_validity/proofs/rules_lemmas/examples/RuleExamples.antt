@@ -126,6 +126,21 @@ a_parameter_of_two_maps = refl
 a_parameter_that_a_transition_sets : told (map_scope false ((0, range (number (pos 0)) (number (pos 1))) ∷ []) [] no_item) ≡ at_item 1
 a_parameter_that_a_transition_sets = refl
 
+-- a graph of two variables, of which the first so many are size symbols, with a map of this parameter
+abbrev with_symbols : (symbols parameter : ℕ) → GraphTree
+with_symbols symbols parameter =
+    graph [] [] 0 ([] ∷ [] ∷ []) symbols (and_state (one_item (map_scope false ((parameter, range (number (pos 0)) (number (pos 1))) ∷ []) [] no_item)) [] no_state)
+
+a_parameter_behind_the_size_symbols : invalidity (with_symbols 1 1) ≡ None
+unfolding ranks_of
+a_parameter_behind_the_size_symbols = refl
+
+a_parameter_that_is_a_size_symbol : invalidity (with_symbols 1 0) ≡ Some (1, 0 ∷ 0 ∷ [])
+a_parameter_that_is_a_size_symbol = refl
+
+a_size_symbol_without_a_variable : invalidity (with_symbols 3 1) ≡ Some (1, [])
+a_size_symbol_without_a_variable = refl
+
 -- rule 2
 an_index_too_few : told (writing 1 (number (pos 0))) ≡ at_item 2
 an_index_too_few = refl

@@ -1,0 +1,3 @@
+pub mod InterchangedKept
+pub mod TiledKept
+pub mod ValidKept
