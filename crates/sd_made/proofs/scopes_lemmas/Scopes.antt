@@ -21,9 +21,10 @@ use Rattle.sd_elab.specs.elab.Elaboration.{graph_of}
 use Rattle.sd_valid.specs.BoundTree.{bound_entry, bound_graph}
 use Rattle.sd_valid.specs.SizeValues.{NamedSizes, sizes_in}
 use Rattle.sd_valid.specs.Binding.{binding}
+use Rattle.sd_validity.specs.rules.GraphParts.{variables_of, symbols_in}
 use Rattle.sd_validity.specs.rules.Places.{Thing, whole, leaving, doing, Place, all_places, places_of}
 use Rattle.sd_validity.specs.rules.Failing.{failing, Holds}
-use Rattle.sd_validity.specs.rules.NamesInForce.{held_at, held_in_states, is_private_held, is_own, are_own_private, params_at, set_at, of_graph, numbers_at, are_new, are_apart, is_each_held, are_names_in_force, rule_1}
+use Rattle.sd_validity.specs.rules.NamesInForce.{held_at, held_in_states, is_private_held, is_own, are_own_private, params_at, set_at, of_graph, numbers_at, are_new, are_apart, is_each_held, is_no_symbol, are_symbols_apart, are_names_in_force, rule_1}
 use Rattle.sd_validity.specs.bound_places.BoundPlace.{bound_thing, bound_place}
 use Rattle.sd_validity.proofs.bound_places_lemmas.EachPlace.{AtThing, AtPlace, graph_places}
 use Rattle.sd_validity.proofs.bound_places_lemmas.Asked.{all_mapped}
@@ -35,13 +36,14 @@ use Rattle.sd_validity.proofs.things_lemmas.Walked.{places_walked}
 use Rattle.sd_made.proofs.places_lemmas.Made.{Fitting, IsWhole, IsItem, IsExit}
 use Rattle.sd_made.proofs.places_lemmas.ProgramMade.{IsTold, program_told}
 use Rattle.sd_made.proofs.places_lemmas.Givens.{fitting, all_reversed}
+use Rattle.sd_made.proofs.places_lemmas.Extents.{few_symbols}
 use Rattle.sd_made.proofs.places_lemmas.Bound.{bound_is}
 use Rattle.sd_made.proofs.names_lemmas.Names.{names_bound}
-use Rattle.sd_made.proofs.scopes_lemmas.Times.{times, times_joined, is_there, each_passes, each_below_passes, new_from, apart_from}
+use Rattle.sd_validity.proofs.things_lemmas.Times.{times, times_joined, is_there, each_passes, each_below_passes, new_from, apart_from}
 use Rattle.sd_made.proofs.scopes_lemmas.Counted.{counted, counted_joined, places_counted, states_held, counted_bound, held_bound, params_bound, set_bound}
 use Rattle.sd_made.proofs.scopes_lemmas.Privates.{private_at, private_there, there_private, private_once}
 use Rattle.sd_made.proofs.scopes_lemmas.HeldMade.{IsHeldOnce, function_held}
-use Rattle.sd_made.proofs.scopes_lemmas.VariablesMade.{IsSingle, function_single}
+use Rattle.sd_made.proofs.scopes_lemmas.VariablesMade.{IsSingle, function_single, HasFreeSymbols, function_free}
 use Rattle.sd_made.proofs.scopes_lemmas.Elements.{HasBoundElement, item_bound}
 
 -- ---- a graph whose private containers are held once
@@ -63,6 +65,23 @@ each_held : (tree : GraphTree) (thing : Thing) → IsHeldOnce tree → is_each_h
 each_held (graph name containers arguments variables symbols states) whole once = all_held containers states (λ number. omega (arith, once number))
 each_held tree (leaving items exits) once = refl
 each_held tree (doing kind) once = refl
+
+-- ---- size symbols
+
+-- they are there, and no parameter is one
+abbrev IsApart : GraphTree → Type 0
+IsApart tree = (symbols_in tree ≤ length (variables_of tree)) × HasFreeSymbols tree
+
+no_symbol : (symbols number : ℕ) (less : Bool) → nat_lt number symbols ≡ less → (number < symbols → ⊥) → not less ≡ true
+no_symbol symbols number true is none = absurd (none (grind (arith, is)))
+no_symbol symbols number false is none = refl
+
+symbols_apart : (tree : GraphTree) (thing : Thing) → symbols_in tree ≤ length (variables_of tree) → ((number : ℕ) → number < symbols_in tree → times number (params_at thing) ≡ 0) → are_symbols_apart tree thing ≡ true
+symbols_apart tree whole few none = grind (arith, few)
+symbols_apart tree (leaving items exits) few none = refl
+symbols_apart tree (doing kind) few none =
+    each_passes (is_no_symbol (symbols_in tree)) (params_at (doing kind))
+    (λ number some. no_symbol (symbols_in tree) number (nat_lt number (symbols_in tree)) refl (λ below. omega (arith, some, none number below)))
 
 -- ---- what stands at a place
 
@@ -127,19 +146,29 @@ module _ (before : List Place) (place : Place) (stands : StandsBehind before pla
       thing_private place.graph place.thing element
       (λ number some. own_private (containers_of place.graph) number (omega (arith, some, split held_at number, once number)))
 
+  params_apart : IsApart place.graph → are_symbols_apart place.graph place.thing ≡ true
+  params_apart apart = symbols_apart place.graph place.thing apart.0 (λ number below. omega (arith, split params_at number, apart.1 number below))
+
 -- what is known of each place
+abbrev IsSoundGraph : GraphTree → Type 0
+IsSoundGraph tree = (IsHeldOnce tree × IsSingle tree) × IsApart tree
+
+abbrev IsSoundAt : Place → Type 0
+IsSoundAt place = IsSoundGraph place.graph × HasElementAt place.graph place.thing
+
 abbrev IsFit : Place → Type 0
-IsFit place = (are_names_in_force place ≡ true) × ((IsHeldOnce place.graph × IsSingle place.graph) × HasElementAt place.graph place.thing)
+IsFit place = (are_names_in_force place ≡ true) × IsSoundAt place
 
 rule_holds : (before : List Place) (place : Place) → IsFit place → StandsBehind before place → rule_1 before place ≡ true
 rule_holds before place fit stands =
     rw (
       fit.0,
-      each_held place.graph place.thing fit.1.0.0,
-      held_private before place stands fit.1.0.0 fit.1.1,
-      held_new before place stands fit.1.0.0,
-      params_new before place stands fit.1.0.1,
-      set_apart before place stands fit.1.0.1,
+      each_held place.graph place.thing fit.1.0.0.0,
+      params_apart before place stands fit.1.0.1,
+      held_private before place stands fit.1.0.0.0 fit.1.1,
+      held_new before place stands fit.1.0.0.0,
+      params_new before place stands fit.1.0.0.1,
+      set_apart before place stands fit.1.0.0.1,
     ) refl
 
 none_fails_fit : (before places : List Place) → AllByRecursion IsFit places → AllBehind StandsBehind before places → failing rule_1 before places ≡ None
@@ -162,6 +191,10 @@ module _ (sizes : List ℤ) where
   single_bound tree single number =
       omega (arith, single number, counted_bound sizes params_at (params_bound sizes) number tree, counted_bound sizes set_at (set_bound sizes) number tree)
 
+  apart_bound : (tree : GraphTree) → IsApart tree → IsApart (bound_graph sizes tree)
+  apart_bound (graph name containers arguments variables symbols states) apart =
+      (apart.0, λ number below. counted_bound sizes params_at (params_bound sizes) number (graph name containers arguments variables symbols states) ∙ apart.1 number below)
+
   module _ (Given : source.Place → StatementTree → Type 0) (Is : List Name → FunctionTree → Type 0) where
     thing_element : (place : Place) (thing : Thing) → AtThing (IsWhole Given Is) (IsExit Given Is) (IsItem Given Is) thing place → HasElementAt (bound_graph sizes place.graph) (bound_thing sizes thing)
     thing_element place whole at = tt
@@ -178,21 +211,22 @@ all_sound : (symbols : List Name) (functions : List FunctionTree) → EveryFunct
 all_sound symbols [] placed few = tt
 all_sound symbols (function ∷ above) placed few = ((above, (placed.0, few.0)), all_sound symbols above placed.1 few.1)
 
-whole_sound : (Given : source.Place → StatementTree → Type 0) (tree : GraphTree) → IsWhole Given IsSound tree → IsHeldOnce tree × IsSingle tree
-whole_sound Given tree (inl none) = subst (λ tree. IsHeldOnce tree × IsSingle tree) (sym none) (λ number. refl, λ number. omega arith)
+whole_sound : (Given : source.Place → StatementTree → Type 0) (tree : GraphTree) → IsWhole Given IsSound tree → IsSoundGraph tree
+whole_sound Given tree (inl none) = subst IsSoundGraph (sym none) ((λ number. refl, λ number. omega arith), (omega arith, λ number below. refl))
 whole_sound Given tree (inr is) =
-    subst (λ tree. IsHeldOnce tree × IsSingle tree) (sym is.made) (function_held is.symbols is.graphs is.is.0 is.function is.is.1.0, function_single is.symbols is.graphs is.function is.is.1.1)
-
-abbrev IsSoundAt : Place → Type 0
-IsSoundAt place = (IsHeldOnce place.graph × IsSingle place.graph) × HasElementAt place.graph place.thing
+    let few : symbols_in tree ≤ length (variables_of tree) = few_symbols Given IsSound tree (inr is) in
+    subst IsSoundGraph (sym is.made) (
+      (function_held is.symbols is.graphs is.is.0 is.function is.is.1.0, function_single is.symbols is.graphs is.function is.is.1.1),
+      (subst (λ tree. symbols_in tree ≤ length (variables_of tree)) is.made few, function_free is.symbols is.graphs is.function is.is.1.1),
+    )
 
 places_sound : (sizes : List ℤ) (tree : GraphTree) → IsTold Fitting IsSound (λ place statement fits. fits) tree → AllByRecursion IsSoundAt (all_places (bound_graph sizes tree))
 places_sound sizes tree told =
     subst (AllByRecursion IsSoundAt) (sym (graph_bound sizes tree [] 0))
     (all_mapped (bound_place sizes) (AtPlace (IsWhole Fitting IsSound) (IsExit Fitting IsSound) (IsItem Fitting IsSound)) IsSoundAt
     (λ place at. (
-    let whole_is : IsHeldOnce place.graph × IsSingle place.graph = whole_sound Fitting place.graph at.0 in
-    ((once_bound sizes place.graph whole_is.0, single_bound sizes place.graph whole_is.1), thing_element sizes Fitting IsSound place place.thing at.1)
+    let whole_is : IsSoundGraph place.graph = whole_sound Fitting place.graph at.0 in
+    (((once_bound sizes place.graph whole_is.0.0, single_bound sizes place.graph whole_is.0.1), apart_bound sizes place.graph whole_is.1), thing_element sizes Fitting IsSound place place.thing at.1)
     ))
     (places_of tree [] 0) (graph_places _ _ _ tree [] 0 told))
 

@@ -1,5 +1,5 @@
 -- No variable of a program is a parameter twice, or a parameter and a loop variable.
-use Rattle.std.proofs.Common.{◌≡◌, ◌∙◌, ℕ, ◌+◌, ◌≤◌, List, [], ◌∷◌, ◌++◌, map, length, Bool, true, false, cond, nat_eq, refl, ap, sym, arith}
+use Rattle.std.proofs.Common.{◌≡◌, ◌∙◌, ℕ, ◌+◌, ◌<◌, ◌≤◌, List, [], ◌∷◌, ◌++◌, map, length, Bool, true, false, cond, nat_eq, refl, ap, sym, arith}
 use Rattle.sd_lex.specs.PlainTree.{StatementTree, argument_array, local_array, local_stream, assign, copy, reduce, map_scope, tasklet, consume_scope, call, for_loop, while_loop, branch, Block, no_statement, and_statement, FunctionTree}
 use Rattle.sd_lex.specs.StatementKind.{has_connector}
 use Rattle.sd_range.specs.declared.affine.Affine.{Affine}
@@ -17,13 +17,14 @@ use Rattle.sd_elab.specs.items.NamesBehind.{own_of, table_behind}
 use Rattle.sd_elab.specs.items.Items.{taken_link, items_with, items_of_body}
 use Rattle.sd_elab.specs.states.Standing.{Standing, behind, behind_all, state_behind, with_loop_variable}
 use Rattle.sd_elab.specs.elab.Elaboration.{start_of, function_graph}
+use Rattle.sd_validity.specs.rules.GraphParts.{symbols_in}
 use Rattle.sd_validity.specs.rules.Places.{Thing, leaving, param_numbers}
 use Rattle.sd_validity.specs.rules.NamesInForce.{params_at, set_at}
 use Rattle.sd_validity.specs.things.Things.{item_things, graph_things}
-use Rattle.sd_made.proofs.scopes_lemmas.Times.{one_if, times, times_joined}
+use Rattle.sd_validity.proofs.things_lemmas.Times.{one_if, times, times_joined}
 use Rattle.sd_made.proofs.scopes_lemmas.Counted.{counted, element_counted, item_counted}
 use Rattle.sd_made.proofs.scopes_lemmas.StatesCounted.{set_weight, exits_weight, made, made_all, made_other, all_counted}
-use Rattle.sd_made.proofs.scopes_lemmas.Spans.{span, span_joined, span_once, params_spanned}
+use Rattle.sd_made.proofs.scopes_lemmas.Spans.{span, span_joined, span_above, span_once, params_spanned}
 
 -- the parameters at a place, each twice, and the variables that are set there, of which each loop sets its own twice
 abbrev given_at : Thing → List ℕ
@@ -139,3 +140,15 @@ function_single symbols graphs function few number =
     let states = all_counted graphs given_at number (λ variable. one_if (nat_eq number variable)) (leaves number) function.body start plain.no_item [] in
     let most = block_given graphs number function.body start few.1 in
     omega (arith, states, most, span_once number start.variable (variables_in_all function.body), split_given number (graph_things (function_graph symbols graphs function)))
+
+-- no size symbol is a parameter
+abbrev pub HasFreeSymbols : GraphTree → Type 0
+HasFreeSymbols tree = (number : ℕ) → number < symbols_in tree → counted params_at number (graph_things tree) ≡ 0
+
+-- the variables of a program's maps stand behind its size symbols
+pub function_free : (symbols : List Name) (graphs : Name → GraphTree) (function : FunctionTree) → EveryOf HasFewParameters function → HasFreeSymbols (function_graph symbols graphs function)
+function_free symbols graphs function few number below =
+    let start : Standing = start_of symbols function in
+    let states = all_counted graphs given_at number (λ variable. one_if (nat_eq number variable)) (leaves number) function.body start plain.no_item [] in
+    let most = block_given graphs number function.body start few.1 in
+    omega (arith, states, most, span_above number start.variable (variables_in_all function.body) below, split_given number (graph_things (function_graph symbols graphs function)))

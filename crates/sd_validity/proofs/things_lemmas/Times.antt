@@ -6,6 +6,7 @@ use Rattle.sd_graph.specs.LoopScope.{numbers_below}
 use Rattle.sd_graph.specs.Wiring.{has_number}
 use Rattle.sd_graph.proofs.Among.{nat_eq_same}
 use Rattle.sd_validity.specs.rules.NamesInForce.{are_new, are_apart}
+use Rattle.sd_validity.proofs.rules_lemmas.HoldingLemmas.{both}
 
 abbrev pub one_if : Bool → ℕ
 one_if true = 1
@@ -89,40 +90,32 @@ no_times number (first ∷ rest) none = no_more number (nat_eq number first) res
 same_number : (a b : ℕ) → nat_eq a b ≡ true → a ≡ b
 same_number a b is = grind (arith, is)
 
--- a number that stands in front is known from there on
-one_new : (number : ℕ) (known : List ℕ) (first : ℕ) (rest : List ℕ) (same : Bool) → nat_eq number first ≡ same → (not (has_number known first) && are_new (known ++ first ∷ []) rest) ≡ true →
-    ((known' : List ℕ) → are_new known' rest ≡ true → (times number rest ≤ 1) × (has_number known' number ≡ true → times number rest ≡ 0)) →
-    (one_if same + times number rest ≤ 1) × (has_number known number ≡ true → one_if same + times number rest ≡ 0)
-one_new number known first rest same equal new later = parts (not (has_number known first)) refl new
-  where
-    parts : (other : Bool) → not (has_number known first) ≡ other → (other && are_new (known ++ first ∷ []) rest) ≡ true →
-        (one_if same + times number rest ≤ 1) × (has_number known number ≡ true → one_if same + times number rest ≡ 0)
-    parts true unknown news = by same equal
-      where
-        behind : (times number rest ≤ 1) × (has_number (known ++ first ∷ []) number ≡ true → times number rest ≡ 0)
-        behind = later (known ++ first ∷ []) news
+is_not : (a : Bool) → not a ≡ true → a ≡ true → ⊥
+is_not true none is = cc
+is_not false none is = cc
 
-        none_known : has_number known first ≡ true → ⊥
-        none_known is = differ (sym unknown ∙ ap not is)
-          where
-            differ : true ≡ false → ⊥
-            differ none = cc
+-- it stands once at most, and not once where it is known
+abbrev pub IsNewOnce : (number : ℕ) → (known : List ℕ) → (times : ℕ) → Type 0
+IsNewOnce number known times = (times ≤ 1) × (has_number known number ≡ true → times ≡ 0)
 
-        by : (same : Bool) → nat_eq number first ≡ same → (one_if same + times number rest ≤ 1) × (has_number known number ≡ true → one_if same + times number rest ≡ 0)
-        by true is =
-            let last : has_number (known ++ first ∷ []) number ≡ true = is_there number (known ++ first ∷ []) (omega (arith, times_joined number known (first ∷ []), ap one_if is)) in
-            let none : times number rest ≡ 0 = behind.1 last in
-            (omega (arith, none), λ known_is. absurd (none_known (subst (λ one. has_number known one ≡ true) (same_number number first is) known_is)))
-        by false is = (
-          omega (arith, behind.0),
-          λ known_is. (
-              let more : has_number (known ++ first ∷ []) number ≡ true = is_there number (known ++ first ∷ []) (omega (arith, times_joined number known (first ∷ []), some_times number known known_is)) in
-              omega (arith, behind.1 more)
-              ),
-        )
-    parts false unknown news = cc
+-- a number in front of others is known from there on
+one_new : (number first : ℕ) (known : List ℕ) (others : ℕ) (same : Bool) → nat_eq number first ≡ same → (has_number known first ≡ true → ⊥) → IsNewOnce number (known ++ first ∷ []) others →
+    IsNewOnce number known (one_if same + others)
+one_new number first known others true is unknown later =
+    let last : has_number (known ++ first ∷ []) number ≡ true = is_there number (known ++ first ∷ []) (omega (arith, times_joined number known (first ∷ []), ap one_if is)) in
+    let none : others ≡ 0 = later.1 last in
+    (omega (arith, none), λ there. absurd (unknown (subst (λ one. has_number known one ≡ true) (same_number number first is) there)))
+one_new number first known others false is unknown later = (
+  omega (arith, later.0),
+  λ there. (
+      let still : has_number (known ++ first ∷ []) number ≡ true = is_there number (known ++ first ∷ []) (omega (arith, times_joined number known (first ∷ []), some_times number known there)) in
+      omega (arith, later.1 still)
+      ),
+)
 
 -- new numbers stand once, and none of those that are known is one
-pub new_times : (number : ℕ) (known numbers : List ℕ) → are_new known numbers ≡ true → (times number numbers ≤ 1) × (has_number known number ≡ true → times number numbers ≡ 0)
+pub new_times : (number : ℕ) (known numbers : List ℕ) → are_new known numbers ≡ true → IsNewOnce number known (times number numbers)
 new_times number known [] new = (omega arith, λ is. refl)
-new_times number known (first ∷ rest) new = one_new number known first rest (nat_eq number first) refl new (λ known' news. new_times number known' rest news)
+new_times number known (first ∷ rest) new =
+    let parts = both (not (has_number known first)) (are_new (known ++ first ∷ []) rest) new in
+    one_new number first known (times number rest) (nat_eq number first) refl (is_not (has_number known first) parts.0) (new_times number (known ++ first ∷ []) rest parts.1)
