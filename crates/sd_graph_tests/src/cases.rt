@@ -66,6 +66,12 @@ stream; private 1 1; state; consume 1 0 -> rule 1 at [0, 0]
 stream; private-stream; state; consume 1 0 -> rule 1 at [0, 0]
 state; map v0=0:1; end; next 1; state; next 1 v0=0 -> rule 1 at [1]
 private 2; private 2; state; map v0=0:2 0; task > 0[0]; map v1=0:v0+1 1; copy 0[0] > 1[0] -> valid
+# Rule 1: size symbols are there, and are no parameters.
+symbols 9; state -> valid
+symbols 10; state -> rule 1 at []
+symbols 1; state; map v0=0:1 -> rule 1 at [0, 0]
+symbols 1; state; map v1=0:1 -> valid
+... => nested; symbols 2; state; map v2=0:1 v1=0:1 -> rule 1 at [3, 5, 0, 0]
 # Rule 2: links have the dimensions of their sides.
 ... => task > 1[0] -> rule 2 at [3, 5]
 ... => task > 0[0,0] -> rule 2 at [3, 5]

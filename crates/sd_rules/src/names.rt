@@ -4,7 +4,7 @@ ghost use Rattle.std.specs.List.{list_all};
 ghost use Rattle.sd_graph.specs.TreeFold.{graph_tree, kind_tree, named_container};
 ghost use Rattle.sd_places.specs.places.PlaceOf.{place_of, thing_of};
 ghost use Rattle.sd_validity.specs.rules.NamesInForce as names;
-ghost use Rattle.sd_validity.specs.rules.Places.{doing};
+ghost use Rattle.sd_validity.specs.rules.Places.{doing, param_numbers};
 
 use crate::held::{are_own, are_private_held, is_element, is_private_at};
 use crate::single::{Named, are_single, push_named};
@@ -214,6 +214,43 @@ fn is_each_held(alloc: Global, place: &Place<'_>) -> Result<bool, NoMemory>
     }
 }
 
+/// Whether no parameter of an item is one of the first so many variables, if it is a map.
+fn are_params_apart(symbols: u32, kind: &ItemKind) -> bool
+    ensures { result ≡ list_all (names.is_no_symbol symbols) (names.params_at (doing (kind_tree kind.now))) }
+{
+    match kind {
+        ItemKind::Map { params, .. } => are_behind_symbols(symbols, params),
+        ItemKind::Task { .. }
+        | ItemKind::Consume { .. }
+        | ItemKind::Nested { .. }
+        | ItemKind::Reduce { .. }
+        | ItemKind::Copy { .. } => true,
+    }
+}
+
+/// Whether none of the parameters is one of the first so many variables.
+fn are_behind_symbols(symbols: u32, params: &[(u32, Range)]) -> bool
+    ensures { result ≡ list_all (names.is_no_symbol symbols) (param_numbers params.now) }
+{
+    for (variable, _) in params {
+        if *variable < symbols {
+            return false;
+        }
+    }
+    true
+}
+
+/// Whether a graph as a whole has a variable for each size symbol, and no parameter is one.
+fn are_symbols_apart(place: &Place<'_>) -> bool
+    ensures { result ≡ names.are_symbols_apart (place_of place.now).graph (place_of place.now).thing }
+{
+    match place.thing {
+        Thing::Whole => place.graph.symbols as usize <= place.graph.variables.len(),
+        Thing::Leaving { .. } => true,
+        Thing::Doing(kind) => are_params_apart(place.graph.symbols, kind),
+    }
+}
+
 /// Rule 1.
 pub struct NamesInForce;
 
@@ -232,6 +269,9 @@ impl Rule for NamesInForce {
             return Ok(false);
         }
         if !is_each_held(alloc, place)? {
+            return Ok(false);
+        }
+        if !are_symbols_apart(place) {
             return Ok(false);
         }
         if !are_own_private(&place.graph.containers, place.thing) {
