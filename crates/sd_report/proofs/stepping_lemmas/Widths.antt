@@ -1,5 +1,5 @@
 -- The memories that graphs open with are of their containers' widths.
-use Rattle.std.proofs.Common.{◌≡◌, ℕ, ℤ, List, [], ◌∷◌, map, Option, Some, None, Result, Ok, Err, ap, subst}
+use Rattle.std.proofs.Common.{◌≡◌, ℕ, ℤ, List, [], ◌∷◌, map, Option, Some, None, Ok, Err, ap, subst}
 use Rattle.std.specs.Option.{option_map_or}
 use Rattle.sd_work.specs.Memory.{Memory}
 use Rattle.sd_pieces.specs.cut.Merged.{AreElementsOfWidth}
@@ -14,7 +14,6 @@ use Rattle.sd_part.proofs.Widths.{opens}
 use Rattle.sd_part.proofs.StreamWidths.{opens-values}
 use Rattle.sd_json.specs.GivenMemory.{wrong_shape, memory_given}
 use Rattle.sd_json.specs.declared.array.Array.{Array}
-use Rattle.sd_json.specs.declared.error.InputError.{InputError}
 use Rattle.sd_json.specs.declared.error.InputError.TheVariants.{WrongShape}
 
 pub opening_widths : (tree : GraphTree) (given : List (List ℤ)) (memory : Shaped) → opening_memory tree given ≡ memory.contents → IsOfWidths memory
