@@ -17,6 +17,8 @@ use sd_race::check;
 use sd_validate::validate;
 use std::alloc::Global;
 use std::process::Abort;
+use std::sync::Wait;
+use std::thread::Threads;
 
 /// Four points, each of which reads what stands four elements behind it.
 const SHIFT: &[u8] = b"
@@ -90,8 +92,9 @@ fn opened(rt: &impl Abort, alloc: Global, bound: &Bound, last: i64) -> Memory
 }
 
 /// Runs the graph of a source from these elements with a hundred turns, by so many workers.
-fn run<G: Gate + Sync + Send>(
-    rt: &HostRuntime,
+fn run<R: Abort + Threads + Wait + Sync, G: Gate + Sync + Send>(
+    rt: &R,
+    alloc: Global,
     text: &[u8],
     last: i64,
     workers: u64,
@@ -100,7 +103,6 @@ fn run<G: Gate + Sync + Send>(
     requires some { 0 < workers }
     requires few { workers ≤ 64 }
 {
-    let alloc = rt.alloc();
     let bound = accepted(rt, alloc, text);
     let memory = opened(rt, alloc, &bound, last);
     sure(rt, run_crew(rt, alloc, &bound, &memory, 100, workers, gate))
@@ -120,26 +122,26 @@ fn leaves(end: &CrewEnd, wanted: &[i64], left: u64) -> bool {
 #[test]
 fn two_workers_are_inside_at_once(rt: HostRuntime) {
     let gate = Pair::new(1_000_000_000);
-    let end = run(&rt, SHIFT, 8, 2, &gate);
+    let end = run(&rt, rt.alloc(), SHIFT, 8, 2, &gate);
     assert!(rt; leaves(&end, &[5, 6, 7, 8, 5, 6, 7, 8], 96));
     assert!(rt; gate.met());
 }
 
 #[test]
 fn a_piece_with_a_fault_stops_the_workers(rt: HostRuntime) {
-    let done = run(&rt, DIVIDE, 8, 3, &Open);
+    let done = run(&rt, rt.alloc(), DIVIDE, 8, 3, &Open);
     assert!(rt; leaves(&done, &[168, 140, 120, 105, 5, 6, 7, 8], 96));
-    assert!(rt; matches!(run(&rt, DIVIDE, 0, 3, &Open), CrewEnd::Stopped));
+    assert!(rt; matches!(run(&rt, rt.alloc(), DIVIDE, 0, 3, &Open), CrewEnd::Stopped));
 }
 
 #[test]
 fn there_may_be_more_workers_than_pieces(rt: HostRuntime) {
-    let end = run(&rt, TWICE, 8, 64, &Open);
+    let end = run(&rt, rt.alloc(), TWICE, 8, 64, &Open);
     assert!(rt; leaves(&end, &[6, 7, 8, 4, 5, 6, 7, 8], 92));
 }
 
 #[test]
 fn a_graph_without_items_is_done_at_once(rt: HostRuntime) {
-    let end = run(&rt, NEVER, 8, 2, &Open);
+    let end = run(&rt, rt.alloc(), NEVER, 8, 2, &Open);
     assert!(rt; leaves(&end, &[1, 2, 3, 4, 5, 6, 7, 8], 100));
 }
