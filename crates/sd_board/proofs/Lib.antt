@@ -1,5 +1,6 @@
 pub mod Marks
 pub mod Waiting
+pub mod Counts
 pub mod Boards
 pub mod Closing
 pub mod Ends

@@ -9,7 +9,7 @@ use Rattle.sd_board.specs.declared.mark.Mark.{Mark}
 use Rattle.sd_board.specs.declared.mark.Mark.TheVariants.{ToBegin, InWork, Finished}
 use Rattle.sd_board.specs.declared.progress.Asked.{Asked}
 use Rattle.sd_board.specs.declared.progress.Asked.TheVariants.{Wait, Over}
-use Rattle.sd_board.specs.Progress.{Standing, standing_of, Is, IsReady, MayBegin, NoneMayBegin, marked, Progress, progress_of, not_begun, turned, with_finished, IsTold, one_if_finished, count_finished, IsKept, IsNext, HasEach, AreAllFinished}
+use Rattle.sd_board.specs.Progress.{Standing, Is, IsReady, MayBegin, NoneMayBegin, marked, Progress, progress_of, not_begun, turned, with_finished, IsTold, one_if_finished, count_finished, IsKept, IsNext, HasEach, AreAllFinished}
 
 abbrev Untrue : Bool → Type 0
 Untrue true = ⊥
@@ -261,12 +261,6 @@ pub all-finished : (p : Progress) (room total : ℕ) → IsKept p room total →
 all-finished p room total h each number l = h.finished number (each number (subst (λ n. number < n) h.marked l))
 
 -- ---- as the code keeps it
-
-pub may-moved : (items items' : List ℕ) (order : Order) (marks marks' : List Mark) (k : ℕ) → items ≡ items' → marks ≡ marks' → MayBegin (standing_of items order marks) k → MayBegin (standing_of items' order marks') k
-may-moved items items' order marks marks' k e f h = subst (λ i. MayBegin (standing_of i order marks') k) e (subst (λ m. MayBegin (standing_of items order m) k) f h)
-
-pub none-moved : (items items' : List ℕ) (order : Order) (marks marks' : List Mark) → items ≡ items' → marks ≡ marks' → NoneMayBegin (standing_of items order marks) → NoneMayBegin (standing_of items' order marks')
-none-moved items items' order marks marks' e f h number may = h number (may-moved items' items order marks' marks number (sym e) (sym f) may)
 
 pub told-over : (p : Progress) (asked : Asked) → asked ≡ Over → AreAllFinished p.pieces.marks → IsTold p asked p
 told-over p asked e h = subst (λ a. IsTold p a p) (sym e) (h, refl)

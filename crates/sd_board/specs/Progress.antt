@@ -1,5 +1,5 @@
 -- How far the pieces of a board's work are.
-use Rattle.std.specs.Prelude.{◌≡◌, ℕ, ◌+◌, ◌<◌, ◌≤◌, List, [], ◌∷◌, ◌++◌, length, Some, true, slice_get, slice_set, replicate, false}
+use Rattle.std.specs.Prelude.{◌≡◌, ℕ, ◌+◌, ◌<◌, ◌≤◌, List, [], ◌∷◌, ◌++◌, length, Some, true, slice_get, slice_set, slice_index_or, replicate, false, if◌then◌else◌}
 use Rattle.sd_pieces.specs.history.History.{is_in_history}
 use Rattle.sd_order.specs.table.Told.{told}
 use Rattle.sd_order.specs.declared.table.order.Order.{Order}
@@ -85,6 +85,22 @@ one_if_finished Finished = 1
 abbrev pub count_finished : List Mark → ℕ
 count_finished [] = 0
 count_finished (mark ∷ marks) = one_if_finished mark + count_finished marks
+
+-- one piece that is not finished
+abbrev pub one_if_left : Mark → ℕ
+one_if_left ToBegin = 1
+one_if_left InWork = 1
+one_if_left Finished = 0
+
+-- how many pieces of the items before this one are not finished
+abbrev pub count_left : Order → (item : ℕ) → (items : List ℕ) → List Mark → ℕ
+count_left order item [] marks = 0
+count_left order item (earlier ∷ items) [] = 0
+count_left order item (earlier ∷ items) (mark ∷ marks) = (if told order earlier item then one_if_left mark else 0) + count_left order item items marks
+
+-- a table has as many for each item
+abbrev pub AreCounted : Standing → (counts : List ℕ) → Type 0
+AreCounted s counts = (item : ℕ) → slice_index_or counts item 0 ≡ count_left s.order item s.items s.marks
 
 -- What holds of all progress, where the history has so much room and the ledger's book this total: each piece has a mark, those that are
 -- finished are those of the history, and a piece that is in work was ready.

@@ -10,6 +10,7 @@ mod assigned;
 mod board;
 mod job;
 mod laws;
+mod left;
 mod mark;
 mod pieces;
 mod progress;

@@ -4,6 +4,7 @@ ghost use Rattle.std.specs.Option.{MatchOption};
 ghost use Rattle.sd_board.specs.declared.mark.Mark.TheVariants.{ToBegin, InWork};
 ghost use Rattle.sd_board.specs.Progress as definition;
 
+use crate::left::{count_off, left_before, table_of};
 use crate::mark::Mark;
 use sd_order::Order;
 use std::alloc::{AllocError, Global};
@@ -27,56 +28,22 @@ pub struct Progress<A: Ledger> {
     items: Vec<u32>,
     order: Order,
     marks: Vec<Mark>,
+    /// For each item, how many pieces of the items before it are not finished.
+    left: Vec<usize>,
     history: Vec<usize>,
     book: Book<A>,
 }
 
 impl<A: Ledger> Model for Progress<A> {
     ghost use Rattle.std.specs.Prelude.{vec_capacity};
-    ghost use Rattle.sd_board.specs.Progress.{Progress, progress_of, IsKept};
+    ghost use Rattle.sd_board.specs.Progress.{Progress, progress_of, standing_of, IsKept, AreCounted};
 
     ghost Value = { Progress };
 
     ghost view = { λ p. progress_of p.items.items p.order p.marks.items p.history.items };
 
-    ghost invariant = { λ p. IsKept (progress_of p.items.items p.order p.marks.items p.history.items) (vec_capacity p.history) p.book.total };
-}
-
-/// Whether each piece of the items before this one is finished.
-fn is_ready(order: &Order, item: u32, items: &[u32], marks: &[Mark]) -> bool
-    requires { length marks.now ≡ length items.now }
-    ensures { IsTrue result ↔ definition.IsReady (definition.standing_of items.now order.now marks.now) item }
-{
-    for number in 0..items.len() {
-        if order.is_before(items[number] as usize, item as usize) && !marks[number].is_finished() {
-            return false;
-        }
-    }
-    true
-}
-
-/// Whether a piece may begin.
-fn may_begin(order: &Order, items: &[u32], marks: &[Mark], number: usize) -> bool
-    requires { length marks.now ≡ length items.now }
-    ensures { IsTrue result ↔ definition.MayBegin (definition.standing_of items.now order.now marks.now) number }
-{
-    match (items.get(number), marks.get(number)) {
-        (Some(item), Some(mark)) => mark.is_to_begin() && is_ready(order, *item, items, marks),
-        _ => false,
-    }
-}
-
-/// The number of the first piece that may begin.
-fn first_to_begin(order: &Order, items: &[u32], marks: &[Mark]) -> Option<usize>
-    requires { length marks.now ≡ length items.now }
-    ensures { MatchOption result (definition.NoneMayBegin (definition.standing_of items.now order.now marks.now)) (λ number. definition.IsFirst (definition.standing_of items.now order.now marks.now) number) }
-{
-    for number in 0..items.len() {
-        if may_begin(order, items, marks, number) {
-            return Some(number);
-        }
-    }
-    None
+    ghost invariant = { λ p. IsKept (progress_of p.items.items p.order p.marks.items p.history.items) (vec_capacity p.history) p.book.total
+        × AreCounted (standing_of p.items.items p.order p.marks.items) p.left.items };
 }
 
 /// Whether all pieces are finished.
@@ -96,6 +63,23 @@ fn fresh_marks(alloc: Global, count: usize) -> Result<Vec<Mark>, AllocError>
     ensures { IfOk result (λ marks. marks.items ≡ replicate count ToBegin) }
 {
     vec![in alloc; Mark::ToBegin; count]
+}
+
+/// The item of a piece, if there is such a piece.
+fn item_of(items: &[u32], number: usize) -> Option<u32>
+    ensures { result ≡ slice_get items.now number }
+{
+    items.get(number).copied()
+}
+
+/// Whether a piece is to begin.
+fn is_to_begin(marks: &[Mark], number: usize) -> bool
+    ensures { IsTrue result ↔ (slice_get marks.now number ≡ Some ToBegin) }
+{
+    match marks.get(number) {
+        Some(mark) => mark.is_to_begin(),
+        None => false,
+    }
 }
 
 /// Whether a piece is in work.
@@ -120,21 +104,52 @@ impl<A: Ledger> Progress<A> {
         ensures { IfOk result (λ progress. progress ≡ definition.not_begun items.items order) }
     {
         let marks = fresh_marks(alloc, items.len())?;
+        let left = table_of(alloc, &order, items.as_slice(), marks.as_slice())?;
         let history = Vec::with_capacity(alloc, items.len())?;
         Ok(Progress {
             items,
             order,
             marks,
+            left,
             history,
             book,
         })
+    }
+
+    /// Whether each piece of the items before this one is finished.
+    fn is_ready(&self, item: u32) -> bool
+        ensures { IsTrue result ↔ definition.IsReady self.now.pieces item }
+    {
+        left_before(self.left.as_slice(), item as usize) == 0
+    }
+
+    /// Whether a piece may begin.
+    fn may_begin(&self, number: usize) -> bool
+        ensures { IsTrue result ↔ definition.MayBegin self.now.pieces number }
+    {
+        match item_of(self.items.as_slice(), number) {
+            Some(item) => is_to_begin(self.marks.as_slice(), number) && self.is_ready(item),
+            None => false,
+        }
+    }
+
+    /// The number of the first piece that may begin.
+    fn first_to_begin(&self) -> Option<usize>
+        ensures { MatchOption result (definition.NoneMayBegin self.now.pieces) (λ number. definition.IsFirst self.now.pieces number) }
+    {
+        for number in 0..self.items.len() {
+            if self.may_begin(number) {
+                return Some(number);
+            }
+        }
+        None
     }
 
     /// Tells one who asks for work what there is: the first piece that may begin, which is in work then.
     pub(crate) fn ask(&mut self) -> Asked
         ensures { definition.IsTold self.old result self.new }
     {
-        match first_to_begin(&self.order, self.items.as_slice(), self.marks.as_slice()) {
+        match self.first_to_begin() {
             Some(number) => {
                 self.marks[number] = Mark::InWork;
                 Asked::Begin(number)
@@ -166,6 +181,7 @@ impl<A: Ledger> Progress<A> {
         ensures amount { share.new.amount ≡ share.old.amount + 1 }
     {
         self.marks[number] = Mark::Finished;
+        count_off(&self.order, self.items[number] as usize, &mut self.left);
         self.history.push_reserved(number);
         self.book.add(share, 1);
     }
@@ -190,6 +206,7 @@ impl<A: Ledger> Progress<A> {
             items: _,
             order: _,
             marks: _,
+            left: _,
             history,
             mut book,
         } = self;

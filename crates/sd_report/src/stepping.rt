@@ -5,10 +5,14 @@
 //! values in streams; and else that of the sequential run from the opening memory. So no fault of a picked run is told,
 //! whatever the picks are.
 //!
-//! `run_rewritten` and `step_rewritten` do the same of a graph that was made of another one and runs the same where it is done. What
-//! they tell is the end of the other one's sequential run: where the new graph's run is not done, the other one is run.
+//! `run_rewritten`, `step_rewritten` and `run_by_workers` run a graph that was made of another one and, where it is done, leaves what that
+//! leaves. What they tell is the end of the other one's sequential run: where the new graph's run is not done, the other one is run.
+mod laws;
 mod rewritten;
 mod telling;
+mod workers;
 
+pub use laws::given_memories_are_of_their_widths;
 pub use rewritten::{run_rewritten, step_rewritten};
 pub use telling::step;
+pub use workers::{Limits, run_by_workers};

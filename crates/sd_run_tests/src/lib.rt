@@ -1,10 +1,12 @@
 //! Tests of what runs stand on, where no command shows it: the size of an instruction, flat code that reads an array, the
-//! memories of a run, maps whose points are ordered, pieces of a map, containers of 32 bits, transitions one by one, and that fast
-//! ways are taken. They are in a crate of their own so that the crates of runs are proved without them.
+//! memories of a run, maps whose points are ordered, pieces of a map, runs by workers on threads, containers of 32 bits, transitions one by
+//! one, and that fast ways are taken. They are in a crate of their own so that the crates of runs are proved without them.
 #![tactic(auto)]
 
 #[cfg(test)]
 mod building;
+#[cfg(test)]
+mod crews;
 #[cfg(test)]
 mod fast_ways;
 #[cfg(test)]

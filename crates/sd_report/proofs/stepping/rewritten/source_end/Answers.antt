@@ -16,7 +16,7 @@ returns-then-is_done c = λ picks run.
     let memory = c.args.opening.contents in
     let done = c.is_done.ensures c.if-is_done.true in
     subst (IsToldEnd (run_of tree memory) c.args.turns) (sym done.1)
-    (lemmas.source_end tree other memory c.args.turns picks done.0 c.requires.same c.requires.valid c.show_normal_forms.ensures c.requires.accepted (subst (Run (run_of other memory) c.args.turns picks) done.1 run))
+    (lemmas.source_end tree other memory c.args.turns picks done.0 c.requires.alike c.requires.valid c.show_normal_forms.ensures c.requires.accepted (subst (Run (run_of other memory) c.args.turns picks) done.1 run))
 
 pub returns : goal.returns
 returns c = λ picks run. IfOk-weaker c.run_seq.result _ _ (λ end ends. sequential_end (run_of (graph_tree c.args.source.now.graph) c.args.opening.contents) c.args.turns (outcome_of end) ends) c.run_seq.ensures
