@@ -10,11 +10,11 @@ mod cover;
 mod race;
 mod text;
 
-pub use checking::{Race, RaceError, check, scope_accepted};
+pub use checking::{Race, RaceError, check, is_free_of_races, scope_accepted};
 pub use cover::{joined_accesses_cover_what_their_accesses_do, what_is_touched_lies_in_the_boxes};
 pub use race::{
-    a_graph_has_one_race, an_accepted_graph_has_no_race,
-    each_two_accesses_of_a_scope_free_of_races_are_accepted, no_race_is_told_of_a_sequential_map,
-    sequential_maps_are_passed_over,
+    a_graph_has_one_race, a_test_tells_which_scopes_are_free_of_races,
+    an_accepted_graph_has_no_race, each_two_accesses_of_a_scope_free_of_races_are_accepted,
+    no_race_is_told_of_a_sequential_map, sequential_maps_are_passed_over,
 };
 pub use text::{check_text, race_text};

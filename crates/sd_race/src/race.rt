@@ -8,7 +8,7 @@
 mod laws;
 
 pub use laws::{
-    a_graph_has_one_race, an_accepted_graph_has_no_race,
-    each_two_accesses_of_a_scope_free_of_races_are_accepted, no_race_is_told_of_a_sequential_map,
-    sequential_maps_are_passed_over,
+    a_graph_has_one_race, a_test_tells_which_scopes_are_free_of_races,
+    an_accepted_graph_has_no_race, each_two_accesses_of_a_scope_free_of_races_are_accepted,
+    no_race_is_told_of_a_sequential_map, sequential_maps_are_passed_over,
 };

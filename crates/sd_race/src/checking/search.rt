@@ -3,7 +3,7 @@ ghost use Rattle.std.specs.Prelude.{◌≡◌, ◌↔◌, Option, Some, None, ma
 ghost use Rattle.std.specs.List.{flat_map};
 ghost use Rattle.sd_graph.specs.TreeFold.{graph_tree};
 ghost use Rattle.sd_prop.specs.propagation.Scopes.{scope_at};
-ghost use Rattle.sd_race.specs.race.Pairs.{IsGraphAccepted, asked_pairs, pair_of, pairs_among, pairs_of};
+ghost use Rattle.sd_race.specs.race.Pairs.{IsFreeOfRaces, IsGraphAccepted, asked_pairs, pair_of, pairs_among, pairs_of};
 ghost use Rattle.sd_race.specs.race.Race as plain;
 ghost use Rattle.sd_race.specs.checking.Found.{IsFirstOf, TellsRaceOf, IsVerdict, race_of};
 
@@ -113,8 +113,16 @@ pub fn check(alloc: Global, bound: &Bound) -> Result<(), RaceError>
     }
 }
 
-/// Whether the scope with this path is free of races: each two of its accesses are accepted. A mark that
-/// makes a map sequential is not looked at. `None` where no scope has the path.
+/// Whether a scope is free of races: each two of its accesses are accepted. A mark that makes a map
+/// sequential is not looked at.
+pub fn is_free_of_races(alloc: Global, scope: &Scope<'_>) -> Result<bool, NoMemory>
+    ensures { IfOk result (λ free. IsTrue free ↔ IsFreeOfRaces scope.now) }
+{
+    let race = race_in(alloc, scope)?;
+    Ok(race.is_none())
+}
+
+/// Whether the scope with this path is free of races. `None` where no scope has the path.
 pub fn scope_accepted(alloc: Global, bound: &Bound, path: &Path) -> Result<Option<bool>, NoMemory>
     ensures { IfOk result (λ verdict. IsVerdict verdict (scope_at (graph_tree bound.now.graph) path.now.steps)) }
 {
@@ -122,6 +130,5 @@ pub fn scope_accepted(alloc: Global, bound: &Bound, path: &Path) -> Result<Optio
     let Some(scope) = scope_with(all.as_slice(), path.steps.as_slice()) else {
         return Ok(None);
     };
-    let race = race_in(alloc, scope)?;
-    Ok(Some(race.is_none()))
+    Ok(Some(is_free_of_races(alloc, scope)?))
 }

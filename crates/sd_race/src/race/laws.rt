@@ -1,12 +1,13 @@
 //! What the definitions mean, in words of their own: each law is a function that does nothing.
 
-ghost use Rattle.std.specs.Prelude.{◌≡◌, ◌↔◌, false};
+ghost use Rattle.std.specs.Prelude.{◌≡◌, ◌↔◌, true, false};
 ghost use Rattle.std.specs.List.{Contains};
 ghost use Rattle.sd_graph.specs.PlainTree.{GraphTree};
 ghost use Rattle.sd_prop.specs.propagation.Accesses.{Access};
 ghost use Rattle.sd_prop.specs.propagation.Scopes.{Scope, all_scopes, is_sequential};
 ghost use Rattle.sd_race.specs.race.Pairs.{pair_of, IsAccepted, IsFreeOfRaces, IsGraphAccepted};
 ghost use Rattle.sd_race.specs.race.Race.{Race, IsRaceOf};
+ghost use Rattle.sd_race.specs.race.Tests.{is_free_of_races};
 
 /// Each two accesses of a scope that is free of races are accepted, in either order.
 pub fn each_two_accesses_of_a_scope_free_of_races_are_accepted()
@@ -35,4 +36,9 @@ pub fn an_accepted_graph_has_no_race()
 /// A graph has no two races that are told.
 pub fn a_graph_has_one_race()
     ensures { (tree : GraphTree) (race other : Race) → IsRaceOf tree race → IsRaceOf tree other → race ≡ other }
+{}
+
+/// A scope passes the test exactly where it is free of races.
+pub fn a_test_tells_which_scopes_are_free_of_races()
+    ensures { (scope : Scope) → (is_free_of_races scope ≡ true) ↔ IsFreeOfRaces scope }
 {}
