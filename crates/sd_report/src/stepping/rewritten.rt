@@ -1,9 +1,10 @@
 //! Runs of graphs that were made of others, told as the sequential runs of those.
 ghost use Rattle.std.specs.Prelude.{◌≡◌, ℕ, List, IfOk};
-ghost use Rattle.sd_work.specs.Run.{Run};
+ghost use Rattle.sd_work.specs.Run.{Run, Sequential};
 ghost use Rattle.sd_graph.specs.TreeFold.{graph_tree};
 ghost use Rattle.sd_graph.specs.Unfold.{run_of};
 ghost use Rattle.sd_graph.specs.Upwards.{LeadsUpwards};
+ghost use Rattle.sd_alike.specs.alike.Rewritten.{RunsSame};
 ghost use Rattle.sd_exchange.specs.maps.RunsAlike.{RunsAlike};
 ghost use Rattle.sd_race.specs.race.Pairs.{IsGraphAccepted};
 ghost use Rattle.sd_validity.specs.rules.Valid.{IsValid};
@@ -20,8 +21,8 @@ use sd_seq::{RunEnd, run_seq};
 use std::alloc::Global;
 
 /// Runs a graph that was made of a source's over a memory, with so many turns, and tells the end of the sequential run of the
-/// source's graph, but for the order of values in streams: its own where the run is done, and else the source's graph is run too. The
-/// memory is copied first.
+/// source's graph, but for the order of values in streams: its own where the run is done, and else the source's graph is run too. Of a
+/// graph that runs the same the end is exactly that one. The memory is copied first.
 pub fn run_rewritten(
     alloc: Global,
     source: &Bound,
@@ -32,7 +33,9 @@ pub fn run_rewritten(
     requires upwards { LeadsUpwards (graph_tree source.now.graph) }
     requires rewritten_upwards { LeadsUpwards (graph_tree rewritten.now.graph) }
     requires alike { RunsAlike (graph_tree rewritten.now.graph) (graph_tree source.now.graph) }
-    ensures { IfOk result (λ end. IsToldEnd (run_of (graph_tree source.now.graph) memory.contents) turns (outcome_of end)) }
+    ensures told { IfOk result (λ end. IsToldEnd (run_of (graph_tree source.now.graph) memory.contents) turns (outcome_of end)) }
+    ensures same { RunsSame (graph_tree source.now.graph) (graph_tree rewritten.now.graph)
+        → IfOk result (λ end. Sequential (run_of (graph_tree source.now.graph) memory.contents) turns (outcome_of end)) }
 {
     let opening = memory.copy_of(alloc)?;
     let end = run_seq(alloc, rewritten, memory, turns)?;
