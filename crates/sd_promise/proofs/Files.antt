@@ -26,7 +26,7 @@ use Rattle.sd_tie.specs.programs.Programs.{AreFitting}
 use Rattle.sd_tie.proofs.meant_lemmas.Sources.{source_fine, graph_latest, graph_turned}
 use Rattle.sd_tie.proofs.meant_lemmas.Texts.{joined_whole, text_is_run, run_of_text}
 use Rattle.sd_report.specs.write.RunText.{done_text, end_text}
-use Rattle.sd_tool.specs.Answers.{status_of_end}
+use Rattle.sd_tool.specs.Answer.{status_of_end}
 use Rattle.sd_tool.specs.Work.{Work, source_graph, prepared, run_of_work}
 use Rattle.sd_tool.proofs.Prepared.{bound_is, elements_in, opens}
 use Rattle.sd_promise.specs.Promise.{FilesSay}

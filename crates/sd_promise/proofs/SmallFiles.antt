@@ -20,8 +20,10 @@ use Rattle.sd_parse.proofs.grammar_lemmas.Passing.{false_is}
 use Rattle.sd_parse.proofs.grammar_lemmas.SmallSource.{small_is_read}
 use Rattle.sd_elab.specs.elab.Elaboration.{graph_of}
 use Rattle.sd_says.specs.Says.{said_within}
+use Rattle.clap.proofs.OnLiterals.{clap_on_literals}
+use Rattle.sd_words.specs.Command.{IsCall}
 use Rattle.sd_tool.specs.Accepted.{IsRaceFree}
-use Rattle.sd_tool.specs.Answers.{ShelfUse}
+use Rattle.sd_tool.specs.Files.{ShelfUse}
 use Rattle.sd_tool.specs.Ends.{SinkUse}
 use Rattle.sd_tool.specs.Statuses.{Statuses}
 use Rattle.sd_tool.specs.Told.{TellsSource, Asks, Presents}
@@ -112,10 +114,15 @@ free = (tt, ((((λ sequential. ((λ same conflict. false_is conflict), ((λ same
 
 -- ---- the call
 
+-- the words are it, as clap reads them
+asked : IsCall small_words small_call
+unfolding clap_on_literals
+asked = record { others = codes "inc.py" ∷ codes "inc.json" ∷ []; first = refl; parse = refl; give = record { source = refl; arrays = refl; chain = refl; command = (refl, refl) } }
+
 module _ (shelf : ShelfUse) (tells : TellsSmall shelf) where
   source_told : TellsSource small_words shelf small_call small_source
   source_told = record {
-    asked = record { word = codes "run"; others = []; are = refl; source_word = refl; arrays_word = refl; asks = (refl, refl) };
+    asked = asked;
     told = tells.source;
     quiet = tells.source_quiet;
   }
@@ -160,4 +167,4 @@ module _ (shelf : ShelfUse) (tells : TellsSmall shelf) where
   pub small_is_printed : (sink : SinkUse) (status : ℕ) → Statuses small_words shelf sink status → EndsAsSaid small_outcome small_printed sink status
   unfolding asks
   small_is_printed sink status statuses =
-      said_is_printed small_words shelf sink status small_call work 10000000 small_outcome small_printed statuses asks refl (free_is_accepted work.tree free) small_files_say
+      said_is_printed small_words shelf sink status small_call (record { turns = 10000000; workers = 1 }) work work.tree small_outcome small_printed statuses asks refl refl (free_is_accepted work.tree free) small_files_say

@@ -1,5 +1,5 @@
 -- A small source with its arrays as a call is given them, and what is printed.
-use Rattle.std.specs.Prelude.{◌≡◌, ℕ, pos, List, [], ◌∷◌, ◌++◌, Some, codes}
+use Rattle.std.specs.Prelude.{◌≡◌, ℕ, pos, List, [], ◌∷◌, ◌++◌, Some, None, codes}
 use Rattle.sd_io.specs.Count.{HasRisen}
 use Rattle.sd_num.specs.declared.width.Width.TheVariants.{W64}
 use Rattle.sd_work.specs.Memory.{array}
@@ -8,7 +8,7 @@ use Rattle.sd_work.specs.Step.{Outcome, Done}
 use Rattle.sd_graph.specs.declared.place.Place.{Place}
 use Rattle.sd_parse.specs.grammar.Small.{small_source}
 use Rattle.sd_words.specs.Command.{Call, to_run}
-use Rattle.sd_tool.specs.Answers.{ShelfUse}
+use Rattle.sd_tool.specs.Files.{ShelfUse}
 
 -- the size N and the arrays A and B
 abbrev pub small_arrays : List ℕ
@@ -17,9 +17,9 @@ small_arrays = codes "{\"N\":3,\"A\":[1,2,3],\"B\":[0,0,0]}"
 abbrev pub small_words : List (List ℕ)
 small_words = codes "run" ∷ codes "inc.py" ∷ codes "inc.json" ∷ []
 
--- a run of both files, with the turns of a run that names none
+-- a run of both files as they are, with the turns of a run that tells none, by one worker
 abbrev pub small_call : Call
-small_call = record { source = codes "inc.py"; arrays = codes "inc.json"; command = to_run 10000000 }
+small_call = record { source = codes "inc.py"; arrays = codes "inc.json"; chain = None; command = to_run (record { turns = 10000000; workers = 1 }) }
 
 -- the shelf tells both files, and no count of theirs rises
 pub record TellsSmall (shelf : ShelfUse) : Type 0 where

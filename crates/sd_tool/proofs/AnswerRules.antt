@@ -1,18 +1,15 @@
 -- The rules of answers over plain variables: what one use of a shelf says, said of a longer one.
-use Rattle.std.proofs.Common.{◌≡◌, ℕ, ◌^◌, ◌≤◌, List, Option, Some, None, Result, Ok, Err, refl, subst, sym, arith, IfSome}
+use Rattle.std.proofs.Common.{◌≡◌, ℕ, ◌^◌, ◌≤◌, List, length, Option, Some, None, Result, Ok, Err, refl, subst, sym, arith, IfSome}
 use Rattle.std.proofs.lemmas.Option.{IfSome_then}
 use Rattle.sd_io.specs.Shelf.{IsTold, IsToldLonger}
 use Rattle.sd_graph.specs.PlainTree.{GraphTree}
-use Rattle.sd_words.specs.Command.{Command, to_run, to_step, to_print, to_check, to_match, Call, IsCall, command_of}
+use Rattle.sd_words.specs.Command.{Call, IsCall}
 use Rattle.sd_tool.specs.Work.{Work, source_graph, prepared}
-use Rattle.sd_tool.specs.Answers.{ShelfUse, shelf_use, Answer, source_refused, arrays_refused, picks_refused, Reads, Unread, faulty, longer, ReadsSource, Comes, NoPicks, no_file, no_pick, HasPicks, LacksPicks, Answers, no_source, no_program, no_arrays, no_work}
-use Rattle.sd_chain.specs.Picks.{picks_reading, IsRefusal}
-use Rattle.sd_chain.specs.declared.error.PicksError.{PicksError}
-use Rattle.sd_chain.specs.declared.error.PicksError.TheVariants.{NoForm, Memory}
-use Rattle.sd_words.specs.declared.command.Command as asked_command
-use Rattle.sd_words.specs.declared.command.Command.TheVariants as asked
-use Rattle.sd_words.specs.declared.command.Step as asked_step
-use Rattle.sd_tool.specs.Ending.{answer_of, picks_ending, Refuses}
+use Rattle.sd_tool.specs.Answer.{Answer, source_refused, arrays_refused}
+use Rattle.sd_tool.specs.Files.{ShelfUse, shelf_use, Reads, Unread, faulty, longer, picks_file, ReadsNamed, UnreadNamed}
+use Rattle.sd_tool.specs.Steering.{steered, ReadsBoth, Steers, Unsteered, no_chain, no_picks, no_steering}
+use Rattle.sd_tool.specs.Answers.{ReadsSource, Comes, Answers, no_source, no_program, no_arrays, no_work}
+use Rattle.sd_tool.specs.Ending.{answer_of, Refuses}
 use Rattle.sd_tool.specs.declared.ending.Ending.{Ending}
 use Rattle.sd_report.proofs.write_lemmas.SinkLemmas.{HasRisen-later, HasRisen-earlier}
 
@@ -113,31 +110,60 @@ Comes-part words part whole call work is_part comes =
     let source = comes.source in
     comes_to words part whole call comes.tree comes.arrays work is_part (reads_source words part whole call source.source comes.tree is_part source.asked source.reads source.is) comes.reads comes.is
 
-pub HasPicks-part : (part whole : ShelfUse) (command : Command) (picks : List ℕ) → IsPart part whole → HasPicks part command picks → HasPicks whole command picks
-HasPicks-part part whole (to_run turns) picks is_part has = has
-HasPicks-part part whole (to_step step) picks is_part has = record { file = has.file; reads = Reads-part part whole step.picks (2 ^ 24) has.file is_part has.reads; is = has.is }
-HasPicks-part part whole to_print picks is_part has = has
-HasPicks-part part whole to_check picks is_part has = has
-HasPicks-part part whole to_match picks is_part has = has
+-- ---- files that a call need not name
 
-NoPicks-part : (part whole : ShelfUse) (name : List ℕ) {answer : Answer} → IsPart part whole → NoPicks part name answer → NoPicks whole name answer
-NoPicks-part part whole name is_part (no_file why) = no_file (Unread-part part whole name (2 ^ 24) is_part why)
-NoPicks-part part whole name is_part (no_pick file word reads is) = no_pick file word (Reads-part part whole name (2 ^ 24) file is_part reads) is
+pub ReadsNamed-part : (part whole : ShelfUse) (name : Option (List ℕ)) (limit : ℕ) (bytes : List ℕ) → IsPart part whole → ReadsNamed part name limit bytes → ReadsNamed whole name limit bytes
+ReadsNamed-part part whole None limit bytes is_part reads = reads
+ReadsNamed-part part whole (Some name) limit bytes is_part reads = Reads-part part whole name limit bytes is_part reads
 
-pub LacksPicks-part : (part whole : ShelfUse) (command : Command) (answer : Answer) → IsPart part whole → LacksPicks part command answer → LacksPicks whole command answer
-LacksPicks-part part whole (to_run turns) answer is_part lacks = lacks
-LacksPicks-part part whole (to_step step) answer is_part lacks = NoPicks-part part whole step.picks is_part lacks
-LacksPicks-part part whole to_print answer is_part lacks = lacks
-LacksPicks-part part whole to_check answer is_part lacks = lacks
-LacksPicks-part part whole to_match answer is_part lacks = lacks
+pub UnreadNamed-part : (part whole : ShelfUse) (name : Option (List ℕ)) (limit : ℕ) (answer : Answer) → IsPart part whole → UnreadNamed part name limit answer → UnreadNamed whole name limit answer
+UnreadNamed-part part whole None limit answer is_part unread = unread
+UnreadNamed-part part whole (Some name) limit answer is_part unread = Unread-part part whole name limit is_part unread
 
--- a picks file that is not read
-pub lacks_file : (shelf : ShelfUse) (command : asked_command.Command) (step : asked_step.Step) (ending : Ending) → command ≡ asked.Step step → IfSome (answer_of ending) (Unread shelf step.picks.now (2 ^ 24)) →
-    IfSome (answer_of ending) (LacksPicks shelf (command_of command))
-lacks_file shelf command step ending is unread = IfSome_then (answer_of ending) unread (λ answer why. subst (λ c. LacksPicks shelf (command_of c) answer) (sym is) (no_file why))
+-- a named file is within its limit, and an empty text is within each
+pub within_limit : (shelf : ShelfUse) (name : Option (List ℕ)) (limit : ℕ) (bytes : List ℕ) → ReadsNamed shelf name limit bytes → length bytes ≤ limit
+within_limit shelf None limit bytes reads = subst (λ b. length b ≤ limit) (sym reads) (omega arith)
+within_limit shelf (Some name) limit bytes reads = reads.within
 
--- one with a word that is no pick
-pub lacks_pick : (shelf : ShelfUse) (command : asked_command.Command) (step : asked_step.Step) (file : List ℕ) (error : PicksError) → command ≡ asked.Step step → Reads shelf step.picks.now (2 ^ 24) file → IsRefusal (picks_reading file) error →
-    IfSome (answer_of (picks_ending error)) (LacksPicks shelf (command_of command))
-lacks_pick shelf command step file (NoForm word) is reads refused = subst (λ c. LacksPicks shelf (command_of c) (picks_refused word)) (sym is) (no_pick file word reads refused)
-lacks_pick shelf command step file Memory is reads refused = tt
+ReadsBoth-part : (part whole : ShelfUse) (call : Call) (chain picks : List ℕ) → IsPart part whole → ReadsBoth part call chain picks → ReadsBoth whole call chain picks
+ReadsBoth-part part whole call chain picks is_part reads = record {
+  chain_read = ReadsNamed-part part whole call.chain (2 ^ 16) chain is_part reads.chain_read;
+  picks_read = ReadsNamed-part part whole (picks_file call.command) (2 ^ 24) picks is_part reads.picks_read;
+}
+
+pub Steers-part : (part whole : ShelfUse) (call : Call) (tree other : GraphTree) (picks : List ℕ) → IsPart part whole → Steers part call tree other picks → Steers whole call tree other picks
+Steers-part part whole call tree other picks is_part steers =
+    record { chain = steers.chain; file = steers.file; reads = ReadsBoth-part part whole call steers.chain steers.file is_part steers.reads; is = steers.is }
+
+pub Unsteered-part : (part whole : ShelfUse) (call : Call) (tree : GraphTree) (answer : Answer) → IsPart part whole → Unsteered part call tree answer → Unsteered whole call tree answer
+Unsteered-part part whole call tree answer is_part (no_chain unread) = no_chain (UnreadNamed-part part whole call.chain (2 ^ 16) answer is_part unread)
+Unsteered-part part whole call tree answer is_part (no_picks chain read unread) =
+    no_picks chain (ReadsNamed-part part whole call.chain (2 ^ 16) chain is_part read) (UnreadNamed-part part whole (picks_file call.command) (2 ^ 24) answer is_part unread)
+Unsteered-part part whole call tree answer is_part (no_steering chain picks reads is) = no_steering chain picks (ReadsBoth-part part whole call chain picks is_part reads) is
+
+-- ---- what steers a call, in two parts
+
+module _ (first second whole : ShelfUse) (call : Call) (tree : GraphTree) (before : IsPart first whole) (behind : IsPart second whole) where
+  -- the chain file is read in the first, and the picks file is not in the second
+  pub lacks_picks : (chain : List ℕ) (ending : Ending) → ReadsNamed first call.chain (2 ^ 16) chain → IfSome (answer_of ending) (UnreadNamed second (picks_file call.command) (2 ^ 24)) → IfSome (answer_of ending) (Unsteered whole call tree)
+  lacks_picks chain ending read unread =
+      IfSome_then (answer_of ending) unread
+      (λ answer why. no_picks chain (ReadsNamed-part first whole call.chain (2 ^ 16) chain before read) (UnreadNamed-part second whole (picks_file call.command) (2 ^ 24) answer behind why))
+
+  -- both are read
+  both_read : (chain picks : List ℕ) → ReadsNamed first call.chain (2 ^ 16) chain → ReadsNamed second (picks_file call.command) (2 ^ 24) picks → ReadsBoth whole call chain picks
+  both_read chain picks read also = record {
+    chain_read = ReadsNamed-part first whole call.chain (2 ^ 16) chain before read;
+    picks_read = ReadsNamed-part second whole (picks_file call.command) (2 ^ 24) picks behind also;
+  }
+
+  pub lacks_steering : (chain picks : List ℕ) (ending : Ending) → ReadsNamed first call.chain (2 ^ 16) chain → ReadsNamed second (picks_file call.command) (2 ^ 24) picks → Refuses (λ answer. answer) (steered tree chain picks) (answer_of ending) → IfSome (answer_of ending) (Unsteered whole call tree)
+  lacks_steering chain picks ending read also refuses =
+      refused_so (λ answer. answer) (steered tree chain picks) (answer_of ending) (Unsteered whole call tree) (λ answer is. no_steering chain picks (both_read chain picks read also) is) refuses
+
+  pub has_steering : (chain file picks : List ℕ) (other : GraphTree) → ReadsNamed first call.chain (2 ^ 16) chain → ReadsNamed second (picks_file call.command) (2 ^ 24) file → steered tree chain file ≡ Ok (other, picks) → Steers whole call tree other picks
+  has_steering chain file picks other read also is = record { chain = chain; file = file; reads = both_read chain file read also; is = is }
+
+-- a chain file that is not read
+pub lacks_chain : (shelf : ShelfUse) (call : Call) (tree : GraphTree) (ending : Ending) → IfSome (answer_of ending) (UnreadNamed shelf call.chain (2 ^ 16)) → IfSome (answer_of ending) (Unsteered shelf call tree)
+lacks_chain shelf call tree ending unread = IfSome_then (answer_of ending) unread (λ answer why. no_chain why)

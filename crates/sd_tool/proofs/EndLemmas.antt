@@ -8,12 +8,15 @@ use Rattle.sd_io.specs.declared.sink.SinkError.TheVariants.{Failed, Memory}
 use Rattle.sd_work.specs.Run.{Left, Sequential}
 use Rattle.sd_work.specs.Step.{Outcome}
 use Rattle.sd_graph.specs.PlainTree.{GraphTree}
+use Rattle.sd_graph.specs.Unfold.{run_of}
 use Rattle.sd_graph.specs.declared.place.Place.{Place}
 use Rattle.sd_race.specs.race.Race.{Race, IsRaceOf}
 use Rattle.sd_tool.specs.Written.{written_status}
 use Rattle.sd_tool.specs.Work.{Work, run_of_work}
 use Rattle.sd_core.specs.Traced.{IsTraced}
-use Rattle.sd_tool.specs.Answers.{ShelfUse, Answer, Answers, ran, answer_of_run, raced, TellsRace, status_of, text_of}
+use Rattle.sd_tool.specs.Answer.{Answer, ran, answer_of_run, raced, status_of, text_of}
+use Rattle.sd_tool.specs.Files.{ShelfUse}
+use Rattle.sd_tool.specs.Answers.{Answers, TellsRace}
 use Rattle.sd_tool.specs.Ending.{answer_of}
 use Rattle.sd_tool.specs.declared.ending.Ending.{Ending}
 use Rattle.sd_tool.specs.declared.ending.Ending.TheVariants as endings
@@ -41,6 +44,8 @@ has_answer endings.Memory other none = other refl
 has_answer endings.BadWords other none = cc
 has_answer (endings.Source refusal) other none = cc
 has_answer (endings.Arrays refusal) other none = cc
+has_answer (endings.Chain line) other none = cc
+has_answer (endings.Condition line condition) other none = cc
 has_answer (endings.Picks word) other none = cc
 has_answer (endings.Race bound race) other none = cc
 has_answer (endings.ReadFault name) other none = cc
@@ -67,10 +72,10 @@ prints_from_end words shelf sink status work turns outcome ends one quiet end =
     record { outcome = outcome; ends = ends; printed = written_from_end words shelf sink status (answer_of_run work.tree turns outcome) one quiet end }
 
 -- so behind a trace
-pub traced_from_end : (words : List (List ℕ)) (shelf : ShelfUse) (sink : SinkUse) (status : ℕ) (work : Work) (picks : List ℕ) (turns : ℕ) (picked : Outcome Place Left) (trace : List (ℕ × ℕ)) (outcome : Outcome Place Left) →
-    IsTraced (run_of_work work) turns picks picked trace → Sequential (run_of_work work) turns outcome → ((answer : Answer) → Answers words shelf answer → answer ≡ ran trace work.tree turns outcome) →
-    ¬ HasRisen sink.faults_before sink.faults_after → Ends words shelf sink status → PrintsTraced work picks turns sink status
-traced_from_end words shelf sink status work picks turns picked trace outcome traced ends one quiet end = record {
+pub traced_from_end : (words : List (List ℕ)) (shelf : ShelfUse) (sink : SinkUse) (status : ℕ) (work : Work) (other : GraphTree) (picks : List ℕ) (turns : ℕ) (picked : Outcome Place Left) (trace : List (ℕ × ℕ)) (outcome : Outcome Place Left) →
+    IsTraced (run_of other work.memory) turns picks picked trace → Sequential (run_of_work work) turns outcome → ((answer : Answer) → Answers words shelf answer → answer ≡ ran trace work.tree turns outcome) →
+    ¬ HasRisen sink.faults_before sink.faults_after → Ends words shelf sink status → PrintsTraced work other picks turns sink status
+traced_from_end words shelf sink status work other picks turns picked trace outcome traced ends one quiet end = record {
   picked = picked;
   trace = trace;
   traced = traced;

@@ -1,13 +1,15 @@
 pub mod Reading
+pub mod Words
 pub mod AnswerRules
 pub mod ToldFiles
 pub mod BoundValid
+pub mod Chains
 pub mod RunOutcome
 pub mod Ended
 pub mod EndLemmas
 pub mod Unique
 pub mod Only
-pub mod OnlyPicks
+pub mod OnlySteered
 pub mod StatusRows
 pub mod StatusAt
 pub mod StatusEnds

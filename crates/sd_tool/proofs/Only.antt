@@ -3,14 +3,17 @@ use Rattle.std.proofs.Common.{◌≡◌, ◌⊎◌, ℕ, ◌<◌, ◌≤◌, ◌
 use Rattle.sd_io.specs.Count.{HasRisen}
 use Rattle.sd_graph.specs.PlainTree.{GraphTree}
 use Rattle.sd_context.specs.declared.blocks.refusal.Refusal.{Refusal}
-use Rattle.sd_words.specs.Command.{Command, Call, IsCall}
-use Rattle.sd_words.proofs.Calls.{IsCall-unique}
+use Rattle.sd_words.specs.Command.{Call, IsCall}
 use Rattle.sd_tool.specs.declared.ending.ArraysRefusal.{ArraysRefusal}
 use Rattle.sd_tool.specs.Work.{Work, source_graph, prepared}
-use Rattle.sd_tool.specs.Answers.{ShelfUse, Answer, bad_words, source_refused, arrays_refused, too_long, Reads, Unread, faulty, longer, ReadsSource, Comes, HasPicks, LacksPicks, Tells, Answers, no_command, no_source, no_program, no_arrays, no_work, no_picks, answered}
+use Rattle.sd_tool.specs.Answer.{Answer, bad_words, source_refused, arrays_refused, too_long}
+use Rattle.sd_tool.specs.Files.{ShelfUse, Reads, Unread, faulty, longer}
+use Rattle.sd_tool.specs.Steering.{Steers, Unsteered}
+use Rattle.sd_tool.specs.Answers.{ReadsSource, Comes, Tells, Answers, no_command, no_source, no_program, no_arrays, no_work, unsteered, answered}
 use Rattle.sd_tool.specs.Told.{TellsSource, TellsArrays}
 use Rattle.sd_tool.specs.Statuses.{NamesNothing}
 use Rattle.sd_tool.proofs.Reading.{same_Ok, same_Err, Ok_or_Err}
+use Rattle.sd_tool.proofs.Words.{one_call}
 use Rattle.sd_tool.proofs.ToldFiles.{not_unread, read_content}
 
 -- where the words name nothing
@@ -20,13 +23,13 @@ bad_words_only words shelf nothing answer (no_source call asked why) = absurd (n
 bad_words_only words shelf nothing answer (no_program call bytes refusal asked reads is) = absurd (nothing call asked)
 bad_words_only words shelf nothing answer (no_arrays call tree reads why) = absurd (nothing call reads.asked)
 bad_words_only words shelf nothing answer (no_work call tree arrays refusal reads read is) = absurd (nothing call reads.asked)
-bad_words_only words shelf nothing answer (no_picks call work comes lacks) = absurd (nothing call comes.source.asked)
-bad_words_only words shelf nothing answer (answered call work picks comes has tells) = absurd (nothing call comes.source.asked)
+bad_words_only words shelf nothing answer (unsteered call work comes why) = absurd (nothing call comes.source.asked)
+bad_words_only words shelf nothing answer (answered call work found picks reaches tells) = absurd (nothing call reaches.comes.source.asked)
 
 -- where the source is told and quiet
 module _ (words : List (List ℕ)) (shelf : ShelfUse) (call : Call) (source : List ℕ) (tells : TellsSource words shelf call source) where
   same_call : (other : Call) → IsCall words other → other ≡ call
-  same_call other asked = IsCall-unique words other call asked tells.asked
+  same_call other asked = one_call words other call asked tells.asked
 
   -- what is read of the source is what is told
   source_is : (other : Call) (bytes : List ℕ) → IsCall words other → Reads shelf other.source (2 ^ 20) bytes → bytes ≡ source
@@ -51,8 +54,8 @@ module _ (words : List (List ℕ)) (shelf : ShelfUse) (call : Call) (source : Li
       ap source_refused (same_Err (source_graph source) found refusal (error_is other bytes found asked reads has) is)
   refused_source refusal within is answer (no_arrays other tree reads why) = absurd (Ok_or_Err (source_graph source) tree refusal (graph_is other tree reads) is)
   refused_source refusal within is answer (no_work other tree arrays found reads read has) = absurd (Ok_or_Err (source_graph source) tree refusal (graph_is other tree reads) is)
-  refused_source refusal within is answer (no_picks other work comes lacks) = absurd (Ok_or_Err (source_graph source) comes.tree refusal (graph_is other comes.tree comes.source) is)
-  refused_source refusal within is answer (answered other work picks comes has tells) = absurd (Ok_or_Err (source_graph source) comes.tree refusal (graph_is other comes.tree comes.source) is)
+  refused_source refusal within is answer (unsteered other work comes why) = absurd (Ok_or_Err (source_graph source) comes.tree refusal (graph_is other comes.tree comes.source) is)
+  refused_source refusal within is answer (answered other work found picks reaches tells) = absurd (Ok_or_Err (source_graph source) reaches.comes.tree refusal (graph_is other reaches.comes.tree reaches.comes.source) is)
 
   too_long_to_read : (other : Call) (bytes : List ℕ) → 2 ^ 20 < length source → IsCall words other → Reads shelf other.source (2 ^ 20) bytes → ⊥
   too_long_to_read other bytes long asked reads =
@@ -69,12 +72,13 @@ module _ (words : List (List ℕ)) (shelf : ShelfUse) (call : Call) (source : Li
   long_at_source long answer (no_program other bytes found asked reads has) = absurd (too_long_to_read other bytes long asked reads)
   long_at_source long answer (no_arrays other tree reads why) = absurd (too_long_to_read other reads.source long reads.asked reads.reads)
   long_at_source long answer (no_work other tree arrays found reads read has) = absurd (too_long_to_read other reads.source long reads.asked reads.reads)
-  long_at_source long answer (no_picks other work comes lacks) = absurd (too_long_to_read other comes.source.source long comes.source.asked comes.source.reads)
-  long_at_source long answer (answered other work picks comes has tells) = absurd (too_long_to_read other comes.source.source long comes.source.asked comes.source.reads)
+  long_at_source long answer (unsteered other work comes why) = absurd (too_long_to_read other comes.source.source long comes.source.asked comes.source.reads)
+  long_at_source long answer (answered other work found picks reaches tells) = absurd (too_long_to_read other reaches.comes.source.source long reaches.comes.source.asked reaches.comes.source.reads)
 
--- what a command answers of its work: that it lacks picks, or what it tells with those that it has
-abbrev pub Later : ShelfUse → Command → Work → Answer → Type 0
-Later shelf command work answer = LacksPicks shelf command answer ⊎ ((picks : List ℕ) × HasPicks shelf command picks × Tells work picks command answer)
+-- what is answered of the work of a call: that nothing steers it, or what its command tells of the graph and the picks that steer it
+abbrev pub Later : ShelfUse → Call → Work → Answer → Type 0
+Later shelf call work answer =
+    Unsteered shelf call work.tree answer ⊎ ((made : GraphTree) × (picks : List ℕ) × Steers shelf call work.tree made picks × Tells work made picks call.command answer)
 
 -- where the arrays file is told and quiet too
 module _ (words : List (List ℕ)) (shelf : ShelfUse) (call : Call) (source : List ℕ) (tree : GraphTree) (arrays : List ℕ) (tells : TellsArrays words shelf call source tree arrays) where
@@ -109,30 +113,25 @@ module _ (words : List (List ℕ)) (shelf : ShelfUse) (call : Call) (source : Li
   refused_arrays refusal within is answer (no_arrays other found reads why) = absurd (not_arrays other found within reads why)
   refused_arrays refusal within is answer (no_work other found bytes error reads read has) =
       ap arrays_refused (same_Err (prepared tree arrays) error refusal (sym (comes_again other found bytes reads read) ∙ has) is)
-  refused_arrays refusal within is answer (no_picks other work comes lacks) = no_other_work refusal is other work comes
-  refused_arrays refusal within is answer (answered other work picks comes has tells) = no_other_work refusal is other work comes
+  refused_arrays refusal within is answer (unsteered other work comes why) = no_other_work refusal is other work comes
+  refused_arrays refusal within is answer (answered other work found picks reaches tells) = no_other_work refusal is other work reaches.comes
 
-  -- what another call tells, this one does
-  same_told : (other : Call) (work found : Work) (picks : List ℕ) (answer : Answer) → other ≡ call → found ≡ work → Tells found picks other.command answer → Tells work picks call.command answer
-  same_told other work found picks answer same is here = subst (λ c. Tells work picks c.command answer) same (subst (λ w. Tells w picks other.command answer) is here)
+  -- what another call tells of its work, this one does of this
+  moved : (work : Work) → prepared tree arrays ≡ Ok work → (answer : Answer) (other : Call) (found : Work) → Comes words shelf other found → Later shelf other found answer → Later shelf call work answer
+  moved work is answer other found comes told =
+      let same = same_Ok (prepared tree arrays) found work (sym (comes_again other comes.tree comes.arrays comes.source comes.reads) ∙ comes.is) is in
+      subst (λ c. Later shelf c work answer) (same_call words shelf call source tells.before other comes.source.asked) (subst (λ w. Later shelf other w answer) same told)
 
   -- only what comes behind the arrays file is answered
-  pub come_later : (work : Work) → length arrays ≤ 2 ^ 26 → prepared tree arrays ≡ Ok work → (answer : Answer) → Answers words shelf answer → Later shelf call.command work answer
+  pub come_later : (work : Work) → length arrays ≤ 2 ^ 26 → prepared tree arrays ≡ Ok work → (answer : Answer) → Answers words shelf answer → Later shelf call work answer
   come_later work within is answer (no_command nothing) = absurd (nothing call tells.before.asked)
   come_later work within is answer (no_source other asked why) = absurd (not_source other asked why)
   come_later work within is answer (no_program other bytes found asked reads has) = absurd (not_program other bytes found asked reads has)
   come_later work within is answer (no_arrays other found reads why) = absurd (not_arrays other found within reads why)
   come_later work within is answer (no_work other found bytes error reads read has) =
       absurd (Ok_or_Err (prepared tree arrays) work error is (sym (comes_again other found bytes reads read) ∙ has))
-  come_later work within is answer (no_picks other found comes lacks) =
-      inl (subst (λ c. LacksPicks shelf c.command answer) (same_call words shelf call source tells.before other comes.source.asked) lacks)
-  come_later work within is answer (answered other found picks comes has here) =
-      let same = same_call words shelf call source tells.before other comes.source.asked in
-      inr (
-        picks,
-        subst (λ c. HasPicks shelf c.command picks) same has,
-        same_told other work found picks answer same (same_Ok (prepared tree arrays) found work (sym (comes_again other comes.tree comes.arrays comes.source comes.reads) ∙ comes.is) is) here,
-      )
+  come_later work within is answer (unsteered other found comes why) = moved work is answer other found comes (inl why)
+  come_later work within is answer (answered other found made picks reaches here) = moved work is answer other found reaches.comes (inr (made, picks, reaches.steers, here))
 
   arrays_too_long : (other : Call) (bytes : List ℕ) → 2 ^ 26 < length arrays → IsCall words other → Reads shelf other.arrays (2 ^ 26) bytes → ⊥
   arrays_too_long other bytes long asked reads =
@@ -150,5 +149,5 @@ module _ (words : List (List ℕ)) (shelf : ShelfUse) (call : Call) (source : Li
   long_at_arrays long answer (no_program other bytes found asked reads has) = absurd (not_program other bytes found asked reads has)
   long_at_arrays long answer (no_arrays other found reads why) = long_arrays other reads.asked why
   long_at_arrays long answer (no_work other found bytes error reads read has) = absurd (arrays_too_long other bytes long reads.asked read)
-  long_at_arrays long answer (no_picks other work comes lacks) = absurd (arrays_too_long other comes.arrays long comes.source.asked comes.reads)
-  long_at_arrays long answer (answered other work picks comes has tells) = absurd (arrays_too_long other comes.arrays long comes.source.asked comes.reads)
+  long_at_arrays long answer (unsteered other work comes why) = absurd (arrays_too_long other comes.arrays long comes.source.asked comes.reads)
+  long_at_arrays long answer (answered other work found picks reaches tells) = absurd (arrays_too_long other reaches.comes.arrays long reaches.comes.source.asked reaches.comes.reads)

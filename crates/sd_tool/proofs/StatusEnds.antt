@@ -4,18 +4,21 @@ use Rattle.sd_io.specs.Count.{HasRisen}
 use Rattle.sd_work.specs.Run.{Left, Sequential}
 use Rattle.sd_work.specs.Step.{Outcome}
 use Rattle.sd_graph.specs.PlainTree.{GraphTree}
+use Rattle.sd_graph.specs.Unfold.{run_of}
 use Rattle.sd_graph.specs.declared.place.Place.{Place}
 use Rattle.sd_race.specs.race.Pairs.{IsGraphAccepted}
 use Rattle.sd_report.specs.stepping.Step.{IsPicked}
-use Rattle.sd_words.specs.Command.{Step, to_run, to_step, to_print, to_check, to_match, MakesRaceCheck, Call}
+use Rattle.sd_words.specs.Command.{Run, Step, to_run, to_step, to_print, to_check, to_plan, to_match, MakesRaceCheck, Call}
 use Rattle.sd_tool.specs.Work.{Work, run_of_work}
-use Rattle.sd_tool.specs.Answers.{ShelfUse, Answer, ran, listed, checked, matched, bad_words, source_refused, arrays_refused, picks_refused, too_long, Answers, answer_of_run, TellsRace, Tells, status_of, text_of}
+use Rattle.sd_tool.specs.Answer.{Answer, ran, listed, checked, planned, matched, bad_words, source_refused, arrays_refused, too_long, answer_of_run, status_of, text_of}
+use Rattle.sd_tool.specs.Files.{ShelfUse}
+use Rattle.sd_tool.specs.Answers.{Answers, TellsRace, Tells}
 use Rattle.sd_tool.specs.Ends.{SinkUse, Ends, written, sink_failed, cut_short, no_memory, Writes, WritesPrefix}
-use Rattle.sd_tool.specs.Told.{Asks, GivesPicks}
+use Rattle.sd_tool.specs.Told.{Asks, Chained, GivesPicks}
 use Rattle.sd_tool.specs.Statuses.{EndsAs, EndsWithRace, Statuses}
 use Rattle.sd_tool.proofs.Unique.{Tells-unique, race_told}
-use Rattle.sd_tool.proofs.Only.{Later, bad_words_only, refused_source, long_at_source, refused_arrays, long_at_arrays}
-use Rattle.sd_tool.proofs.OnlyPicks.{later, told_later, refused_later, long_later}
+use Rattle.sd_tool.proofs.Only.{bad_words_only, refused_source, long_at_source, refused_arrays, long_at_arrays}
+use Rattle.sd_tool.proofs.OnlySteered.{later, told_later, refused_later, long_chain_later, long_picks_later}
 use Rattle.sd_tool.proofs.StatusRows.{cause}
 use Rattle.sd_tool.proofs.StatusAt.{Told, zero_at, seven_at, eight_at, six_at, two_at, three_at, four_at, five_at, nine_at, eleven_at, ten_at, one_at}
 
@@ -71,54 +74,49 @@ at_status words shelf sink status number rows ten one ends is =
     let w = wrote words shelf sink number ten one (subst (Ends words shelf sink) is ends) in
     rows w.answer (told words shelf sink number w)
 
--- only what a call asks for is answered
-asked_alone : (words : List (List ℕ)) (shelf : ShelfUse) (call : Call) (work : Work) (picks : List ℕ) → Asks words shelf call work → GivesPicks shelf call.command picks → (answer : Answer) → Answers words shelf answer → Tells work picks call.command answer
-asked_alone words shelf call work picks asks gives answer answers = told_later shelf call.command work picks answer gives (later words shelf call work asks answer answers)
+-- what a call asks for, of a graph that its chain makes
+module _ (words : List (List ℕ)) (shelf : ShelfUse) (call : Call) (work : Work) (other : GraphTree) (asks : Asks words shelf call work) (makes : Chained shelf call.chain work.tree other) where
+  -- only that is answered
+  asked_alone : (picks : List ℕ) → GivesPicks shelf call.command picks → (answer : Answer) → Answers words shelf answer → Tells work other picks call.command answer
+  asked_alone picks gives answer answers = told_later shelf call work other picks answer makes gives (later words shelf call work asks answer answers)
 
--- and it has one answer
-pub one_answer : (words : List (List ℕ)) (shelf : ShelfUse) (call : Call) (work : Work) (picks : List ℕ) (only : Answer) → Asks words shelf call work → GivesPicks shelf call.command picks → Tells work picks call.command only →
-    (answer : Answer) → Answers words shelf answer → answer ≡ only
-one_answer words shelf call work picks only asks gives told = λ answer answers. Tells-unique work picks call.command answer only (asked_alone words shelf call work picks asks gives answer answers) told
+  -- and it has one answer
+  one_answer : (picks : List ℕ) (only : Answer) → GivesPicks shelf call.command picks → Tells work other picks call.command only → (answer : Answer) → Answers words shelf answer → answer ≡ only
+  one_answer picks only gives told = λ answer answers. Tells-unique work other picks call.command answer only (asked_alone picks gives answer answers) told
 
--- or tells a race of a graph that is not accepted
-pub one_race : (words : List (List ℕ)) (shelf : ShelfUse) (call : Call) (work : Work) (picks : List ℕ) → Asks words shelf call work → GivesPicks shelf call.command picks → MakesRaceCheck call.command → ¬ IsGraphAccepted work.tree →
-    (answer : Answer) → Answers words shelf answer → TellsRace work.tree answer
-one_race words shelf call work picks asks gives checks refused = λ answer answers. race_told work picks call.command answer checks refused (asked_alone words shelf call work picks asks gives answer answers)
+  -- or tells a race of a graph that is not accepted
+  pub one_race : (picks : List ℕ) → GivesPicks shelf call.command picks → MakesRaceCheck call.command → ¬ IsGraphAccepted other → (answer : Answer) → Answers words shelf answer → TellsRace other answer
+  one_race picks gives checks refused = λ answer answers. race_told work other picks call.command answer checks refused (asked_alone picks gives answer answers)
 
--- a run of an accepted graph that is asked for tells its outcome
-pub asked_run : (words : List (List ℕ)) (shelf : ShelfUse) (call : Call) (work : Work) (turns : ℕ) (outcome : Outcome Place Left) → Asks words shelf call work → call.command ≡ to_run turns → IsGraphAccepted work.tree → Sequential (run_of_work work) turns outcome →
-    (answer : Answer) → Answers words shelf answer → answer ≡ answer_of_run work.tree turns outcome
-asked_run words shelf call work turns outcome asks is accepted ends =
-    one_answer words shelf call work [] (answer_of_run work.tree turns outcome) asks (subst (λ c. GivesPicks shelf c []) (sym is) refl)
-    (subst (λ c. Tells work [] c (answer_of_run work.tree turns outcome)) (sym is) (inl (accepted, record { outcome = outcome; ends = ends; is = refl })))
+  -- a run of an accepted graph that is asked for tells the outcome of the work's own
+  pub asked_run : (run : Run) (outcome : Outcome Place Left) → call.command ≡ to_run run → IsGraphAccepted other → Sequential (run_of_work work) run.turns outcome → (answer : Answer) → Answers words shelf answer → answer ≡ answer_of_run work.tree run.turns outcome
+  asked_run run outcome is accepted ends =
+      one_answer [] (answer_of_run work.tree run.turns outcome) (subst (λ c. GivesPicks shelf c []) (sym is) refl)
+      (subst (λ c. Tells work other [] c (answer_of_run work.tree run.turns outcome)) (sym is) (inl (accepted, record { outcome = outcome; ends = ends; is = refl })))
 
--- a run by picks tells the same, behind its steps
-pub asked_step : (words : List (List ℕ)) (shelf : ShelfUse) (call : Call) (step : Step) (work : Work) (picks : List ℕ) (steps : List (ℕ × ℕ)) (picked outcome : Outcome Place Left) → Asks words shelf call work → call.command ≡ to_step step →
-    GivesPicks shelf call.command picks → IsGraphAccepted work.tree → IsPicked (run_of_work work) step.turns picks step.traces picked steps → Sequential (run_of_work work) step.turns outcome →
-    (answer : Answer) → Answers words shelf answer → answer ≡ ran steps work.tree step.turns outcome
-asked_step words shelf call step work picks steps picked outcome asks is gives accepted run ends =
-    one_answer words shelf call work picks (ran steps work.tree step.turns outcome) asks gives
-    (subst (λ c. Tells work picks c (ran steps work.tree step.turns outcome)) (sym is)
-    (inl (accepted, record { steps = steps; picked = picked; run = run; told = record { outcome = outcome; ends = ends; is = refl } })))
+  -- a run by picks tells the same, behind its steps
+  pub asked_step : (step : Step) (picks : List ℕ) (steps : List (ℕ × ℕ)) (picked outcome : Outcome Place Left) → call.command ≡ to_step step → GivesPicks shelf call.command picks → IsGraphAccepted other →
+      IsPicked (run_of other work.memory) step.turns picks step.traces picked steps → Sequential (run_of_work work) step.turns outcome → (answer : Answer) → Answers words shelf answer → answer ≡ ran steps work.tree step.turns outcome
+  asked_step step picks steps picked outcome is gives accepted run ends =
+      one_answer picks (ran steps work.tree step.turns outcome) gives
+      (subst (λ c. Tells work other picks c (ran steps work.tree step.turns outcome)) (sym is)
+      (inl (accepted, record { steps = steps; picked = picked; run = run; told = record { outcome = outcome; ends = ends; is = refl } })))
 
--- a text that is asked for is that of the graph
-pub asked_text : (words : List (List ℕ)) (shelf : ShelfUse) (call : Call) (work : Work) → Asks words shelf call work → call.command ≡ to_print → (answer : Answer) → Answers words shelf answer → answer ≡ listed work.tree
-asked_text words shelf call work asks is =
-    one_answer words shelf call work [] (listed work.tree) asks (subst (λ c. GivesPicks shelf c []) (sym is) refl) (subst (λ c. Tells work [] c (listed work.tree)) (sym is) refl)
+  -- a text that is asked for is that of the graph
+  pub asked_text : call.command ≡ to_print → (answer : Answer) → Answers words shelf answer → answer ≡ listed other
+  asked_text is = one_answer [] (listed other) (subst (λ c. GivesPicks shelf c []) (sym is) refl) (subst (λ c. Tells work other [] c (listed other)) (sym is) refl)
 
--- the rewrites that are asked for are those of the graph
-pub asked_matches : (words : List (List ℕ)) (shelf : ShelfUse) (call : Call) (work : Work) → Asks words shelf call work → call.command ≡ to_match → (answer : Answer) → Answers words shelf answer → answer ≡ matched work.tree
-asked_matches words shelf call work asks is =
-    one_answer words shelf call work [] (matched work.tree) asks (subst (λ c. GivesPicks shelf c []) (sym is) refl) (subst (λ c. Tells work [] c (matched work.tree)) (sym is) refl)
+  -- the rewrites that are asked for are those of the graph
+  pub asked_matches : call.command ≡ to_match → (answer : Answer) → Answers words shelf answer → answer ≡ matched other
+  asked_matches is = one_answer [] (matched other) (subst (λ c. GivesPicks shelf c []) (sym is) refl) (subst (λ c. Tells work other [] c (matched other)) (sym is) refl)
 
--- the race check of an accepted graph tells its accesses
-pub asked_check : (words : List (List ℕ)) (shelf : ShelfUse) (call : Call) (work : Work) → Asks words shelf call work → call.command ≡ to_check → IsGraphAccepted work.tree → (answer : Answer) → Answers words shelf answer → answer ≡ checked work.tree
-asked_check words shelf call work asks is accepted =
-    one_answer words shelf call work [] (checked work.tree) asks (subst (λ c. GivesPicks shelf c []) (sym is) refl) (subst (λ c. Tells work [] c (checked work.tree)) (sym is) (inl (accepted, refl)))
+  -- the race check of an accepted graph tells its accesses
+  pub asked_check : call.command ≡ to_check → IsGraphAccepted other → (answer : Answer) → Answers words shelf answer → answer ≡ checked other
+  asked_check is accepted = one_answer [] (checked other) (subst (λ c. GivesPicks shelf c []) (sym is) refl) (subst (λ c. Tells work other [] c (checked other)) (sym is) (inl (accepted, refl)))
 
--- of a step whose picks file is told
-step_later : (words : List (List ℕ)) (shelf : ShelfUse) (call : Call) (step : Step) (work : Work) → Asks words shelf call work → call.command ≡ to_step step → (answer : Answer) → Answers words shelf answer → Later shelf (to_step step) work answer
-step_later words shelf call step work asks is answer answers = subst (λ c. Later shelf c work answer) is (later words shelf call work asks answer answers)
+  -- and its plan is told
+  pub asked_plan : call.command ≡ to_plan → IsGraphAccepted other → (answer : Answer) → Answers words shelf answer → answer ≡ planned other
+  asked_plan is accepted = one_answer [] (planned other) (subst (λ c. GivesPicks shelf c []) (sym is) refl) (subst (λ c. Tells work other [] c (planned other)) (sym is) (inl (accepted, refl)))
 
 -- all of it
 pub statuses : (words : List (List ℕ)) (shelf : ShelfUse) (sink : SinkUse) (status : ℕ) → Ends words shelf sink status → Statuses words shelf sink status
@@ -126,14 +124,16 @@ statuses words shelf sink status ends = record {
   zero = at_status words shelf sink status 0 (zero_at words shelf sink) (λ e. omega arith) (λ e. omega arith) ends;
   seven = at_status words shelf sink status 7 (seven_at words shelf sink) (λ e. omega arith) (λ e. omega arith) ends;
   eight = at_status words shelf sink status 8 (eight_at words shelf sink) (λ e. omega arith) (λ e. omega arith) ends;
-  run_where = λ call work turns outcome asks is accepted ran_so. ends_as words shelf sink status (answer_of_run work.tree turns outcome) (asked_run words shelf call work turns outcome asks is accepted ran_so) ends;
-  step_where = λ call step work picks steps picked outcome asks is gives accepted run ran_so.
-      ends_as words shelf sink status (ran steps work.tree step.turns outcome) (asked_step words shelf call step work picks steps picked outcome asks is gives accepted run ran_so) ends;
-  listed_where = λ call work asks is. ends_as words shelf sink status (listed work.tree) (asked_text words shelf call work asks is) ends;
-  checked_where = λ call work asks is accepted. ends_as words shelf sink status (checked work.tree) (asked_check words shelf call work asks is accepted) ends;
-  matched_where = λ call work asks is. ends_as words shelf sink status (matched work.tree) (asked_matches words shelf call work asks is) ends;
+  run_where = λ call run work other outcome asks makes is accepted ran_so.
+      ends_as words shelf sink status (answer_of_run work.tree run.turns outcome) (asked_run words shelf call work other asks makes run outcome is accepted ran_so) ends;
+  step_where = λ call step work other picks steps picked outcome asks makes is gives accepted run ran_so.
+      ends_as words shelf sink status (ran steps work.tree step.turns outcome) (asked_step words shelf call work other asks makes step picks steps picked outcome is gives accepted run ran_so) ends;
+  listed_where = λ call work other asks makes is. ends_as words shelf sink status (listed other) (asked_text words shelf call work other asks makes is) ends;
+  checked_where = λ call work other asks makes is accepted. ends_as words shelf sink status (checked other) (asked_check words shelf call work other asks makes is accepted) ends;
+  planned_where = λ call work other asks makes is accepted. ends_as words shelf sink status (planned other) (asked_plan words shelf call work other asks makes is accepted) ends;
+  matched_where = λ call work other asks makes is. ends_as words shelf sink status (matched other) (asked_matches words shelf call work other asks makes is) ends;
   six = at_status words shelf sink status 6 (six_at words shelf sink) (λ e. omega arith) (λ e. omega arith) ends;
-  six_where = λ call work picks asks gives checks refused. ends_with_race words shelf sink status work.tree (one_race words shelf call work picks asks gives checks refused) ends;
+  six_where = λ call work other picks asks makes gives checks refused. ends_with_race words shelf sink status other (one_race words shelf call work other asks makes picks gives checks refused) ends;
   two = at_status words shelf sink status 2 (two_at words shelf sink) (λ e. omega arith) (λ e. omega arith) ends;
   two_where = λ nothing. ends_as words shelf sink status bad_words (bad_words_only words shelf nothing) ends;
   three = at_status words shelf sink status 3 (three_at words shelf sink) (λ e. omega arith) (λ e. omega arith) ends;
@@ -141,14 +141,16 @@ statuses words shelf sink status ends = record {
   four = at_status words shelf sink status 4 (four_at words shelf sink) (λ e. omega arith) (λ e. omega arith) ends;
   four_where = λ call source tree arrays refusal tells within is. ends_as words shelf sink status (arrays_refused refusal) (refused_arrays words shelf call source tree arrays tells refusal within is) ends;
   five = at_status words shelf sink status 5 (five_at words shelf sink) (λ e. omega arith) (λ e. omega arith) ends;
-  five_where = λ call step work file word asks is tells within refused.
-      ends_as words shelf sink status (picks_refused word) (λ answer answers. refused_later shelf step work file word answer tells within refused (step_later words shelf call step work asks is answer answers)) ends;
+  five_where = λ call work chain picks only asks tells is.
+      ends_as words shelf sink status only (λ answer answers. refused_later shelf call work chain picks tells only answer is (later words shelf call work asks answer answers)) ends;
   nine = at_status words shelf sink status 9 (nine_at words shelf sink) (λ e. omega arith) (λ e. omega arith) ends;
   ten = λ is. ten_end words shelf sink status is ends;
   eleven = at_status words shelf sink status 11 (eleven_at words shelf sink) (λ e. omega arith) (λ e. omega arith) ends;
   eleven_where = λ call source tells long. ends_as words shelf sink status (too_long call.source) (long_at_source words shelf call source tells long) ends;
   eleven_later = λ call source tree arrays tells long. ends_as words shelf sink status (too_long call.arrays) (long_at_arrays words shelf call source tree arrays tells long) ends;
-  eleven_last = λ call step work file asks is tells long.
-      ends_as words shelf sink status (too_long step.picks) (λ answer answers. long_later shelf step work file answer tells long (step_later words shelf call step work asks is answer answers)) ends;
+  eleven_chain = λ call work name file asks is tells long.
+      ends_as words shelf sink status (too_long name) (λ answer answers. long_chain_later shelf call work name file answer is tells long (later words shelf call work asks answer answers)) ends;
+  eleven_last = λ call step work chain file asks before is tells long.
+      ends_as words shelf sink status (too_long step.picks) (λ answer answers. long_picks_later shelf call work step chain file answer before is tells long (later words shelf call work asks answer answers)) ends;
   one = λ is. one_end words shelf sink status is ends;
 }

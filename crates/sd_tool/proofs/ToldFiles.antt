@@ -2,7 +2,8 @@
 use Rattle.std.proofs.Common.{◌≡◌, ℕ, ◌<◌, ◌≤◌, List, Some, length, subst, arith}
 use Rattle.sd_io.specs.Count.{HasRisen}
 use Rattle.sd_io.specs.Shelf.{IsToldLonger}
-use Rattle.sd_tool.specs.Answers.{ShelfUse, Answer, Reads, Unread, faulty, longer}
+use Rattle.sd_tool.specs.Answer.{Answer}
+use Rattle.sd_tool.specs.Files.{ShelfUse, Reads, Unread, faulty, longer}
 use Rattle.sd_tool.proofs.Reading.{read_is_told}
 
 -- a file that is told within its limit, and whose count did not rise, is read

@@ -19,3 +19,11 @@ arrays_text refusal = line (codes "arrays error " ++ decimal refusal.number ++ n
 -- the number of a word that is no pick
 abbrev pub picks_text : (word : ℕ) → List ℕ
 picks_text word = line (codes "picks refused at word " ++ decimal word)
+
+-- the number of a line of a chain that is no form
+abbrev pub chain_text : (number : ℕ) → List ℕ
+chain_text number = line (codes "chain refused at line " ++ decimal number)
+
+-- the number of a line of a chain whose step may not be done, and that of the condition that fails
+abbrev pub condition_text : (number condition : ℕ) → List ℕ
+condition_text number condition = line (codes "chain refused at line " ++ decimal number ++ codes " condition " ++ decimal condition)

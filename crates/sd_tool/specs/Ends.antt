@@ -2,7 +2,9 @@
 use Rattle.std.specs.Prelude.{◌≡◌, ℕ, List, [], Option}
 use Rattle.sd_io.specs.Count.{HasRisen}
 use Rattle.sd_io.specs.Sink.{Appends, AppendsPrefix}
-use Rattle.sd_tool.specs.Answers.{ShelfUse, Answer, Answers, status_of, text_of}
+use Rattle.sd_tool.specs.Answer.{Answer, status_of, text_of}
+use Rattle.sd_tool.specs.Answers.{Answers}
+use Rattle.sd_tool.specs.Files.{ShelfUse}
 
 -- the bytes that a sink took, where it tells them, and its count, before and after it was used
 pub record SinkUse : Type 0 where

@@ -1,6 +1,9 @@
 pub mod Work
 pub mod Workspace
 pub mod AnswerText
+pub mod Answer
+pub mod Files
+pub mod Steering
 pub mod Answers
 pub mod Ends
 pub mod Ending

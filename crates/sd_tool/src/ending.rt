@@ -1,15 +1,16 @@
 ghost use Rattle.std.specs.Prelude.{◌≡◌, [], IfOk, string_bytes};
 ghost use Rattle.std.specs.Option.{option_map_or};
 ghost use Rattle.sd_tool.specs.declared.ending.Ending.TheVariants.{Memory};
-ghost use Rattle.sd_tool.specs.Answers.{status_of, text_of};
-ghost use Rattle.sd_tool.specs.Ending.{answer_of, source_ending, input_ending, binding_ending, picks_ending};
+ghost use Rattle.sd_tool.specs.Answer.{status_of, text_of};
+ghost use Rattle.sd_tool.specs.Ending.{answer_of, source_ending, input_ending, binding_ending, chain_ending, picks_ending};
 
-use sd_chain::PicksError;
+use crate::lines;
+use sd_chain::{ChainError, PicksError};
 use sd_graph::Bound;
 use sd_json::InputError;
 use sd_list::{NoMemory, Text};
 use sd_parse::{Refusal, SourceError};
-use sd_race::{Race, race_text};
+use sd_race::Race;
 use sd_valid::BindError;
 use std::alloc::Global;
 
@@ -31,6 +32,10 @@ pub(crate) enum Ending<'a> {
     Source(Refusal),
     /// The arrays file is refused, or its sizes or its shapes.
     Arrays(ArraysRefusal),
+    /// The line of this number is the first in the chain file that is no form, or has a step too many.
+    Chain(u32),
+    /// The step of the line of this number may not be done: the condition of this number is the lowest that fails.
+    Condition(u32, u8),
     /// The word of this number is the first in the picks file that is no pick.
     Picks(u64),
     /// The race check refuses the graph, for this race of it.
@@ -89,6 +94,18 @@ impl From<BindError> for Ending<'_> {
     }
 }
 
+impl From<ChainError> for Ending<'_> {
+    ghost from_gives = { λ error ending. ending ≡ chain_ending error };
+
+    fn from(error: ChainError) -> Self {
+        match error {
+            ChainError::NoForm(line) => Ending::Chain(line),
+            ChainError::Condition(line, condition) => Ending::Condition(line, condition),
+            ChainError::Memory => Ending::Memory,
+        }
+    }
+}
+
 impl From<PicksError> for Ending<'_> {
     ghost from_gives = { λ error ending. ending ≡ picks_ending error };
 
@@ -116,7 +133,7 @@ impl Ending<'_> {
             Ending::BadWords => 2,
             Ending::Source(_) => 3,
             Ending::Arrays(_) => 4,
-            Ending::Picks(_) => 5,
+            Ending::Chain(_) | Ending::Condition(..) | Ending::Picks(_) => 5,
             Ending::Race(..) => 6,
             Ending::ReadFault(_) => 9,
             Ending::TooLong(_) => 11,
@@ -127,30 +144,17 @@ impl Ending<'_> {
     pub(crate) fn line(&self, alloc: Global) -> Result<String, NoMemory>
         ensures { IfOk result (λ line. string_bytes line ≡ option_map_or text_of (answer_of self.now) []) }
     {
-        let mut line = String::new(alloc);
         match self {
-            Ending::Memory => {}
-            Ending::BadWords => writeln!(line, "bad words")?,
-            Ending::Source(Refusal { number, line: at }) => {
-                writeln!(line, "source error {number} at line {at}")?;
-            }
-            Ending::Arrays(ArraysRefusal { number, name: None }) => {
-                writeln!(line, "arrays error {number}")?;
-            }
-            Ending::Arrays(
-                ArraysRefusal {
-                    number,
-                    name: Some(name),
-                },
-            ) => writeln!(line, "arrays error {number} {}", name.as_str())?,
-            Ending::Picks(word) => writeln!(line, "picks refused at word {word}")?,
-            Ending::Race(bound, race) => {
-                line.push_str(race_text(alloc, bound, race)?.as_str())?;
-                line.push_str("\n")?;
-            }
-            Ending::ReadFault(name) => writeln!(line, "read fault {name}")?,
-            Ending::TooLong(name) => writeln!(line, "too long {name}")?,
+            Ending::Memory => Ok(String::new(alloc)),
+            Ending::BadWords => lines::bad_words(alloc),
+            Ending::Source(refusal) => lines::source(alloc, refusal),
+            Ending::Arrays(refusal) => lines::arrays(alloc, refusal),
+            Ending::Chain(number) => lines::chain(alloc, *number),
+            Ending::Condition(number, condition) => lines::condition(alloc, *number, *condition),
+            Ending::Picks(word) => lines::picks(alloc, *word),
+            Ending::Race(bound, race) => lines::race(alloc, bound, race),
+            Ending::ReadFault(name) => lines::read_fault(alloc, name),
+            Ending::TooLong(name) => lines::too_long(alloc, name),
         }
-        Ok(line)
     }
 }

@@ -1,23 +1,22 @@
 //! The files of a call.
-ghost use Rattle.std.specs.Prelude.{◌≡◌, ◌≤◌, ℕ, List, IfOk, IfErr, IfSome};
-ghost use Rattle.sd_words.specs.Command.{IsCall, command_of, call_of};
-ghost use Rattle.sd_tool.specs.Answers.{Reads, Unread, Comes, HasPicks, LacksPicks, Answers, shelf_use};
+ghost use Rattle.std.specs.Prelude.{◌≡◌, ◌≤◌, ℕ, List, option_map, IfOk, IfErr, IfSome};
+ghost use Rattle.sd_part.specs.Whole.{IsOfWidths};
+ghost use Rattle.sd_words.specs.Command.{IsCall, call_of};
+ghost use Rattle.sd_tool.specs.Answers.{Comes, Answers};
 ghost use Rattle.sd_tool.specs.Ending.{answer_of};
+ghost use Rattle.sd_tool.specs.Files.{Reads, Unread, ReadsNamed, UnreadNamed, shelf_use};
 ghost use Rattle.sd_tool.specs.Workspace.{work_of};
 
 use crate::ending::Ending;
 use crate::workspace::{Workspace, prepared, source_graph};
-use sd_chain::read_picks;
 use sd_io::{Shelf, ShelfError};
-use sd_words::{Asked, Command};
+use sd_words::Asked;
 use std::alloc::Global;
 
-/// The most bytes of a source, of an arrays file and of a picks file.
+/// The most bytes of a source and of an arrays file.
 const SOURCE_LIMIT: usize = 1 << 20;
 
 const ARRAYS_LIMIT: usize = 1 << 26;
-
-const PICKS_LIMIT: usize = 1 << 24;
 
 /// A file's content, or why it is not read.
 fn content<'a, S: Shelf>(
@@ -52,6 +51,7 @@ pub(crate) fn prepare<'a, S: Shelf>(
         → IfOk result (λ opened. Comes words (shelf_use S.told S.faults S.overruns shelf.old shelf.new) (call_of call.entry) (work_of opened)) }
     ensures refuses { (words : List (List ℕ)) → IsCall words (call_of call.entry)
         → IfErr result (λ ending. IfSome (answer_of ending) (Answers words (shelf_use S.told S.faults S.overruns shelf.old shelf.new))) }
+    ensures widths { IfOk result (λ opened. IsOfWidths opened.memory) }
     ensures told_stays { (other : List ℕ) → S.told shelf.new other ≡ S.told shelf.old other }
     ensures faults_never_fall { (other : List ℕ) → S.faults shelf.old other ≤ S.faults shelf.new other }
     ensures overruns_never_fall { (other : List ℕ) → S.overruns shelf.old other ≤ S.overruns shelf.new other }
@@ -62,22 +62,22 @@ pub(crate) fn prepare<'a, S: Shelf>(
     prepared(alloc, graph, file)
 }
 
-/// The picks that a command goes by, those of its picks file, or why there are none. A command without such a file has none.
-pub(crate) fn picks<'a, S: Shelf>(
+/// The content of a file, where it is named, and nothing where it is not.
+pub(crate) fn named<'a, S: Shelf>(
     alloc: Global,
-    command: Command<'a>,
     shelf: &mut S,
-) -> Result<Vec<u64>, Ending<'a>>
-    ensures picks { IfOk result (λ picks. HasPicks (shelf_use S.told S.faults S.overruns shelf.old shelf.new) (command_of command.entry) picks.items) }
-    ensures lacks { IfErr result (λ ending.
-        IfSome (answer_of ending) (LacksPicks (shelf_use S.told S.faults S.overruns shelf.old shelf.new) (command_of command.entry))) }
+    name: Option<&'a str>,
+    most: usize,
+) -> Result<Vec<u8>, Ending<'a>>
+    ensures read { IfOk result (λ bytes. ReadsNamed (shelf_use S.told S.faults S.overruns shelf.old shelf.new) (option_map (λ given. given.now) name.entry) most bytes.items) }
+    ensures unread { IfErr result (λ ending.
+        IfSome (answer_of ending) (UnreadNamed (shelf_use S.told S.faults S.overruns shelf.old shelf.new) (option_map (λ given. given.now) name.entry) most)) }
     ensures told_stays { (other : List ℕ) → S.told shelf.new other ≡ S.told shelf.old other }
     ensures faults_never_fall { (other : List ℕ) → S.faults shelf.old other ≤ S.faults shelf.new other }
     ensures overruns_never_fall { (other : List ℕ) → S.overruns shelf.old other ≤ S.overruns shelf.new other }
 {
-    let Command::Step(step) = command else {
-        return Ok(Vec::new(alloc));
-    };
-    let text = content(alloc, shelf, step.picks, PICKS_LIMIT)?;
-    Ok(read_picks(alloc, text.as_slice())?)
+    match name {
+        Some(name) => content(alloc, shelf, name, most),
+        None => Ok(Vec::new(alloc)),
+    }
 }

@@ -1,7 +1,7 @@
-ghost use Rattle.std.specs.Prelude.{◌≡◌, ◌≤◌, ◌^◌, Ok, length, IfOk, IfErr, IfSome};
+ghost use Rattle.std.specs.Prelude.{◌≡◌, ◌≤◌, ◌^◌, Ok, length, IfOk, IfErr};
 ghost use Rattle.sd_graph.specs.TreeFold.{graph_tree};
-ghost use Rattle.sd_race.specs.race.Pairs.{IsGraphAccepted};
-ghost use Rattle.sd_tool.specs.Answers.{source_refused, arrays_refused, TellsRace};
+ghost use Rattle.sd_part.specs.Whole.{IsOfWidths};
+ghost use Rattle.sd_tool.specs.Answer.{source_refused, arrays_refused};
 ghost use Rattle.sd_tool.specs.Ending.{answer_of, Refuses};
 ghost use Rattle.sd_tool.specs.Work as definition;
 ghost use Rattle.sd_tool.specs.Workspace.{work_of};
@@ -12,7 +12,6 @@ use sd_graph::{Bound, Sdfg};
 use sd_json::read_arrays;
 use sd_mem::Memory;
 use sd_parse::parse;
-use sd_race::{RaceError, check};
 use sd_valid::bind;
 use std::alloc::Global;
 
@@ -43,6 +42,7 @@ pub(crate) fn prepared<'a>(
     file: Vec<u8>,
 ) -> Result<Workspace, Ending<'a>>
     ensures work { IfOk result (λ opened. definition.prepared (graph_tree graph) file.items ≡ Ok (work_of opened)) }
+    ensures widths { IfOk result (λ opened. IsOfWidths opened.memory) }
     ensures refused { IfErr result (λ ending. Refuses arrays_refused (definition.prepared (graph_tree graph) file.items) (answer_of ending)) }
 {
     let given = read_arrays(alloc, file.as_slice(), &graph)?;
@@ -52,18 +52,4 @@ pub(crate) fn prepared<'a>(
     drop(graph);
     let memory = given.into_memory(alloc, &bound)?;
     Ok(Workspace { bound, memory })
-}
-
-/// The same again where the race check accepts the graph, else its race. Then the memory is let go.
-pub(crate) fn accepted<'a>(alloc: Global, opened: Workspace) -> Result<Workspace, Ending<'a>>
-    ensures same { IfOk result (λ after. work_of after ≡ work_of opened) }
-    ensures accepted { IfOk result (λ after. IsGraphAccepted (graph_tree after.bound.graph)) }
-    ensures refused { IfErr result (λ ending. IfSome (answer_of ending) (TellsRace (graph_tree opened.bound.graph))) }
-{
-    let Workspace { bound, memory } = opened;
-    match check(alloc, &bound) {
-        Ok(()) => Ok(Workspace { bound, memory }),
-        Err(RaceError::At(race)) => Err(Ending::Race(bound, race)),
-        Err(RaceError::Memory) => Err(Ending::Memory),
-    }
 }

@@ -1,7 +1,9 @@
-use sd_io::{MemShelf, MemSink, Open};
+use sd_io::{Gate, MemShelf, MemSink, Open};
 use sd_tool::sdfg;
 use std::alloc::Global;
+use std::sync::Wait;
 use std::test::Fail;
+use std::thread::Threads;
 
 /// A text up to its first newline, and what stands behind it.
 pub(crate) fn cut<'a>(text: &'a str) -> (&'a str, &'a str) {
@@ -41,21 +43,40 @@ fn shelf(alloc: Global, contents: &[(&str, &str)], failing: u64) -> Result<MemSh
     Ok(MemShelf::new(files, vec![in alloc; failing]?))
 }
 
-/// What comes of a call of these words with these files, where the calls of the shelf and of the sink with these numbers fail: the
+/// The calls of the shelf and of the sink that fail, by their numbers.
+#[derive(Clone, Copy)]
+pub(crate) struct Failing {
+    pub(crate) read: u64,
+    pub(crate) write: u64,
+}
+
+/// What comes of a call of these words with these files, where each piece of work passes this gate and the devices fail so: the
 /// status, and the bytes that the sink has taken.
-pub(crate) fn answer(
+pub(crate) fn answer_by<R: Threads + Wait + Sync, G: Gate + Sync + Send>(
+    rt: &R,
     alloc: Global,
     text: &str,
     contents: &[(&str, &str)],
-    read: u64,
-    write: u64,
+    failing: Failing,
+    gate: &G,
 ) -> Result<(u8, String), Fail> {
     let words = words(alloc, text)?;
-    let mut shelf = shelf(alloc, contents, read)?;
-    let mut sink = MemSink::new(alloc, vec![in alloc; write]?);
-    let status = sdfg(&(), alloc, &words, &mut shelf, &mut sink, &Open);
+    let mut shelf = shelf(alloc, contents, failing.read)?;
+    let mut sink = MemSink::new(alloc, vec![in alloc; failing.write]?);
+    let status = sdfg(rt, alloc, &words, &mut shelf, &mut sink, gate);
     let written = std::str::from_utf8(sink.bytes())?;
     Ok((status, String::from_str(alloc, written)?))
+}
+
+/// The same where nothing is held back.
+pub(crate) fn answer<R: Threads + Wait + Sync>(
+    rt: &R,
+    alloc: Global,
+    text: &str,
+    contents: &[(&str, &str)],
+    failing: Failing,
+) -> Result<(u8, String), Fail> {
+    answer_by(rt, alloc, text, contents, failing, &Open)
 }
 
 /// Adds to a text what a call came to, where that is not this status and this text.

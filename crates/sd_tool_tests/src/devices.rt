@@ -1,7 +1,9 @@
-use crate::call::{answer, cut, note, number};
+use crate::call::{Failing, answer, cut, note, number};
 use crate::sources::source;
 use std::alloc::Global;
+use std::sync::Wait;
 use std::test::Fail;
+use std::thread::Threads;
 
 /// The number of a call that no device comes to.
 const NONE: u64 = 255;
@@ -32,6 +34,27 @@ step,a.py,a.json,p
 read fault p
 ===
 INC
+print,a.py,a.json,--chain,p
+2 255 9
+read fault p
+===
+INC
+step,a.py,a.json,p,--chain,q
+2 255 9
+read fault q
+===
+INC
+step,a.py,a.json,p,--chain,q
+3 255 9
+read fault p
+===
+INC
+run,a.py,a.json,--workers,64
+255 2 0
+A[3] = 1 2 3
+B[3] = 2 3 4
+===
+INC
 run,a.py,a.json
 255 2 0
 A[3] = 1 2 3
@@ -53,15 +76,23 @@ source error 6 at line 7
 ";
 
 /// The rows that have another answer.
-fn wrong_reads(alloc: Global) -> Result<String, Fail> {
+fn wrong_reads<R: Threads + Wait + Sync>(rt: &R, alloc: Global) -> Result<String, Fail> {
     let mut wrong = String::new(alloc);
     for row in READS.split("===\n") {
         let (name, row) = cut(row);
         let (words, row) = cut(row);
         let (numbers, text) = cut(row);
-        let files = [("a.py", source(name)), ("a.json", ARRAYS), ("p", "")];
-        let (read, write) = (number(numbers, 0), number(numbers, 1));
-        let found = answer(alloc, words, &files, read, write)?;
+        let files = [
+            ("a.py", source(name)),
+            ("a.json", ARRAYS),
+            ("p", ""),
+            ("q", ""),
+        ];
+        let failing = Failing {
+            read: number(numbers, 0),
+            write: number(numbers, 1),
+        };
+        let found = answer(rt, alloc, words, &files, failing)?;
         note(&mut wrong, numbers, &found, number(numbers, 2), text)?;
     }
     Ok(wrong)
@@ -69,7 +100,7 @@ fn wrong_reads(alloc: Global) -> Result<String, Fail> {
 
 #[test]
 fn each_failing_call_ends_the_run(rt: HostRuntime) -> Result<(), Fail> {
-    assert_eq!(rt; wrong_reads(rt.alloc())?.as_str(), "");
+    assert_eq!(rt; wrong_reads(&rt, rt.alloc())?.as_str(), "");
     Ok(())
 }
 
@@ -156,14 +187,90 @@ run,a.py,a.json,--turns,1
 turns spent 1
 ===
 INC
+run,--turns=1,a.py,a.json
+{"N":2,"A":[4,5],"B":[0,0]}
+
+turns spent 1
+===
+INC
+run,a.py,a.json,--turns,+5
+{"N":2,"A":[4,5],"B":[0,0]}
+
+bad words
+===
+INC
+run,a.py,a.json,--workers,65
+{"N":2,"A":[4,5],"B":[0,0]}
+
+bad words
+===
+INC
 run
 {"N":2,"A":[4,5],"B":[0,0]}
 
 bad words
+===
+INC
+run,--help
+{"N":2,"A":[4,5],"B":[0,0]}
+
+bad words
+===
+INC
+plan,a.py,a.json
+{"N":3,"A":[1,2,3],"B":[0,0,0]}
+
+scope 1.1: A shared
+scope 1.1: B copied
+===
+INC
+run,a.py,a.json,--chain,p
+{"N":2,"A":[4,5],"B":[0,0]}
+Tile 1.1
+chain refused at line 1
+===
+INC
+print,a.py,a.json,--chain=p
+{"N":2,"A":[4,5],"B":[0,0]}
+MapExpansion 1.1
+chain refused at line 1 condition 2
+===
+GRID
+print,a.py,a.json,--chain,p
+{"A":[[1,2],[3,4]],"B":[[0,0],[0,0]]}
+MapCollapse 1.1
+sdfg grid
+array A[2,2]
+array B[2,2]
+state 0
+next 1
+state 1
+node 0 access A
+node 1 map i=0:2, j=0:2
+node 2 in 1 tasklet line 6
+node 3 exit 1
+node 4 access B
+edge 0 1 A
+edge 1 2 A[i, j] _in0
+edge 2 3 B[i, j] _out
+edge 3 4 B
+===
+GRID
+matches,a.py,a.json,--chain,p
+{"A":[[1,2],[3,4]],"B":[[0,0],[0,0]]}
+MapCollapse 1.1
+MapExpansion 1.1
+===
+GRID
+run,a.py,a.json,--chain,p,--workers,64
+{"A":[[1,2],[3,4]],"B":[[0,0],[0,0]]}
+MapCollapse 1.1
+A[2,2] = 1 2 3 4
+B[2,2] = 1 2 3 4
 "#;
 
 /// What is wrong where a write of a line fails: the status is 10, and the sink has the lines before it.
-fn wrong_writes(alloc: Global) -> Result<String, Fail> {
+fn wrong_writes<R: Threads + Wait + Sync>(rt: &R, alloc: Global) -> Result<String, Fail> {
     let mut wrong = String::new(alloc);
     for row in WRITES.split("===\n") {
         let (name, row) = cut(row);
@@ -173,7 +280,11 @@ fn wrong_writes(alloc: Global) -> Result<String, Fail> {
         let files = [("a.py", source(name)), ("a.json", arrays), ("p", picks)];
         let mut front = String::new(alloc);
         for (place, line) in text.split_inclusive('\n').enumerate() {
-            let found = answer(alloc, words, &files, NONE, place as u64)?;
+            let failing = Failing {
+                read: NONE,
+                write: place as u64,
+            };
+            let found = answer(rt, alloc, words, &files, failing)?;
             note(&mut wrong, line, &found, 10, front.as_str())?;
             front.push_str(line)?;
         }
@@ -183,7 +294,7 @@ fn wrong_writes(alloc: Global) -> Result<String, Fail> {
 
 #[test]
 fn each_line_is_one_write(rt: HostRuntime) -> Result<(), Fail> {
-    assert_eq!(rt; wrong_writes(rt.alloc())?.as_str(), "");
+    assert_eq!(rt; wrong_writes(&rt, rt.alloc())?.as_str(), "");
     Ok(())
 }
 
@@ -210,13 +321,17 @@ const PIECES: &str = "0 10 0
 6 0 20044";
 
 /// The pieces that are others.
-fn wrong_pieces(alloc: Global) -> Result<String, Fail> {
+fn wrong_pieces<R: Threads + Wait + Sync>(rt: &R, alloc: Global) -> Result<String, Fail> {
     let mut wrong = String::new(alloc);
     let text = format!(in alloc; "{}\n{}", long_arrays(alloc)?, source("LONG"))?;
     let (arrays, source) = cut(text.as_str());
     let files = [("a.py", source), ("a.json", arrays)];
     for line in PIECES.lines() {
-        let (status, written) = answer(alloc, "run,a.py,a.json", &files, NONE, number(line, 0))?;
+        let failing = Failing {
+            read: NONE,
+            write: number(line, 0),
+        };
+        let (status, written) = answer(rt, alloc, "run,a.py,a.json", &files, failing)?;
         let bytes = written.len();
         if u64::from(status) != number(line, 1) || bytes as u64 != number(line, 2) {
             write!(&mut wrong, "{line}: {status} {bytes}; ")?;
@@ -227,6 +342,6 @@ fn wrong_pieces(alloc: Global) -> Result<String, Fail> {
 
 #[test]
 fn a_long_line_is_written_in_pieces_of_4096_bytes(rt: HostRuntime) -> Result<(), Fail> {
-    assert_eq!(rt; wrong_pieces(rt.alloc())?.as_str(), "");
+    assert_eq!(rt; wrong_pieces(&rt, rt.alloc())?.as_str(), "");
     Ok(())
 }

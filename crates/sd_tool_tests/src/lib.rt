@@ -1,4 +1,4 @@
-//! Tests of the top call where its devices fail, in a crate of their own so that `sd_tool` is proved without them.
+//! Tests of the top call where its devices fail and where workers do it, in a crate of their own so that `sd_tool` is proved without them.
 #![tactic(auto)]
 
 #[cfg(test)]
@@ -7,3 +7,5 @@ mod call;
 mod devices;
 #[cfg(test)]
 mod sources;
+#[cfg(test)]
+mod workers;

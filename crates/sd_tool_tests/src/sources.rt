@@ -24,6 +24,13 @@ N = dace.symbol('N')
 def inc(A: dace.int64[N], B: dace.int64[N]):
     for i in dace.map[0:N]:
         B[i] = A[i*i] + 1
+=== GRID a map in a map
+import dace
+@dace.program
+def grid(A: dace.int64[2, 2], B: dace.int64[2, 2]):
+    for i in dace.map[0:2]:
+        for j in dace.map[0:2]:
+            B[i, j] = A[i, j]
 === LONG adds 1, by long names
 import dace
 Number_of_elements = dace.symbol('Number_of_elements')

@@ -1,3 +1,5 @@
-pub mod Items
-pub mod Options
-pub mod Calls
+pub mod Parsing
+pub mod KindOfCall
+pub mod Values
+pub mod OneCall
+pub mod Files

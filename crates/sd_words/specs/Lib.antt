@@ -1,2 +1,4 @@
 pub mod Finding
+pub mod Arguments
 pub mod Command
+pub mod Parsed

@@ -11,7 +11,7 @@ ghost use Rattle.std.specs.Prelude.{◌≡◌, ◌≢◌, [], drop, map, string_
 ghost use Rattle.std.specs.Process.{exit_status};
 ghost use Rattle.std.specs.Vec.Iter.{into_iter_items};
 ghost use Rattle.std.specs.IoError.{error_kind};
-ghost use Rattle.sd_tool.specs.Answers.{shelf_use};
+ghost use Rattle.sd_tool.specs.Files.{shelf_use};
 ghost use Rattle.sd_tool.specs.Ends.{Ends, Writes, sink_use};
 ghost use Rattle.sdfg.specs.BadWords.{RefusesWords};
 
@@ -26,6 +26,8 @@ use std::alloc::{AllocError, Global};
 use std::env::{self, Args};
 use std::io::{self, ErrorKind};
 use std::process::ExitCode;
+use std::sync::Wait;
+use std::thread::Threads;
 
 fn main(rt: HostRuntime) -> ExitCode {
     let mut shelf = FileShelf::new(&rt);
@@ -38,7 +40,7 @@ fn main(rt: HostRuntime) -> ExitCode {
 ///
 /// The system gives the words as a whole: where one of them is not text it gives none, and
 /// that is told as words that are no command.
-fn run<R, S: Shelf, K: Sink>(
+fn run<R: Threads + Wait + Sync, S: Shelf, K: Sink>(
     rt: &R,
     alloc: Global,
     given: io::Result<Args>,
@@ -63,7 +65,7 @@ fn run<R, S: Shelf, K: Sink>(
 }
 
 /// Does what the words after the first ask, and answers the status of that.
-fn perform<R, S: Shelf, K: Sink>(
+fn perform<R: Threads + Wait + Sync, S: Shelf, K: Sink>(
     rt: &R,
     alloc: Global,
     given: Args,

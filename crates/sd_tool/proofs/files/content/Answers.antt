@@ -1,5 +1,5 @@
 use Rattle.std.proofs.Common.{Err, ap}
-use Rattle.sd_tool.specs.Answers.{faulty, longer}
+use Rattle.sd_tool.specs.Files.{faulty, longer}
 use Rattle.sd_tool.proofs.files.content.Goals as goal
 
 pub returns-in-Err-Failed-clause-unread : goal.returns-in-Err-Failed-clause-unread

@@ -1,7 +1,8 @@
 use Rattle.std.proofs.lemmas.Result.{err_from_is_err_and, IfOk-weaker, IfErr-weaker}
 use Rattle.std.proofs.Common.{ℕ, List}
 use Rattle.sd_graph.specs.TreeFold.{graph_tree}
-use Rattle.sd_tool.specs.Answers.{shelf_use, ReadsSource}
+use Rattle.sd_tool.specs.Files.{shelf_use}
+use Rattle.sd_tool.specs.Answers.{ReadsSource}
 use Rattle.sd_words.specs.Command.{IsCall, call_of}
 use Rattle.sd_tool.specs.Workspace.{work_of}
 use Rattle.sd_tool.proofs.AnswerRules.{IsPart, first_part, second_part, refuses_source, refuses_program, reads_source, refuses_arrays, refuses_work, comes_to}

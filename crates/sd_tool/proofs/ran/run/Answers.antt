@@ -6,6 +6,6 @@ use Rattle.sd_tool.proofs.Ended.{says_run}
 use Rattle.sd_tool.proofs.ran.run.Goals as goal
 
 pub returns : goal.returns
-returns c =
+returns g c =
     let none : c.new.result.items ≡ [] = search rules in
-    says_run (work_of c.args.opened) c.args.turns (steps_told c.new.result.items) (outcome_of c.in_ok-end.end) (ap steps_told none) c.in_ok-end.ensures
+    says_run (work_of c.args.kept.work) c.args.asked.turns (steps_told c.new.result.items) (outcome_of c.in_ok-end.end) (ap steps_told none) c.in_ok-end.ensures

@@ -1,0 +1,6 @@
+use Rattle.clap.specs.Words.{app_of}
+use Rattle.sd_words.proofs.Parsing.{simple}
+use Rattle.sd_words.proofs.parsed.parse.Goals as goal
+
+pub returns-in-Ok : goal.returns-in-Ok
+returns-in-Ok c = (c.in-Ok.ensures.kinds c.requires, (c.in-Ok.ensures.matches (simple (app_of c.args.command) c.requires)).0)
