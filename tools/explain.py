@@ -69,12 +69,12 @@ def is_passed_on(piece):
         return False
 
 
-def file_of(words, at):
+def file_of(files, at):
     """Returns the bytes of a file that a call names, or nothing where they are many or cannot be read again."""
     try:
-        if not os.path.isfile(words[at]) or os.path.getsize(words[at]) > MOST_BYTES:
+        if not os.path.isfile(files[at]) or os.path.getsize(files[at]) > MOST_BYTES:
             return None
-        with open(words[at], "rb") as file:
+        with open(files[at], "rb") as file:
             return file.read()
     except (IndexError, OSError, ValueError):
         return None
@@ -100,12 +100,13 @@ def lines_of(status, last, words):
     package = types.ModuleType("luthkemb")
     package.__path__ = [os.path.join(TOP, "python/luthkemb")]
     sys.modules["luthkemb"] = package
-    from luthkemb.explanations import explained
+    from luthkemb.explanations import explained, parted
 
+    files = parted(words)[0]
     said = last.decode(errors="replace").removesuffix("\n").rpartition("\n")[2]
     # What is given tells of refused arrays alone.
-    given = [given_in(file_of(words, 2))] if status == ARRAYS_REFUSED else []
-    return explained(status, said, words, file_of(words, 1), *given)
+    given = [given_in(file_of(files, 1))] if status == ARRAYS_REFUSED else []
+    return explained(status, said, words, file_of(files, 0), *given)
 
 
 def explain(status, last, words):

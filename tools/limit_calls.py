@@ -1,6 +1,6 @@
 """What a call of run_limits.py is, the cases by their names, and how their sources, files and answers are written.
 
-A case is a function that yields its calls (limit_cases.py, limit_sources.py, limit_counts.py, limit_shapes.py). Nothing asks the program:
+A case is a function that yields its calls (limit_cases.py, limit_chains.py, limit_sources.py, limit_counts.py, limit_shapes.py). Nothing asks the program:
 sums, products and differences are those of Python taken modulo 2^64, and orders of moves are kept as lists.
 """
 from __future__ import annotations

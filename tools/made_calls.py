@@ -16,6 +16,30 @@ RUN = "run a.py a.json"
 BYTES = 2**20
 ELEMENTS = 2**24
 
+# The most bytes of a chain file, and the most of its lines that are steps.
+CHAIN_BYTES = 2**16
+STEPS = 256
+CHAINED = "matches a.py a.json --chain c"
+TWO = b"""@dace.program
+def two(A: dace.int64[2, 2], B: dace.int64[2, 2]):
+    for i in dace.map[0:2]:
+        for j in dace.map[0:2]:
+            B[i, j] = A[i, j]
+"""
+TWO_ARRAYS = b'{"A":[[1,2],[3,4]],"B":[[0,0],[0,0]]}'
+COLLAPSED, EXPANDED = b"MapExpansion 1.1\n", b"MapCollapse 1.1\n"
+
+
+def turned(steps):
+    """Returns a chain file of so many steps, which make one map of two and two of one in turn."""
+    return b"".join((EXPANDED, COLLAPSED)[at % 2] for at in range(steps))
+
+
+def chained(what, chain, status, printed):
+    """Returns a call that tells the rewrites which may be done on the graph behind a chain."""
+    return what, CHAINED, {"a.py": TWO, "a.json": TWO_ARRAYS, "c": chain}, status, printed
+
+
 ONE = b"""N = dace.symbol('N')
 @dace.program
 def one(A: dace.int64[N]):
@@ -50,4 +74,18 @@ MADE += [
         4,
         b"arrays error 19 A\n",
     ),
+]
+MADE += [
+    chained("a chain of 255 steps is done", turned(STEPS - 1), 0, COLLAPSED),
+    chained("a chain of 256 steps is done", turned(STEPS), 0, EXPANDED),
+    chained("a step more is refused", turned(STEPS + 1), 5, b"chain refused at line 257\n"),
+    chained("other lines are no steps", b"\n# a comment\n" * 200 + turned(STEPS), 0, EXPANDED),
+    chained("a step more is refused by its line", b"\n# a comment\n" * 200 + turned(STEPS + 2), 5, b"chain refused at line 657\n"),
+    chained("a line that is no form goes before a step too many", turned(100) + b"x\n" + turned(STEPS), 5, b"chain refused at line 101\n"),
+    chained("a chain file of 2^16 bytes is read", turned(1).ljust(CHAIN_BYTES, b"\n"), 0, COLLAPSED),
+    chained("a comment of 2^16 bytes is read", b"#".ljust(CHAIN_BYTES, b"\xff"), 0, EXPANDED),
+    chained("a chain file of one byte more is too long", turned(1).ljust(CHAIN_BYTES + 1, b"\n"), 11, b"too long c\n"),
+    chained("a chain file that is too long is not looked at", b"x\n".ljust(CHAIN_BYTES + 1, b"\n"), 11, b"too long c\n"),
+    chained("a path of many numbers leads to no map", b"MapCollapse 1" + b".1" * 30000, 5, b"chain refused at line 1 condition 1\n"),
+    chained("a number of many zeros is read", b"MapCollapse " + b"0" * 60000 + b"1.1", 0, COLLAPSED),
 ]

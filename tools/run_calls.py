@@ -1,6 +1,8 @@
 #!/usr/bin/env python3
 """Runs the calls of the tables in tools/calls, and those of made_calls.py, and compares what is written, byte for byte.
 
+Each `run` among them is also done by several workers, and has to print the same (worker_calls.py).
+
 A table begins with lines that say what it shows. These lines begin its sections:
   === WORDS            a case, and what it shows in words
   --- FILE             the content of a file, written before the calls behind it
@@ -30,6 +32,7 @@ from pathlib import Path
 
 from made_calls import MADE
 from table import text_of
+from worker_calls import by_workers
 
 TOP = Path(__file__).resolve().parent.parent
 TABLES = TOP / "tools/calls"
@@ -150,14 +153,14 @@ def difference(call: Call, program: Path = PROGRAM) -> list[str]:
 
 
 def read() -> list[Call]:
-    """Returns the calls of all tables, and those that are made."""
+    """Returns the calls of all tables, those that are made, and each run by several workers."""
     calls = [Call(f"tools/made_calls.py: {it[0]}: {it[1]}", shlex.split(it[1]), *it[2:]) for it in MADE]
     for path in sorted(TABLES.glob("*.txt")):
         try:
             calls += table(path.name, path.read_text())
         except NoTable as why:
             sys.exit(f"tools/calls/{path.name}: {why}")
-    return calls
+    return calls + list(by_workers(calls))
 
 
 def main() -> int:

@@ -1,7 +1,7 @@
 #!/usr/bin/env python3
 """Runs calls at the limits of the language and of its files, and compares what is written with what Python works out.
 
-limit_cases.py, limit_sources.py, limit_counts.py and limit_shapes.py have the calls.
+limit_cases.py, limit_chains.py, limit_sources.py, limit_counts.py and limit_shapes.py have the calls.
 
 Each call runs in a new folder, with no input, within 120 seconds. Its status and its output are compared byte for byte, and how the
 output is written: each line is one write, and one of more than 4,096 bytes goes in pieces of 4,096. Where the system has no pipes that
@@ -23,6 +23,7 @@ from pathlib import Path
 from threading import Timer
 
 import limit_cases  # noqa: F401
+import limit_chains  # noqa: F401
 import limit_counts  # noqa: F401
 import limit_shapes  # noqa: F401
 import limit_sources  # noqa: F401

@@ -10,6 +10,7 @@ from pathlib import Path
 sys.path.insert(0, str(Path(__file__).resolve().parent))
 
 from run_calls import Call, NoTable, difference, table  # noqa: E402
+from worker_calls import WORKERS, by_workers  # noqa: E402
 
 TABLE = """What it shows.
 --- both
@@ -74,6 +75,31 @@ class TheCallsOfATable(unittest.TestCase):
         ):
             with self.subTest(text), self.assertRaises(NoTable):
                 table("t.txt", text)
+
+
+class RunsByWorkers(unittest.TestCase):
+    def of(self, words: str, status: int = 0) -> list[Call]:
+        return list(by_workers([Call("place", words.split(), {"f": b""}, status, b"A[1] = 2\n")]))
+
+    def test_a_run_is_done_by_each_number_of_workers_and_prints_the_same(self) -> None:
+        found = self.of("run a.py a.json --chain c", 8)
+        self.assertEqual([call.words[-2:] for call in found], [["--workers", str(count)] for count in WORKERS])
+        self.assertEqual({(*call.words[:-2], call.status, call.printed) for call in found}, {("run", "a.py", "a.json", "--chain", "c", 8, b"A[1] = 2\n")})
+        self.assertEqual(len({call.place for call in found}), len(WORKERS))
+
+    def test_no_other_call_is_done_by_workers(self) -> None:
+        for words, status in (
+            ("step a.py a.json p", 0),
+            ("print a.py a.json", 0),
+            ("run a.py a.json", 3),
+            ("run a.py", 2),
+            ("run a.py a.json --workers 2", 0),
+            ("run a.py a.json --workers=2", 0),
+            ("run -- a.py a.json", 0),
+            ("", 2),
+        ):
+            with self.subTest(words):
+                self.assertEqual(self.of(words, status), [])
 
 
 class WhatDiffers(unittest.TestCase):

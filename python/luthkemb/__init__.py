@@ -3,10 +3,10 @@
 A function under `@dace.program` of the stand-in `luthkemb.dace` is called as in DaCe: `inc(A, B)` changes its arrays in place, and
 `inc.to_sdfg(N=5)` gives its graph. `run(program, turns=2**40, **sizes_and_arrays)` gives the arrays after the run instead, of such a
 function, a path or a text: NumPy arrays where such were given, else lists. `graph(program, **sizes_and_arrays)` gives the graph
-that is run, which a notebook draws, `check(program, **sizes_and_arrays)` makes its race check, and `matches` tells the rewrites
-that may be done on it. `step(program, picks=(), ..)`
-runs it in an order that is picked, to the same end. Sizes that follow from the shapes of arrays need not be given. What the
-program refuses is raised, by a class for each status.
+that is run, which a notebook draws, `check(program, **sizes_and_arrays)` makes its race check, `plan` tells how workers come to its
+containers, and `matches` the rewrites that may be done on it. `step(program, picks=(), ..)` runs it in an order that is picked, to
+the same end. With `chain=[MapExpansion('1.1')]` each of them rewrites the graph first, and `run(.., workers=4)` has several workers.
+Sizes that follow from the shapes of arrays need not be given. What the program refuses is raised, by a class for each status.
 """
 from . import dace
 from .accesses import ScopeAccess
@@ -14,11 +14,13 @@ from .commands import CALLS
 from .graphs import SDFG
 from .moves import After, Move
 from .picture import Picture
+from .plans import Planned
 from .refusals import (
     Access,
     ArraysRefused,
     ArraysTooLong,
     BadWords,
+    ChainRefused,
     DoesNotFit,
     Fault,
     Frame,
@@ -26,7 +28,6 @@ from .refusals import (
     LuthkembError,
     NotBuilt,
     NotInLanguage,
-    NotThereYet,
     OutOfMemory,
     PicksRefused,
     ProgramFailed,
@@ -48,6 +49,7 @@ __all__ = [
     "ArraysRefused",
     "ArraysTooLong",
     "BadWords",
+    "ChainRefused",
     "DoesNotFit",
     "Fault",
     "Frame",
@@ -58,10 +60,10 @@ __all__ = [
     "Move",
     "NotBuilt",
     "NotInLanguage",
-    "NotThereYet",
     "OutOfMemory",
     "PicksRefused",
     "Picture",
+    "Planned",
     "ProgramFailed",
     "ProgramNotFound",
     "Race",

@@ -3,7 +3,7 @@ from __future__ import annotations
 
 from dataclasses import replace
 from itertools import combinations
-from typing import Any, BinaryIO, Iterator, Mapping, Optional
+from typing import Any, BinaryIO, Iterator, Mapping
 
 from .arrays import is_numpy, read_into, read_some
 from .commands import COMMANDS, Entries
@@ -12,7 +12,7 @@ from .refusals import DoesNotFit
 from .sizes import Signature
 from .sources import source_of
 
-def call(program: Program, arrays: tuple[Any, ...], turns: Optional[int], given: Entries) -> None:
+def call(program: Program, arrays: tuple[Any, ...], keywords: Entries, given: Entries) -> None:
     """Runs a program on arrays, by their places or names, and changes them, or raises and changes none of them."""
     source = source_of(program)
     names = list(Signature.of(source.text()).arguments) or list(program.function.__code__.co_varnames[: len(arrays)])
@@ -21,7 +21,7 @@ def call(program: Program, arrays: tuple[Any, ...], turns: Optional[int], given:
     _no_two_share(changed)
     only_read = {name: entries[name] for name in names if name not in changed}
     command = replace(COMMANDS["run"], answer=lambda output, _: _change(output, changed, only_read))
-    command.called(source, {**command.keywords(), "turns": turns}, entries)
+    command.called(source, keywords, entries)
 
 
 def _change(output: BinaryIO, changed: Entries, only_read: Entries) -> None:

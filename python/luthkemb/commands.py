@@ -12,9 +12,10 @@ from .accesses import ScopeAccess, read_accesses
 from .arrays import in_lists, read_arrays, shapes_and_sizes, write_entries
 from .moves import After, picks_file, read_moves
 from .picture import Picture
+from .plans import Planned, read_plan
 from .programs import ended
 from .refusals import MOST_BYTES, LuthkembError, ProgramFailed, refusal
-from .rewrites import Rewrite, read_rewrites
+from .rewrites import Rewrite, chain_file, read_rewrites
 from .sizes import Signature
 from .sources import Given, Source, source_of
 
@@ -23,7 +24,7 @@ Entries = Mapping[str, Any]
 
 @dataclass(frozen=True)
 class Option:
-    """An option: its word, how its value is written as the word behind it, and its default; a file of it may go to the folder.
+    """An option: its word, how its value is written behind it, and its default; a file of it may go to the folder.
 
     A flag has no value, and is there or not.
     """
@@ -41,7 +42,7 @@ class Option:
         if self.written is None:
             return [self.word] * bool(value)
         value = self.value if value is None else value
-        return [] if value is None else [self.word, self.written(value, folder)]
+        return [] if value is None else [f"{self.word}={self.written(value, folder)}"]
 
 
 @dataclass(frozen=True)
@@ -74,7 +75,7 @@ class Command:
             status = ended(self._words(source, keywords, entries, Path(made)), output)
             output.seek(0)
             if status != 0:
-                raise refusal(status, output, source, shapes_and_sizes(entries))
+                raise refusal(status, output, source, shapes_and_sizes(entries), keywords.get("chain") is not None)
             try:
                 return self.answer(output, given)
             except LuthkembError:
@@ -84,14 +85,14 @@ class Command:
                 raise ProgramFailed(status, output.read(MOST_BYTES).decode(errors="replace")) from wrong
 
     def _words(self, source: Source, keywords: Entries, entries: Entries, folder: Path) -> list[str]:
-        """Gives the words of a call; what has no file yet is written to the folder."""
+        """Gives the words of a call; what has no file yet is written to the folder. Behind `--` any name is a file's."""
         arrays = folder / "arrays.json"
         write_entries(arrays, entries)
-        words = [self.word, source.file_in(folder), str(arrays)]
-        words += [file.named(keywords[name], folder) for name, file in self.files.items()]
+        words = [self.word]
         for name, option in self.options.items():
             words += option.words(keywords[name], folder)
-        return words
+        words += ["--", source.file_in(folder), str(arrays)]
+        return words + [file.named(keywords[name], folder) for name, file in self.files.items()]
 
 
 def call_of(name: str, command: Command) -> Callable[..., Any]:
@@ -100,7 +101,8 @@ def call_of(name: str, command: Command) -> Callable[..., Any]:
     def call(program: Given, /, **given: Any) -> Any:
         keywords = {it: given.pop(it, default) for it, default in command.keywords().items()}
         answer = command.called(program, keywords, given)
-        if isinstance(answer, Picture):
+        # The words of a source are drawn at its own nodes alone.
+        if isinstance(answer, Picture) and keywords["chain"] is None:
             answer.source = source_of(program).text()
         return answer
 
@@ -138,6 +140,11 @@ def read_matches(output: BinaryIO, _: Entries) -> list[Rewrite]:
     return read_rewrites(output.read().decode())
 
 
+def read_planned(output: BinaryIO, _: Entries) -> list[Planned]:
+    """Gives the plan of a graph, or raises `ValueError`."""
+    return read_plan(output.read().decode())
+
+
 def read_step(output: BinaryIO, given: Entries) -> After:
     """Gives the arrays after a run by picks, with its moves, or raises `ValueError`."""
     moves = read_moves(output)
@@ -151,34 +158,45 @@ def number(value: Any, _: Path) -> str:
 
 MOST_TURNS = 2**40
 TURNS = Option("--turns", number, MOST_TURNS)
+WORKERS = Option("--workers", number, 1)
+CHAIN = Option("--chain", chain_file)
 COMMANDS: dict[str, Command] = {
     "run": Command(
         "run",
         read_arrays,
         "Runs a program on arrays and gives them after the run, by name.",
-        {"turns": TURNS},
+        {"chain": CHAIN, "workers": WORKERS, "turns": TURNS},
     ),
     "step": Command(
         "step",
         read_step,
         "Runs a program move by move, as picks choose, and gives the arrays after the run, by name.",
-        {"turns": TURNS, "trace": Option("--trace")},
+        {"chain": CHAIN, "turns": TURNS, "trace": Option("--trace")},
         {"picks": File((), picks_file)},
     ),
     "graph": Command(
         "print",
         read_picture,
         "Gives the graph of a program, with the sizes of these arrays; it prints as its text, and a notebook draws it.",
+        {"chain": CHAIN},
     ),
     "check": Command(
         "check",
         read_check,
         "Makes the race check of a program, with the sizes of these arrays, and gives what each of its scopes accesses.",
+        {"chain": CHAIN},
+    ),
+    "plan": Command(
+        "plan",
+        read_planned,
+        "Gives how the pieces of each map come to its containers, with the sizes of these arrays, where the race check accepts.",
+        {"chain": CHAIN},
     ),
     "matches": Command(
         "matches",
         read_matches,
         "Gives each rewrite that may be done on the graph of a program, with the sizes of these arrays.",
+        {"chain": CHAIN},
     ),
 }
 CALLS = {name: call_of(name, command) for name, command in COMMANDS.items()}

@@ -26,6 +26,7 @@ from .refusals import NotInLanguage
 
 if TYPE_CHECKING:
     from .graphs import SDFG
+    from .rewrites import Chain
 
 __all__ = ["int64", "program", "symbol"]
 
@@ -120,11 +121,13 @@ class Program:
         linecache.checkcache(self.file)
         return linecache.getlines(self.file, self.function.__globals__)
 
-    def __call__(self, *arrays: Any, turns: Optional[int] = None, **sizes_and_arrays: Any) -> None:
+    def __call__(
+        self, *arrays: Any, chain: Optional[Chain] = None, workers: int = 1, turns: Optional[int] = None, **sizes_and_arrays: Any
+    ) -> None:
         """Runs the program, and changes the arrays that it is given in place."""
         from .calls import call
 
-        call(self, arrays, turns, sizes_and_arrays)
+        call(self, arrays, {"chain": chain, "workers": workers, "turns": turns}, sizes_and_arrays)
 
     def to_sdfg(self, **sizes: Any) -> SDFG:
         """Gives the graph of the program with these sizes; arrays that are not given are taken to be zeros."""

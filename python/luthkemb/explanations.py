@@ -41,13 +41,24 @@ STATUSES: Mapping[int, str] = {
     2: "the words of the call are not those of a command",
     3: "the source is refused",
     4: "the arrays file, its sizes or its shapes are refused",
-    5: "the word is no whole number from 0 to 2^64-1",
+    5: "a pick is no whole number from 0 to 2^64-1, or a line of the chain is no step, or one that cannot be done",
     6: "two points or elements of a scope may touch the same, and do not both read it or both resolve it alike",
     7: "the run has a fault",
     8: "the run wants more turns than it may spend",
     9: "the file is missing or cannot be read",
     10: "the program could not write its answer",
     11: "the file is longer than its limit",
+}
+# What a refused pick means, and a line of a chain that is none.
+PICK = "the word is no whole number from 0 to 2^64-1"
+NO_STEP = "the line is no step of a chain, or one more than 256"
+# What a condition of a step asks that is not so.
+CONDITIONS: Mapping[Optional[int], str] = {
+    None: NO_STEP,
+    1: "the path leads to no map of the graph behind the lines before; `print` with these tells its nodes",
+    2: "to collapse: something else than one map stands in the map, or it has a container of its own; to expand: it has one parameter",
+    3: "a range of the inner map names a parameter of the outer one",
+    9: "the new graph would pass a limit: 8 parameters of a map, 7 scopes and loops about a statement, 1,024 nodes of a state",
 }
 # What helps against a status, where one thing does.
 HELP: Mapping[int, str] = {
@@ -56,7 +67,7 @@ HELP: Mapping[int, str] = {
     8: "`--turns B`, from Python `turns=B`, gives a run up to 2^40 turns. A turn is an instance of a tasklet or a round of a loop.",
     9: "Names of files are looked up in the folder of the call.",
     10: "The disk is full, or the reader of the output has ended.",
-    11: "A source has at most 2^20 bytes, an arrays file 2^26, a picks file 2^24.",
+    11: "A source has at most 2^20 bytes, an arrays file 2^26, a chain file 2^16, a picks file 2^24.",
 }
 # What helps against an error of arrays and sizes, where one thing does.
 ARRAYS_HELP: Mapping[int, str] = {
@@ -66,15 +77,21 @@ ARRAYS_HELP: Mapping[int, str] = {
 }
 USAGE: Sequence[str] = (
     "sdfg run SOURCE ARRAYS",
-    "sdfg run SOURCE ARRAYS --turns B",
+    "sdfg run SOURCE ARRAYS --chain F --workers W --turns B",
     "sdfg step SOURCE ARRAYS PICKS",
-    "sdfg step SOURCE ARRAYS PICKS --turns B --trace",
-    "sdfg print SOURCE ARRAYS",
-    "sdfg check SOURCE ARRAYS",
-    "sdfg matches SOURCE ARRAYS",
+    "sdfg step SOURCE ARRAYS PICKS --chain F --turns B --trace",
+    "sdfg print SOURCE ARRAYS --chain F",
+    "sdfg check SOURCE ARRAYS --chain F",
+    "sdfg plan SOURCE ARRAYS --chain F",
+    "sdfg matches SOURCE ARRAYS --chain F",
 )
-FILES = {"run": 2, "step": 3, "print": 2, "check": 2, "matches": 2}
-MOST_TURNS = 2**40
+FILES = {"run": ("SOURCE", "ARRAYS"), "step": ("SOURCE", "ARRAYS", "PICKS")}
+FILES.update({it: FILES["run"] for it in ("print", "check", "plan", "matches")})
+# The greatest number of an option, of those that have one; and the flag, which has no value.
+MOST = {"--turns": ("2^40", 2**40), "--workers": ("64", 64)}
+FLAG = "--trace"
+OPTIONS = {it: ("--chain",) for it in FILES}
+OPTIONS.update({"run": ("--chain", "--workers", "--turns"), "step": ("--chain", "--turns", FLAG)})
 Line = Callable[[int], int]
 # Text of a file that a terminal would take for more than text.
 CONTROL = re.compile(r"[\x00-\x08\x0b-\x1f\x7f-\x9f]")
@@ -177,43 +194,67 @@ def of_words(words: Sequence[str]) -> Iterator[str]:
         yield wrong
     yield "Usage:"
     yield from (f"  {it}" for it in USAGE)
-    yield "B is a number of turns from 1 to 2^40. docs/COMMANDS.md tells what each does."
+    yield "F is a chain file, W workers from 1 to 64, B turns from 1 to 2^40. docs/COMMANDS.md tells what each does."
 
 
 def _wrong_word(words: Sequence[str]) -> str:
     if not words or words[0] in ("--help", "-h", "help", "--version"):
         return ""
-    command, *rest = words
+    command = words[0]
     if command not in FILES:
         near = difflib.get_close_matches(command, FILES, 1)
         return f"`{command}` is no command{f'; `{near[0]}` is' if near else ''}."
-    files = list(rest[: FILES[command]])
-    for at, it in enumerate(files):
-        if it.startswith("-") or not it:
-            return f"`{it}` stands where the name of {('SOURCE', 'ARRAYS', 'PICKS')[at]} does: options stand behind the files."
-    if len(files) < FILES[command]:
-        return f"The name of {('SOURCE', 'ARRAYS', 'PICKS')[len(files)]} is missing."
-    return _wrong_option(command, rest[FILES[command] :])
+    files, options = parted(words)
+    names = FILES[command]
+    for wrong in (_wrong_option(command, options, at) for at in range(len(options))):
+        if wrong:
+            return wrong
+    if len(files) < len(names):
+        return f"The name of {names[len(files)]} is missing."
+    return f"`{files[len(names)]}` is a file too many: `{command}` has {', '.join(names)}." if len(files) > len(names) else ""
 
 
-def _wrong_option(command: str, options: Sequence[str]) -> str:
-    if command in ("print", "check", "matches") and options:
-        return f"`{command}` has two files and no options."
-    known = ["--turns", "--trace"] if command == "step" else ["--turns"]
-    at = 0
-    while at < len(options):
-        it = options[at]
-        if it not in known:
-            near = difflib.get_close_matches(it.split("=")[0], known, 1)
-            return f"`{it}` is no option of `{command}`{f'; `{near[0]}` is' if near else ''}."
-        known.remove(it)
-        if it == "--turns":
-            at += 1
-            value = options[at] if at < len(options) else ""
-            if not (value.isascii() and value.isdigit() and 0 < int(value) <= MOST_TURNS):
-                return f"Behind `--turns` stands a number from 1 to 2^40, and not `{value}`."
-        at += 1
-    return ""
+def parted(words: Sequence[str]) -> tuple[list[str], list[tuple[str, Optional[str]]]]:
+    """Gives the files of a call, which stand anywhere behind its command, and its options, each with its value where it has one."""
+    files: list[str] = []
+    options: list[tuple[str, Optional[str]]] = []
+    rest = list(words[1:])
+    while rest:
+        word = rest.pop(0)
+        if word == "--":
+            return files + rest, options
+        if len(word) < 2 or word[0] != "-":
+            files.append(word)
+            continue
+        name, has_value, value = word.partition("=")
+        options.append((name, value if has_value else rest.pop(0) if rest and _is_value(name, rest[0]) else None))
+    return files, options
+
+
+def _is_value(name: str, word: str) -> bool:
+    """Tells whether a word behind the name of an option is its value; a number with a sign is meant as one."""
+    if name == "--chain":
+        return len(word) < 2 or word[0] != "-"
+    return name in MOST and word.partition("=")[0] not in ("--", "--chain", FLAG, *MOST)
+
+
+def _wrong_option(command: str, options: Sequence[tuple[str, Optional[str]]], at: int) -> str:
+    name, value = options[at]
+    known = OPTIONS[command]
+    if name not in known:
+        near = difflib.get_close_matches(name, known, 1)
+        instead = f"; `{near[0]}` is" if near else "; behind `--` such a word is a file" if name[:2] != "--" else ""
+        return f"`{name}` is no option of `{command}`{instead}."
+    if name in (before for before, _ in options[:at]):
+        return f"`{name}` stands twice."
+    if name == FLAG:
+        return "" if value is None else f"`{FLAG}` has no value."
+    if name not in MOST:
+        return f"Behind `{name}` stands the name of a file." if value is None else ""
+    shown, most = MOST[name]
+    value = value or ""
+    fits = value.isascii() and value.isdigit() and 0 < int(value) <= most
+    return "" if fits else f"Behind `{name}` stands a number from 1 to {shown}, and not `{value}`."
 
 
 # Whole answers.
@@ -230,7 +271,9 @@ def explained(
         return []
     if status == 2:
         return list(of_words(words))
-    return [f"sdfg: {meaning_of(status, said)}", *lines_below(status, said, source, same, given)]
+    # Nodes of a graph that is rewritten are none of its source's.
+    is_elsewhere = status == 6 and any(name == "--chain" for name, _ in parted(words)[1])
+    return [f"sdfg: {meaning_of(status, said)}", *lines_below(status, said, None if is_elsewhere else source, same, given)]
 
 
 def lines_below(
@@ -255,7 +298,9 @@ def meaning_of(status: int, said: str) -> str:
     if found:
         table = SOURCE_ERRORS if found[1] == "source" else ARRAYS_ERRORS
         return table.get(int(found[2]), STATUSES[status])
-    return STATUSES[status]
+    if found := re.fullmatch(r"chain refused at line \d+(?: condition (\d+))?", said):
+        return CONDITIONS.get(int(found[1]) if found[1] else None, STATUSES[status])
+    return PICK if said.startswith("picks refused") else STATUSES[status]
 
 
 def _place(status: int, said: str, source: bytes, shown: Line) -> Iterator[str]:

@@ -6,15 +6,15 @@ import os
 import tempfile
 import webbrowser
 from pathlib import Path
-from typing import Any, Optional, Union
+from typing import Any, Optional, Sequence, Union
 
 from .accesses import ScopeAccess
 from .arrays import Shape, Zeros, is_size
 from .commands import COMMANDS, Entries
 from .dace import Program
 from .picture import FORMATS, Picture
-from .refusals import NotThereYet
-from .rewrites import Rewrite
+from .plans import Planned
+from .rewrites import Rewrite, checked
 from .sizes import Signature
 from .sources import Source, source_of
 
@@ -26,19 +26,25 @@ FileName = Union[str, "os.PathLike[str]"]
 class SDFG(Picture):
     """The graph of a program with its sizes. It prints as its text, and a notebook draws it."""
 
-    def __init__(self, text: str, source: Source, entries: Entries) -> None:
+    def __init__(self, text: str, source: Source, entries: Entries, chain: Sequence[Rewrite] = ()) -> None:
         super().__init__(text)
-        self.source = source.text()
+        # The words of a source are drawn at its own nodes alone.
+        self.source = None if chain else source.text()
+        self.chain = tuple(chain)
         self._source = source
         self._entries = dict(entries)
 
     def check(self) -> list[ScopeAccess]:
         """Makes the race check, and gives what each scope accesses, or raises `Race`."""
-        return _called("check", self._source, self._entries)
+        return _called("check", self._source, self._entries, self.chain)
+
+    def plan(self) -> list[Planned]:
+        """Gives how the pieces of each map come to its containers, or raises `Race`."""
+        return _called("plan", self._source, self._entries, self.chain)
 
     def matches(self) -> list[Rewrite]:
         """Gives each rewrite that may be done on the graph."""
-        return _called("matches", self._source, self._entries)
+        return _called("matches", self._source, self._entries, self.chain)
 
     def save(self, name: FileName) -> None:
         """Writes the graph to a file: as a picture where its ending is that of one, as text for Graphviz or Mermaid, or as its text."""
@@ -61,9 +67,10 @@ class SDFG(Picture):
         webbrowser.open(file.as_uri())
         return file
 
-    def apply(self, *rewrites: Any) -> SDFG:
-        """Raises `NotThereYet`: the program cannot rewrite graphs yet."""
-        raise NotThereYet("the program cannot rewrite graphs yet, so no rewrite can be applied: its commands are run, step, print, check and matches")
+    def apply(self, *rewrites: Rewrite) -> SDFG:
+        """Gives the graph with these rewrites done one after another, behind those of its `chain`; this one stays as it is."""
+        chain = (*self.chain, *map(checked, rewrites))
+        return SDFG(_called("graph", self._source, self._entries, chain).text, self._source, self._entries, chain)
 
 
 def graph_of(program: Program, given: Entries) -> SDFG:
@@ -76,8 +83,8 @@ def graph_of(program: Program, given: Entries) -> SDFG:
     return SDFG(_called("graph", source, entries).text, source, entries)
 
 
-def _called(name: str, source: Source, entries: Entries) -> Any:
-    return COMMANDS[name].called(source, COMMANDS[name].keywords(), entries)
+def _called(name: str, source: Source, entries: Entries, chain: Sequence[Rewrite] = ()) -> Any:
+    return COMMANDS[name].called(source, {**COMMANDS[name].keywords(), "chain": chain or None}, entries)
 
 
 def _told(shape: Optional[Shape]) -> Shape:

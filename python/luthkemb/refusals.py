@@ -8,7 +8,7 @@ import re
 from dataclasses import dataclass, field
 from typing import TYPE_CHECKING, BinaryIO, ClassVar, Iterator, Optional
 
-from .explanations import ARRAYS_ERRORS, SOURCE_ERRORS, STATUSES, lines_below, lines_of_race, meaning_of, shapes_in
+from .explanations import ARRAYS_ERRORS, CONDITIONS, SOURCE_ERRORS, STATUSES, lines_below, lines_of_race, meaning_of, shapes_in
 from .moves import Move, read_moves
 from .sizes import NOTHING_GIVEN, Shape, ShapesAndSizes
 
@@ -78,10 +78,6 @@ class FunctionRefused(LuthkembError, ValueError):
 
 class NotInLanguage(LuthkembError, AttributeError):
     """What DaCe has and this language has not, or not here; the text names what there is in its place."""
-
-
-class NotThereYet(LuthkembError, NotImplementedError):
-    """What the program cannot do yet."""
 
 
 class Refused(LuthkembError):
@@ -193,6 +189,31 @@ class PicksRefused(Refused, ValueError):
         return f"picks refused at word {self.word}"
 
 
+@dataclass(eq=False)
+class ChainRefused(Refused, ValueError):
+    """The line of the number `line`, counted from 1, of the chain is refused.
+
+    `condition` is the lowest one of its rewrite that fails on the graph behind the lines before it, and `meaning` what that says. A line
+    that is no step has no condition. Of a chain that is given as rewrites, each stands on a line. Nothing was run.
+    """
+
+    line: int
+    condition: Optional[int]
+    meaning: str
+
+    status = 5
+    form = r"chain refused at line (\d+)(?: condition (\d+))?"
+
+    @classmethod
+    def of(cls, found: re.Match[str], source: Source) -> Refused:
+        condition = int(found[2]) if found[2] else None
+        return cls(int(found[1]), condition, CONDITIONS.get(condition, ""))
+
+    def said(self) -> str:
+        condition = f" condition {self.condition}" if self.condition is not None else ""
+        return f"chain refused at line {self.line}{condition}: {self.meaning}"
+
+
 @dataclass(frozen=True)
 class Access:
     """What the node of this number does to a container of its graph.
@@ -214,7 +235,7 @@ class Race(Refused):
 
     `scope` is the path of the scope, of states and nodes, and `first` and `second` are its first two accesses that the
     check does not accept together. `lines` are those of the scope and of the two accesses, counted in `file`, or in the text
-    where there is none; a line that is not known is none. Nothing was run.
+    where there is none; a line that is not known is none, as each one of a rewritten graph. Nothing was run.
     """
 
     scope: str
@@ -310,7 +331,7 @@ class WriteFault(Refused):
 
 @dataclass(eq=False)
 class TooLong(Refused):
-    """The file `name` is longer than its limit: 2^20 bytes for a source, 2^26 for arrays, 2^24 for picks."""
+    """The file `name` is longer than its limit: 2^20 bytes for a source, 2^26 for arrays, 2^16 for a chain, 2^24 for picks."""
 
     name: str
 
@@ -343,6 +364,7 @@ KINDS: tuple[type[Refused], ...] = (
     SourceRefused,
     ArraysRefused,
     PicksRefused,
+    ChainRefused,
     Race,
     Fault,
     TurnsSpent,
@@ -350,9 +372,10 @@ KINDS: tuple[type[Refused], ...] = (
     WriteFault,
     TooLong,
 )
-REFUSALS = {it.status: it for it in KINDS}
+# What was written before memory or the output was wanting is left.
+CUT_OFF = (OutOfMemory, WriteFault)
 # The texts of these have their meaning.
-SAYING = (OutOfMemory, BadWords, SourceRefused, ArraysRefused, WriteFault)
+SAYING = (OutOfMemory, BadWords, SourceRefused, ArraysRefused, ChainRefused, WriteFault)
 
 
 def _frame(text: str, source: Source) -> Frame:
@@ -362,17 +385,23 @@ def _frame(text: str, source: Source) -> Frame:
     return Frame(place.line, {name: int(value) for name, value in pairs}, place.file)
 
 
-def refusal(status: int, output: BinaryIO, source: Source, given: ShapesAndSizes = NOTHING_GIVEN) -> LuthkembError:
-    """Gives what is raised for an end with this status, which is not 0, and this output, which is read, of a call with these entries."""
+def refusal(
+    status: int, output: BinaryIO, source: Source, given: ShapesAndSizes = NOTHING_GIVEN, is_rewritten: bool = False
+) -> LuthkembError:
+    """Gives what is raised for an end with this status, which is not 0, and this output, which is read, of a call with these entries.
+
+    Nodes of a graph that is rewritten are none of its source's.
+    """
     if status == NotBuilt.status:
         return NotBuilt()
     moves = read_moves(output)
     said = output.read(MOST_BYTES).decode(errors="replace")
-    kind = REFUSALS.get(status)
-    # What was written before memory or the output was wanting is left.
-    last = "" if kind in (OutOfMemory, WriteFault) else said.removesuffix("\n")
-    found = re.fullmatch(kind.form, last, re.DOTALL) if kind else None
-    if kind is None or found is None:
+    for kind in (it for it in KINDS if it.status == status):
+        last = "" if kind in CUT_OFF else said.removesuffix("\n")
+        found = re.fullmatch(kind.form, last, re.DOTALL)
+        if found:
+            break
+    else:
         return ProgramFailed(status, said)
     try:
         refused = kind.of(found, source)
@@ -381,12 +410,18 @@ def refusal(status: int, output: BinaryIO, source: Source, given: ShapesAndSizes
     refused.moves = moves
     if isinstance(refused, ArraysRefused):
         refused.shape, refused.wanted = shapes_in(last, source.text(), given) or (None, None)
-    refused.explanation = tuple(_explanation(kind, last, source, given))
+    is_elsewhere = is_rewritten and isinstance(refused, Race)
+    if is_elsewhere:
+        refused.lines = (None, None, None)
+    refused.explanation = tuple(_explanation(kind, last, None if is_elsewhere else source, given))
     return refused
 
 
-def _explanation(kind: type[Refused], said: str, source: Source, given: ShapesAndSizes) -> Iterator[str]:
+def _explanation(kind: type[Refused], said: str, source: Optional[Source], given: ShapesAndSizes) -> Iterator[str]:
     """Gives what a line of the program means, where its text does not say that itself, and what stands below it."""
     if kind not in SAYING:
         yield meaning_of(kind.status, said)
-    yield from lines_below(kind.status, said, source.text(), lambda line: source.origin(line).line, given)
+    if source is None:
+        yield from lines_below(kind.status, said, None)
+    else:
+        yield from lines_below(kind.status, said, source.text(), lambda line: source.origin(line).line, given)

@@ -1,8 +1,11 @@
 """Rewrites of graphs, as values that print as lines of a chain file."""
 from __future__ import annotations
 
+import os
 import re
 from dataclasses import dataclass
+from pathlib import Path
+from typing import Iterable, Union
 
 PATH = re.compile(r"\d+(?:\.\d+)*", re.ASCII)
 
@@ -30,6 +33,25 @@ class MapExpansion(Rewrite):
 
 
 REWRITES = {it.__name__: it for it in (MapCollapse, MapExpansion)}
+
+
+Chain = Union[str, "os.PathLike[str]", Iterable[Rewrite]]
+
+
+def chain_file(chain: Chain, folder: Path) -> str:
+    """Gives the name of the file of these rewrites: of a path the path, and else of one that is written to the folder."""
+    if isinstance(chain, (str, os.PathLike)):
+        return os.fspath(chain)
+    file = folder / "chain"
+    file.write_text("".join(f"{checked(it)}\n" for it in chain), encoding="ascii")
+    return str(file)
+
+
+def checked(rewrite: Rewrite) -> Rewrite:
+    """Gives a rewrite, or raises `TypeError` for what is none."""
+    if not isinstance(rewrite, Rewrite):
+        raise TypeError(f"{rewrite!r} is no rewrite; MapExpansion('1.1') is one")
+    return rewrite
 
 
 def read_rewrites(text: str) -> list[Rewrite]:

@@ -7,7 +7,9 @@
   # fake graph TEXT     the text of the graph, with / between its lines
   # fake check TEXT     what the race check tells, so too
   # fake matches TEXT   the rewrites that may be done, so too
+  # fake plan TEXT      the plan, so too
   # fake moves TEXT     the trace of a run by picks, so too
+  # fake chained ..     each of these for a call with a chain of one step or more, in the place of the others
 
 The true program passes comments over, and comes to the same answer by the rest of the source.
 """
@@ -22,16 +24,20 @@ from pathlib import Path
 from typing import Any, Iterator
 
 LIMITS = (2**20, 2**26, 2**24)
+CHAIN_LIMIT = 2**16
 # How many files and options the words of each command may have.
-FILES = {"run": 2, "print": 2, "check": 2, "matches": 2, "step": 3}
-OPTIONS = {"run": {"--turns"}, "step": {"--turns", "--trace"}}
+FILES = {"run": 2, "print": 2, "check": 2, "plan": 2, "matches": 2, "step": 3}
+OPTIONS = {"run": {"--chain", "--workers", "--turns"}, "step": {"--chain", "--turns", "--trace"}}
+NUMBERS = {"--turns": 2**40, "--workers": 64}
 MOST_TURNS = 10_000_000
+STEP = re.compile(r"(?:MapCollapse|MapExpansion) \d+(?:\.\d+)*", re.ASCII)
 ANSWER = re.compile(r"# fake (-?\d+) ?([^\r\n]*)")
 STATEMENTS = re.compile(r"# fake: (.*)")
 TURNS = re.compile(r"# fake turns (\d+)")
 GRAPH = re.compile(r"# fake graph (.*)")
 CHECK = re.compile(r"# fake check (.*)")
 MATCHES = re.compile(r"# fake matches ?(.*)")
+PLAN = re.compile(r"# fake plan ?(.*)")
 MOVES = re.compile(r"# fake moves (.*)")
 SYMBOL = re.compile(r"^(\w+) = dace\.symbol\('\w+'\)$", re.MULTILINE)
 FUNCTION = re.compile(r"^def \w+\((.*)\):$", re.MULTILINE)
@@ -53,21 +59,41 @@ def read(name: str, most: int) -> str:
     return text.decode(errors="replace")
 
 
-def options_of(words: list[str]) -> dict[str, str]:
-    """Gives the options of a call, those behind its files, with their values."""
-    rest = iter(words[1 + FILES.get("".join(words[:1]), len(words)) :])
-    found = {it: next(rest, "") if it == "--turns" else it for it in rest}
-    turns = found.get("--turns", "1")
-    if not set(found) <= OPTIONS.get(words[0], set()) or not turns.isdecimal() or not 1 <= int(turns) <= 2**40:
-        raise Ended(2, "bad words")
-    return found
+def parted(words: list[str]) -> tuple[list[str], dict[str, str]]:
+    """Gives the files of a call and its options with their values."""
+    files: list[str] = []
+    options: dict[str, str] = {}
+    rest = iter(words)
+    for word in rest:
+        if word == "--":
+            files += rest
+        elif len(word) < 2 or word[0] != "-":
+            files.append(word)
+        else:
+            name, has_value, value = word.partition("=")
+            if name in options or (name == "--trace" and has_value):
+                raise Ended(2, "bad words")
+            options[name] = value if has_value or name == "--trace" else next(rest, "")
+    return files, options
 
 
-def files_of(words: list[str]) -> list[str]:
-    files = words[1 : 1 + FILES.get("".join(words[:1]), 0)]
-    if not files or len(files) != FILES[words[0]] or any(it[:1] in ("", "-") for it in files):
+def read_words(words: list[str]) -> tuple[list[str], dict[str, str]]:
+    command = "".join(words[:1])
+    files, options = parted(words[1:])
+    numbers = [(options[it], most) for it, most in NUMBERS.items() if it in options]
+    if len(files) != FILES.get(command) or not set(options) <= OPTIONS.get(command, {"--chain"}):
         raise Ended(2, "bad words")
-    return files
+    if any(not (it.isascii() and it.isdecimal() and 1 <= int(it) <= most) for it, most in numbers):
+        raise Ended(2, "bad words")
+    return files, options
+
+
+def read_chain(name: str) -> list[str]:
+    lines = read(name, CHAIN_LIMIT).split("\n")
+    for number, line in enumerate(lines, 1):
+        if line.strip(" ") and line[0] != "#" and not STEP.fullmatch(line.strip(" ")):
+            raise Ended(5, f"chain refused at line {number}")
+    return [line for line in lines if line.strip(" ") and line[0] != "#"]
 
 
 def read_picks(name: str) -> None:
@@ -100,9 +126,11 @@ def array_line(name: str, extents: str, names: dict[str, Any]) -> str:
 
 
 def answer(words: list[str]) -> str:
-    files, options = files_of(words), options_of(words)
+    files, options = read_words(words)
     source = read(files[0], LIMITS[0])
     arrays = read(files[1], LIMITS[1])
+    if "--chain" in options and read_chain(options["--chain"]):
+        source = source.replace("# fake chained ", "# fake ")
     found = ANSWER.search(source)
     moves = MOVES.findall(source)[-1].replace("/", "\n") + "\n" if "--trace" in options else ""
     if found:
@@ -124,6 +152,8 @@ def answer(words: list[str]) -> str:
         return GRAPH.findall(source)[-1].replace("/", "\n")
     if words[0] == "check":
         return CHECK.findall(source)[-1].replace("/", "\n")
+    if words[0] == "plan":
+        return PLAN.findall(source)[-1].replace("/", "\n")
     if words[0] == "matches":
         return MATCHES.findall(source)[-1].replace("/", "\n")
     wanted, turns = TURNS.search(source), int(options.get("--turns", MOST_TURNS))

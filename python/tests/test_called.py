@@ -139,7 +139,7 @@ class Lists(Calls):
                 for called in (inc, lambda *it, **more: luthkemb.run(inc, A=it[0], B=it[1], **more)):
                     with self.assertRaises(KeyboardInterrupt):
                         called([1], [0], **given)
-                    self.assertEqual(ended.call_args.args[0][3:], ["--turns", str(2**40)])
+                    self.assertEqual(ended.call_args.args[0][:4], ["run", "--workers=1", f"--turns={2**40}", "--"])
 
 
 @unittest.skipUnless(HAS_NUMPY, "NumPy is not there")
@@ -259,9 +259,10 @@ class Graphs(Calls):
                 self.assertEqual(file.read_text(), "<svg/>")
                 file.unlink()
 
-    def test_no_rewrite_is_applied(self) -> None:
-        with self.assertRaisesRegex(luthkemb.NotThereYet, "cannot rewrite graphs yet"):
-            inc.to_sdfg(N=2).apply("MapFusion")
+    def test_what_is_no_rewrite_is_not_applied(self) -> None:
+        for given in ("MapExpansion 1.1", luthkemb.MapExpansion, None):
+            with self.subTest(given), self.assertRaisesRegex(TypeError, "is no rewrite"):
+                inc.to_sdfg(N=2).apply(given)  # type: ignore
 
 
 class GraphsOnTheProgram(Graphs):

@@ -9,7 +9,20 @@ from typing import Iterator
 from support import TOP, TRUE, Calls
 
 from luthkemb.causes import cause_of
-from luthkemb.explanations import ARRAYS_ERRORS, ARRAYS_HELP, FAULTS, HELP, SOURCE_ERRORS, STATUSES, USAGE, explained, lines_of_race
+from luthkemb.explanations import (
+    ARRAYS_ERRORS,
+    ARRAYS_HELP,
+    CONDITIONS,
+    FAULTS,
+    HELP,
+    PICK,
+    SOURCE_ERRORS,
+    STATUSES,
+    USAGE,
+    explained,
+    lines_of_race,
+    parted,
+)
 from luthkemb.forms import FORMS, USUAL
 from luthkemb.graph_text import graphs_in, read_graph
 from luthkemb.statements import Statements, nodes_of, statements_of
@@ -42,6 +55,7 @@ class TheTables(unittest.TestCase):
         self.assertEqual(self.rows("Errors of a source"), [[str(it), said] for it, said in SOURCE_ERRORS.items()])
         arrays = [[str(it), said, ARRAYS_HELP.get(it, "")] for it, said in ARRAYS_ERRORS.items()]
         self.assertEqual(self.rows("Errors of arrays and sizes"), arrays)
+        self.assertEqual(self.rows("Lines of a chain"), [[str(it or "none"), said] for it, said in CONDITIONS.items()])
         self.assertEqual(self.rows("Faults"), [[it, said] for it, said in FAULTS.items()])
         self.assertEqual(self.rows("Usual lines that are no form"), [[f"`{line}`", said] for line, _, said in USUAL])
 
@@ -170,6 +184,56 @@ class Causes(unittest.TestCase):
         for given in ("1", str(2**40)):
             self.assertEqual(explained(2, "bad words", ["run", "a", "b", "--turns", given], None)[0], "Usage:")
 
+    def test_a_number_of_workers_that_is_none(self) -> None:
+        for given in ("0", "65", "-2", "x", ""):
+            for words in (["--workers", given], [f"--workers={given}"]):
+                told = explained(2, "bad words", ["run", *words, "a", "b"], None)[0]
+                self.assertEqual(told, f"Behind `--workers` stands a number from 1 to 64, and not `{given}`.")
+
+    def test_a_word_that_is_wrong(self) -> None:
+        for words, said in (
+            ("runn a b", "`runn` is no command; `run` is."),
+            ("run a", "The name of ARRAYS is missing."),
+            ("step --trace a b", "The name of PICKS is missing."),
+            ("run a b c", "`c` is a file too many: `run` has SOURCE, ARRAYS."),
+            ("run a -- b -c", "`-c` is a file too many: `run` has SOURCE, ARRAYS."),
+            ("run a -b", "`-b` is no option of `run`; behind `--` such a word is a file."),
+            ("run a b --turn 5", "`--turn` is no option of `run`; `--turns` is."),
+            ("plan a b --turns 5", "`--turns` is no option of `plan`."),
+            ("step a b c --workers 2", "`--workers` is no option of `step`."),
+            ("run --turns 5 a b --turns=6", "`--turns` stands twice."),
+            ("step a b c --trace=1", "`--trace` has no value."),
+            ("run a b --chain", "Behind `--chain` stands the name of a file."),
+            ("run a b --chain --turns 5", "Behind `--chain` stands the name of a file."),
+            ("run a b --chain -c", "Behind `--chain` stands the name of a file."),
+            ("run a b", "Usage:"),
+            ("run --turns 5 --workers=2 a --chain c b", "Usage:"),
+            ("run - --chain=-c -- -a", "Usage:"),
+        ):
+            with self.subTest(words):
+                self.assertEqual(explained(2, "bad words", words.split(), None)[0], said)
+
+    def test_the_files_of_a_call_stand_anywhere_behind_its_command(self) -> None:
+        for words in ("step a b c --trace", "step --trace --turns 5 a --chain=d b c", "step --chain d a -- b c", "step --turns=5 -- a b c"):
+            with self.subTest(words):
+                self.assertEqual(parted(words.split())[0], ["a", "b", "c"])
+        self.assertEqual(parted(["run", "-", "", "--", "-a", "--chain"]), (["-", "", "-a", "--chain"], []))
+
+    def test_a_refused_chain_is_told_by_its_condition(self) -> None:
+        for said, wanted in (
+            ("chain refused at line 3", CONDITIONS[None]),
+            ("chain refused at line 12 condition 9", CONDITIONS[9]),
+            ("picks refused at word 2", PICK),
+        ):
+            self.assertEqual(explained(5, said, ["run", "a", "b", "--chain", "c"], b""), [f"sdfg: {wanted}"])
+
+    def test_a_race_of_a_rewritten_graph_has_no_lines(self) -> None:
+        text = f"{HEAD}    for i in dace.map[0:N-1]:\n        A[i] = A[i + 1]\n".encode()
+        said = "race at 1.1: read A by 2, write A by 2"
+        for words, has_lines in (("run x y", True), ("run --chain c x y", False), ("run x y --chain=c", False), ("run x -- --chain", True)):
+            with self.subTest(words):
+                self.assertEqual(any("A[i + 1]" in it for it in explained(6, said, words.split(), text)), has_lines)
+
     def test_a_source_that_is_none(self) -> None:
         lines = b"    A[0] = 1\n" * 20000
         for text in (b"", b"\xff", b"(" * 3000, b"\x00", b"def f(:\n" * 9, HEAD.encode() + lines + b"    A[0] = = 1\n"):
@@ -200,7 +264,7 @@ class LinesOfNodes(unittest.TestCase):
     def test_they_are_those_of_the_printed_graphs(self) -> None:
         count = 0
         for call in run_calls.read():
-            if call.words[:1] == ["print"] and call.status == 0 and statements_of(call.files.get(call.words[1], b"(")):
+            if call.words[:1] == ["print"] and len(call.words) == 3 and call.status == 0 and statements_of(call.files.get(call.words[1], b"(")):
                 count += self.compare(call.files[call.words[1]], call.printed.decode())
         self.assertGreater(count, 50)
 
@@ -219,7 +283,8 @@ class LinesOfNodes(unittest.TestCase):
         count = 0
         for call in run_calls.read():
             found = re.fullmatch(rb"race at ([\d.]+): (\w+) (\S+) by (\d+), (\w+) (\S+) by (\d+)\n", call.printed)
-            if found is None or len(call.words) < 2 or call.words[1] not in call.files:
+            # Nodes of a rewritten graph are none of the source's.
+            if found is None or "--chain" in call.words or call.words[1] not in call.files:
                 continue
             scope, *words = (it.decode() for it in found.groups())
             text = call.files[call.words[1]]

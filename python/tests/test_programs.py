@@ -280,13 +280,13 @@ class Interruptions(Calls):
         with mock.patch("luthkemb.commands.ended", side_effect=KeyboardInterrupt) as ended:
             with self.assertRaises(KeyboardInterrupt):
                 luthkemb.run(INC, A=[1], B=[1])
-        self.assertFalse(Path(ended.call_args.args[0][2]).parent.exists())
+        self.assertFalse(Path(ended.call_args.args[0][-1]).parent.exists())
 
 
 class Table(Calls):
     def test_a_further_command_is_a_line(self) -> None:
         echo = self.folder / "echo"
-        echo.write_text('#!/bin/sh\necho "$1 $4 $5 $6 $7"\ncat "$7"\n')
+        echo.write_text('#!/bin/sh\necho "$1 $2 $3 $4"\ncat "${3#*=}"\n')
         echo.chmod(0o755)
 
         def lines(value: list[str], folder: Path) -> str:
@@ -298,17 +298,17 @@ class Table(Calls):
         check = call_of("check", Command("check", lambda output, _: output.read().decode(), "Checks.", options))
         with mock.patch.dict(os.environ, LUTHKEMB_SDFG=str(echo)):
             first, *others = check(INC, chain=["StateFusion 0 1"], workers=2, A=[1], B=[2]).splitlines()
-        self.assertRegex(first, r"^check --workers 2 --chain /.*/lines$")
+        self.assertRegex(first, r"^check --workers=2 --chain=/.*/lines --$")
         self.assertEqual((others, check.__name__, check.__doc__), (["StateFusion 0 1"], "check", "Checks."))
 
     def test_each_command_is_one_of_the_program(self) -> None:
         documented = (TOP / "docs/COMMANDS.md").read_text()
         for name, command in COMMANDS.items():
             words = " ".join([f"sdfg {command.word} SOURCE ARRAYS", *(it.upper() for it in command.files)])
-            self.assertIn(f"{words}\n", documented)
+            self.assertRegex(documented, f"(?m)^    {words}(?: --|$)")
             self.assertIn(name, luthkemb.__all__)
             for option in command.options.values():
-                self.assertRegex(documented, rf"(?m)^    {words}.* {option.word}{' [A-Z]' if option.written else '$'}")
+                self.assertRegex(documented, rf"(?m)^    {words}.* {option.word}{' [A-Z]' if option.written else '$'}", name)
 
     def test_a_call_has_a_program_and_what_has_names(self) -> None:
         with self.assertRaises(TypeError):

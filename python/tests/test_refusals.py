@@ -11,7 +11,7 @@ from support import INC, TOP, TRUE, Calls, source
 
 import luthkemb
 from luthkemb.explanations import ARRAYS_ERRORS, ARRAYS_HELP, FAULTS, HELP, SOURCE_ERRORS, STATUSES
-from luthkemb.refusals import REFUSALS, Refused
+from luthkemb.refusals import KINDS, Refused
 
 TWO = "A: dace.int64[2], B: dace.int64[2]"
 
@@ -169,7 +169,7 @@ class Documents(unittest.TestCase):
     def test_each_status_of_the_commands_has_a_class(self) -> None:
         table = (TOP / "docs/COMMANDS.md").read_text().split("## Statuses")[1]
         statuses = {int(it) for it in re.findall(r"^\| (\d+) \|", table, re.MULTILINE)}
-        self.assertEqual(statuses - {0}, set(REFUSALS))
+        self.assertEqual(statuses - {0}, {it.status for it in KINDS})
 
     def test_each_error_has_a_meaning(self) -> None:
         language = (TOP / "docs/LANGUAGE.md").read_text()
@@ -183,8 +183,8 @@ class Documents(unittest.TestCase):
     def test_each_class_stands_in_the_document_of_the_package(self) -> None:
         rows = re.findall(r"^\| (\d*) \| `(\w+)` \|", (TOP / "python/README.md").read_text(), re.MULTILINE)
         written = {name: int(status) if status else None for status, name in rows}
-        for status, kind in REFUSALS.items():
-            self.assertEqual(written.get(kind.__name__), status)
+        for kind in KINDS:
+            self.assertEqual(written.get(kind.__name__), kind.status)
         classes = {
             it for it in luthkemb.__all__
             if isinstance(getattr(luthkemb, it), type) and issubclass(getattr(luthkemb, it), luthkemb.LuthkembError)

@@ -58,8 +58,10 @@ class Steps(Calls):
         with self.assertRaises(luthkemb.ReadFault) as found:
             luthkemb.step(INC, picks=name, A=[1], B=[1])
         self.assertEqual(found.exception.name, name)
-        with self.assertRaises(luthkemb.BadWords):
-            luthkemb.step(INC, picks="-", A=[1], B=[1])
+        for name in ("-", "--trace", ""):
+            with self.subTest(name), self.assertRaises(luthkemb.ReadFault) as found:
+                luthkemb.step(INC, picks=name, A=[1], B=[1])
+            self.assertEqual(found.exception.name, name)
 
     def test_turns_that_are_spent(self) -> None:
         text = INC + "# fake turns 2\n# fake moves move 0 of 1/move 1 of 2/move 0 of 2\n"
