@@ -60,7 +60,7 @@ returns-clause-reports g c =
     let call = call_of c.in_ok-call.call in
     let kept = c.in_ok-kept.kept in
     let reaches = subst (λ (work : Workspace). Reaches (map string_bytes c.args.words.now) (use_of g at) call (work_of work) (graph_of kept) kept.picks.items) (sym c.in_ok-kept.ensures.same)
-        (record { comes = comes g at c.in_ok-call.ensures.call; steers = Steers-part _ _ call (work_of c.in_ok-work.work).tree (graph_of kept) kept.picks.items (later_part g at) c.in_ok-kept.ensures.steers }) in
+    (record { comes = comes g at c.in_ok-call.ensures.call; steers = Steers-part _ _ call (work_of c.in_ok-work.work).tree (graph_of kept) kept.picks.items (later_part g at) c.in_ok-kept.ensures.steers }) in
     IfOk-weaker c.of.result _ _
     (λ report says. record { answer = says.answer; is = answered call (work_of kept.work) (graph_of kept) kept.picks.items reaches says.is; alike = says.alike })
     c.of.ensures.tells
@@ -71,7 +71,7 @@ returns-clause-refuses g c =
     let call = call_of c.in_ok-call.call in
     let kept = c.in_ok-kept.kept in
     let reaches = subst (λ (work : Workspace). Reaches (map string_bytes c.args.words.now) (use_of g at) call (work_of work) (graph_of kept) kept.picks.items) (sym c.in_ok-kept.ensures.same)
-        (record { comes = comes g at c.in_ok-call.ensures.call; steers = Steers-part _ _ call (work_of c.in_ok-work.work).tree (graph_of kept) kept.picks.items (later_part g at) c.in_ok-kept.ensures.steers }) in
+    (record { comes = comes g at c.in_ok-call.ensures.call; steers = Steers-part _ _ call (work_of c.in_ok-work.work).tree (graph_of kept) kept.picks.items (later_part g at) c.in_ok-kept.ensures.steers }) in
     IfErr-weaker c.of.result _ _
     (λ ending some. IfSome_then _ some (λ answer tells. answered call (work_of kept.work) (graph_of kept) kept.picks.items reaches tells))
     c.of.ensures.refuses

@@ -29,6 +29,6 @@ returns c =
     let opening = c.in_ok-opening.opening.contents in
     record {
       told = subst (λ (m : Shaped). IfOk c.run_seq-2.result (λ end. IsToldEnd (run_of tree m.contents) c.args.turns (outcome_of end))) c.in_ok-opening.ensures
-        (IfOk-weaker c.run_seq-2.result _ _ (λ end ends. sequential_end (run_of tree opening) c.args.turns (outcome_of end) ends) c.run_seq-2.ensures);
+          (IfOk-weaker c.run_seq-2.result _ _ (λ end ends. sequential_end (run_of tree opening) c.args.turns (outcome_of end) ends) c.run_seq-2.ensures);
       same = λ runs. subst (λ (m : Shaped). IfOk c.run_seq-2.result (λ end. Sequential (run_of tree m.contents) c.args.turns (outcome_of end))) c.in_ok-opening.ensures c.run_seq-2.ensures;
     }
