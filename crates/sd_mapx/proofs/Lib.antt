@@ -2,7 +2,11 @@ pub mod Behind
 pub mod Walked
 pub mod RebuiltLemmas
 pub mod MapLemmas
+pub mod OrderLemmas
 pub mod ConditionLaws
 pub mod FoundPlaces
 pub mod OwnParameters
 pub mod MapLaws
+pub mod FreeThere
+pub mod ScopeLaws
+pub mod OrderLaws

@@ -29,7 +29,7 @@ no_place : (failing : Option (List ℕ)) → is_no_place failing ≡ true → fa
 no_place None is = refl
 no_place (Some path) is = cc
 
-both_kept : (tree : GraphTree) → meets_limits tree ≡ true → Holds rule_3 tree × Holds rule_7 tree
+pub both_kept : (tree : GraphTree) → meets_limits tree ≡ true → Holds rule_3 tree × Holds rule_7 tree
 both_kept tree is =
     let kept = both (is_kept rule_3 tree) (is_kept rule_7 tree) is in
     (no_place (first_failing rule_3 tree) kept.0, no_place (first_failing rule_7 tree) kept.1)

@@ -1,9 +1,10 @@
 //! Copies of lists that stand in a graph.
 ghost use Rattle.std.specs.Prelude.{◌≡◌, ◌++◌, map, string_bytes, IfOk, OnOk};
-ghost use Rattle.sd_graph.specs.TreeFold.{exit_tree, item_tree, named_container};
+ghost use Rattle.sd_graph.specs.TreeFold.{exit_tree, item_tree, item_trees, kind_tree, named_container};
+ghost use Rattle.sd_graph.specs.PlainTree.{and_item, no_item};
 
 use indexmap::IndexMap;
-use sd_graph::{Container, Exit, Item, Link};
+use sd_graph::{Container, Exit, Item, ItemKind, Link};
 use sd_list::NoMemory;
 use sd_range::Range;
 use std::alloc::Global;
@@ -87,4 +88,13 @@ pub(crate) fn items(alloc: Global, items: &[Item]) -> Result<Vec<Item>, NoMemory
     let mut copy = Vec::new(alloc);
     push_items(alloc, items, &mut copy)?;
     Ok(copy)
+}
+
+/// One item alone.
+pub(crate) fn sole(alloc: Global, line: u32, kind: ItemKind) -> Result<Vec<Item>, NoMemory>
+    ensures { IfOk result (λ items. item_trees items.items ≡ and_item line (kind_tree kind) no_item) }
+{
+    let mut items = Vec::new(alloc);
+    items.push(Item { line, kind })?;
+    Ok(items)
 }

@@ -7,6 +7,7 @@
 
 mod copies;
 mod found;
+mod interchanging;
 mod laws;
 mod limits;
 mod maps;
@@ -14,11 +15,14 @@ mod nodes;
 mod paths;
 mod rebuilt;
 mod refused;
+mod scopes;
 mod tests;
 
+pub use interchanging::interchange;
 pub use laws::{
     a_collapsed_graph_is_valid, a_collapsed_graph_runs_the_same, an_expanded_graph_is_valid,
-    an_expanded_graph_runs_the_same,
+    an_expanded_graph_runs_the_same, an_interchanged_graph_ends_alike,
+    an_interchanged_graph_is_valid,
 };
 pub use maps::{collapse, expand};
 pub use refused::Refused;

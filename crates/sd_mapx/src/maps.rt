@@ -22,7 +22,12 @@ use sd_range::Range;
 use std::alloc::Global;
 
 /// Adds the item as it is.
-fn keep(alloc: Global, line: u32, kind: &ItemKind, items: &mut Vec<Item>) -> Result<(), NoMemory>
+pub(crate) fn keep(
+    alloc: Global,
+    line: u32,
+    kind: &ItemKind,
+    items: &mut Vec<Item>,
+) -> Result<(), NoMemory>
     ensures { OnOk result (item_trees items.new.items ≡ places.items_then (item_trees items.old.items) (and_item line (kind_tree kind.now) no_item)) }
 {
     let kind = kind.copy_of(alloc)?;
@@ -46,7 +51,7 @@ fn joined(
 }
 
 /// A map with these parameters, private containers and items.
-fn map_of(
+pub(crate) fn map_of(
     alloc: Global,
     sequential: bool,
     params: Vec<(u32, Range)>,
@@ -155,7 +160,7 @@ impl Replace for Expanding {
 }
 
 /// Refuses where a condition, of this number, fails.
-fn ask(number: u8, holds: bool) -> Result<(), Refused>
+pub(crate) fn ask(number: u8, holds: bool) -> Result<(), Refused>
     ensures ok { IfOk result (λ _. holds ≡ true) }
     ensures err { IfErr result (λ refused. (holds ≡ false) × (refused ≡ Condition number)) }
 {

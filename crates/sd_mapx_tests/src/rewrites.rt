@@ -2,7 +2,7 @@
 use crate::chains::{read_chain, write_chain};
 use sd_graph::{Bound, Path};
 use sd_list::Sequence;
-use sd_mapx::{Refused, collapse, expand};
+use sd_mapx::{Refused, collapse, expand, interchange};
 use std::alloc::Global;
 use std::test::Fail;
 
@@ -32,6 +32,16 @@ collapse 0.0: 0 p5 > 1 > graph -> 2
 collapse 0.0: 0 > 1<0 > graph -> 3
 collapse 0.0: 0 p5 > 1<0 > graph -> 2
 collapse 0.0: 0 1 2 3 > 4 5 6 7 8 > graph -> 9
+interchange 0.0: 0 > 1 > graph -> 1 > 0 > graph
+interchange 0.0: 0 1 > 2 3 > 4 > graph -> 2 3 > 0 1 > 4 > graph
+interchange 0.1: 0 > 1 > 2 > graph -> 0 > 2 > 1 > graph
+interchange 0.0: 0 ! > 1 > graph -> 1 > 0 ! > graph
+interchange 0.0: 0 > 1 p5 p6 > graph -> 1 > 0 p5 p6 > graph
+interchange 0.1.0.0: 3 > graph > 0 > 1 > graph -> 3 > graph > 1 > 0 > graph
+interchange 0.9: 0 > 1 > graph -> 1
+interchange 0.1: 0 > 1 > graph -> 2
+interchange 0.0: 0 p5 > 1<0 > graph -> 2
+interchange 0.0: 0 > 1<0 > graph -> 3
 expand 0.0: 0 1 > graph -> 0 > 1 > graph
 expand 0.0: 0 1 2 p5 > graph -> 0 > 1 2 p5 > graph
 expand 0.1: 0 > 1 2 > graph -> 0 > 1 > 2 > graph
@@ -66,7 +76,7 @@ fn told(alloc: Global, answer: Result<Bound, Refused>) -> Result<String, Fail> {
 }
 
 #[test]
-fn maps_are_collapsed_and_expanded_or_refused(rt: HostRuntime) -> Result<(), Fail> {
+fn maps_are_rewritten_or_refused(rt: HostRuntime) -> Result<(), Fail> {
     let alloc = rt.alloc();
     for line in CASES.lines() {
         let (case, wanted) = line.split_once(" -> ").ok_or("no answer")?;
@@ -77,6 +87,8 @@ fn maps_are_collapsed_and_expanded_or_refused(rt: HostRuntime) -> Result<(), Fai
         let at = read_path(alloc, path)?;
         let answer = if call == "collapse" {
             collapse(alloc, &bound, &at)
+        } else if call == "interchange" {
+            interchange(alloc, &bound, &at)
         } else {
             expand(alloc, &bound, &at)
         };
