@@ -1,5 +1,5 @@
 -- What a chain makes of a valid graph runs for that graph.
-use Rattle.std.proofs.Common.{◌≡◌, ◌∙◌, ℕ, List, Result, Ok, Err, refl, ap, subst}
+use Rattle.std.proofs.Common.{◌≡◌, ◌∙◌, ℕ, List, Result, Ok, Err, refl, ap}
 use Rattle.sd_graph.specs.PlainTree.{GraphTree}
 use Rattle.sd_validity.specs.rules.Valid.{IsValid}
 use Rattle.sd_exchange.proofs.valid_lemmas.Following.{runs-back}

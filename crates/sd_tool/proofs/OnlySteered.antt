@@ -1,5 +1,5 @@
 -- What alone can be answered where the files that steer a call are told.
-use Rattle.std.proofs.Common.{◌≡◌, ◌⊎◌, ℕ, ◌<◌, ◌≤◌, ◌^◌, List, [], length, Option, Some, None, Ok, Err, refl, ap, sym, ◌∙◌, subst, arith, inl, inr}
+use Rattle.std.proofs.Common.{◌≡◌, ℕ, ◌<◌, ◌≤◌, ◌^◌, List, [], length, Option, Some, None, Ok, Err, refl, ap, sym, ◌∙◌, subst, arith, inl, inr}
 use Rattle.sd_graph.specs.PlainTree.{GraphTree}
 use Rattle.sd_chain.specs.Chain.{chain_reading}
 use Rattle.sd_chain.specs.Picks.{picks_reading}

@@ -1,5 +1,5 @@
 -- What a reading says, it says of one thing.
-use Rattle.std.proofs.Common.{◌≡◌, ℕ, List, Option, Some, None, Result, Ok, Err, refl, subst}
+use Rattle.std.proofs.Common.{◌≡◌, ℕ, List, Option, Some, Result, Ok, Err, subst}
 use Rattle.sd_io.specs.Shelf.{IsTold}
 
 -- the bytes that were read are the content that is told

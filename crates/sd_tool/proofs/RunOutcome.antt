@@ -1,5 +1,5 @@
 -- The runs of valid work have outcomes.
-use Rattle.std.proofs.Common.{◌≡◌, ◌∙◌, ℕ, List, [], Option, Some, None, Bool, true, false, Ok, sym, subst}
+use Rattle.std.proofs.Common.{◌≡◌, ℕ, List, [], Option, Some, None, Bool, true, false, sym, subst}
 use Rattle.sd_work.proofs.ending.HaltingPools.{run-ends_with_pools}
 use Rattle.sd_work.specs.Memory.{Memory}
 use Rattle.sd_work.specs.Run.{Left, Run, Sequential}

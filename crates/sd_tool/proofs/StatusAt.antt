@@ -1,5 +1,5 @@
 -- What a status says of the answer that was written.
-use Rattle.std.proofs.Common.{◌≡◌, ◌⊎◌, ℕ, List, sym, subst, arith, inl, inr}
+use Rattle.std.proofs.Common.{◌≡◌, ℕ, List, sym, subst, arith}
 use Rattle.sd_io.specs.Count.{HasRisen}
 use Rattle.sd_io.specs.Shelf.{IsToldLonger}
 use Rattle.sd_work.specs.Move.{Fault}

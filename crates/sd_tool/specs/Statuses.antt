@@ -1,5 +1,5 @@
 -- Each status of a call but that of want of memory, with its cause. All of it follows from which answer comes where.
-use Rattle.std.specs.Prelude.{◌≡◌, ◌⊎◌, ℕ, ◌^◌, ◌<◌, ◌≤◌, List, [], length, Some, Ok, Err}
+use Rattle.std.specs.Prelude.{◌≡◌, ◌⊎◌, ℕ, ◌^◌, ◌<◌, ◌≤◌, List, [], length, Some, Err}
 use Rattle.sd_io.specs.Count.{HasRisen}
 use Rattle.sd_io.specs.Shelf.{IsToldLonger}
 use Rattle.sd_work.specs.Move.{Fault}

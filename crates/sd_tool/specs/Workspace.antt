@@ -1,5 +1,5 @@
 -- A graph and its memory as they are kept, and what steers them.
-use Rattle.std.specs.Prelude.{ℕ, ◌<◌, ◌≤◌, ◌^◌, Option, Some, None, ⊤}
+use Rattle.std.specs.Prelude.{◌<◌, ◌≤◌, ◌^◌, Option, Some, None, ⊤}
 use Rattle.sd_graph.specs.PlainTree.{GraphTree}
 use Rattle.sd_graph.specs.TreeFold.{graph_tree}
 use Rattle.sd_graph.specs.declared.graph.Bound.{Bound}
