@@ -4,9 +4,9 @@
   draw_rewrites.py           writes these parts of the page and the pictures; Graphviz has to be there
   draw_rewrites.py --check   compares both with what would be written, without Graphviz
 
-The texts are those of cases in examples/expanded_product, which the program prints. A part stands between the lines `<!-- NAME -->` and
-`<!-- end of NAME -->`. A picture tells the sum of the text that Graphviz has drawn, as those of the gallery do. The last line of the check is
-'N passed, M failed', and the status is 0 where some passed and none failed.
+The texts are those of cases in examples/expanded_product and examples/tiled_product, which the program prints. A part stands between the
+lines `<!-- NAME -->` and `<!-- end of NAME -->`. A picture tells the sum of the text that Graphviz has drawn, as those of the gallery do. The
+last line of the check is 'N passed, M failed', and the status is 0 where some passed and none failed.
 """
 from __future__ import annotations
 
@@ -19,11 +19,13 @@ from draw_gallery import SUM, TOP, NoGraphviz, Picture, drawn, sum_of
 
 PAGE = TOP / "docs/REWRITES.md"
 PICTURES = TOP / "docs/rewrites"
-CASES = TOP / "examples/expanded_product"
-# Of each part its name, and the cases whose graphs stand before the rewrite and behind it.
+EXPANDED, TILED = TOP / "examples/expanded_product", TOP / "examples/tiled_product"
+# Of each part its name, and the cases whose graphs stand before the rewrite and behind it; no two cases have one name.
 PARTS = {
-    "MapCollapse 1.2": ("twice_graph", "graph"),
-    "MapExpansion 1.2": ("plain_graph", "once_graph"),
+    "MapCollapse 1.2": (EXPANDED / "twice_graph", EXPANDED / "graph"),
+    "MapExpansion 1.2": (EXPANDED / "plain_graph", EXPANDED / "once_graph"),
+    "MapInterchange 1.2": (EXPANDED / "once_graph", EXPANDED / "turned_graph"),
+    "MapTiling 1.2 2 2 3": (TILED / "whole_graph", TILED / "tiles_graph"),
 }
 TABLE = """<!-- {name} -->
 
@@ -48,28 +50,28 @@ TABLE = """<!-- {name} -->
 <!-- end of {name} -->"""
 
 
-def graph_of(case: str) -> str:
+def graph_of(case: Path) -> str:
     """Returns the text of a graph that an example prints."""
-    return (CASES / f"{case}.expected").read_text()
+    return case.with_suffix(".expected").read_text()
 
 
-def state_of(case: str) -> str:
+def state_of(case: Path) -> str:
     """Returns the lines of the state in which the rewrites are done."""
     return graph_of(case).partition("state 1\n")[2].rstrip()
 
 
-def picture_of(case: str) -> Picture:
+def picture_of(case: Path) -> Picture:
     return Picture(graph_of(case), empty=False)
 
 
-def file_of(case: str) -> Path:
-    return PICTURES / f"{case}.svg"
+def file_of(case: Path) -> Path:
+    return PICTURES / f"{case.name}.svg"
 
 
 def part_of(name: str) -> str:
     """Returns a part of the page as it is to be."""
     first, second = PARTS[name]
-    return TABLE.format(name=name, first=first, second=second, before=state_of(first), behind=state_of(second))
+    return TABLE.format(name=name, first=first.name, second=second.name, before=state_of(first), behind=state_of(second))
 
 
 def with_parts(page: str) -> str:
@@ -85,7 +87,7 @@ def wrong_parts(page: str) -> list[str]:
     return [name for name in PARTS if page.count(part_of(name)) != 1]
 
 
-def cases() -> list[str]:
+def cases() -> list[Path]:
     return sorted({case for pair in PARTS.values() for case in pair})
 
 

@@ -36,10 +36,32 @@ def the_most_bytes_of_a_chain() -> Calls:
 
 @case
 def the_most_nodes_of_a_rewritten_state() -> Calls:
-    """An expanded map has two nodes more: a state of 1,022 nodes may have them, and one of 1,023 may not."""
+    """An expanded or tiled map has two nodes more: a state of 1,022 nodes may have them, and one of 1,023 may not."""
     for statements, status, wanted in ((1019, 0, printed(A=[[1019, 1020]])), (1020, 5, b"chain refused at line 1 condition 9\n")):
         source = program(["for i, j in dace.map[0:1, 0:2]:", *["    A[i, j] += 1"] * statements], "A: dace.int64[1, 2]")
-        yield Call(f"an expanded map of {statements} statements", CHAINED, with_chain(source, {"A": [[0, 1]]}, b"MapExpansion 1.0\n"), wanted, status)
+        for step in ("MapExpansion 1.0", "MapTiling 1.0 2 2"):
+            yield Call(f"{step} of {statements} statements", CHAINED, with_chain(source, {"A": [[0, 1]]}, f"{step}\n".encode()), wanted, status)
+
+
+@case
+def the_most_nodes_of_an_interchanged_state() -> Calls:
+    """An interchange makes no node: a state of 1,024 nodes keeps them."""
+    source = program(["for i in dace.map[0:1]:", "    for j in dace.map[0:2]:", *["        A[i, j] += 1"] * 1019], "A: dace.int64[1, 2]")
+    yield Call("MapInterchange of 1,019 statements", CHAINED, with_chain(source, {"A": [[0, 1]]}, b"MapInterchange 1.0\n"), printed(A=[[1019, 1020]]))
+
+
+@case
+def the_most_of_a_tiling() -> Calls:
+    """The greatest tiles of many points, 2^39 as the step of the begins, and a step of 2^40, which is refused."""
+    count = 2**15
+    flat = drawn(count)
+    given, wanted = {"N": count, "A": flat, "B": [0] * count}, printed(A=flat, B=[wrapped(it + 1) for it in flat])
+    most = b"MapTiling 1.1 4096\n"
+    for chain in (most, most * 3, most * 3 + b"MapTiling 1.1 8\n", b"MapTiling 1.1 2\n" * 6):
+        yield Call(f"chain of {chain!r}", CHAINED, with_chain(INC, given, chain), wanted)
+    yield Call("4 workers at tiles of 4,096", [*CHAINED, "--workers", "4"], with_chain(INC, given, most), wanted)
+    yield Call("a step of 2^40", CHAINED, with_chain(INC, given, most * 3 + b"MapTiling 1.1 16\n"), b"chain refused at line 4 condition 9\n", 5)
+    yield Call("seven tilings", CHAINED, with_chain(INC, given, b"MapTiling 1.1 2\n" * 7), b"chain refused at line 7 condition 9\n", 5)
 
 
 @case

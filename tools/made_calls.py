@@ -27,12 +27,16 @@ def two(A: dace.int64[2, 2], B: dace.int64[2, 2]):
             B[i, j] = A[i, j]
 """
 TWO_ARRAYS = b'{"A":[[1,2],[3,4]],"B":[[0,0],[0,0]]}'
-COLLAPSED, EXPANDED = b"MapExpansion 1.1\n", b"MapCollapse 1.1\n"
+COLLAPSE, EXPAND = b"MapCollapse 1.1\n", b"MapExpansion 1.1\n"
+# What may be done on one map of two parameters, on a map round another one, and on this where the outer one is cut into tiles.
+COLLAPSED = EXPAND + b"MapTiling 1.1 2 2\n"
+EXPANDED = COLLAPSE + b"MapInterchange 1.1\nMapTiling 1.1 2\nMapTiling 1.2 2\n"
+TILED = b"MapCollapse 1.2\nMapInterchange 1.2\nMapTiling 1.1 2\nMapTiling 1.2 2\nMapTiling 1.3 2\n"
 
 
 def turned(steps):
     """Returns a chain file of so many steps, which make one map of two and two of one in turn."""
-    return b"".join((EXPANDED, COLLAPSED)[at % 2] for at in range(steps))
+    return b"".join((COLLAPSE, EXPAND)[at % 2] for at in range(steps))
 
 
 def chained(what, chain, status, printed):
@@ -88,4 +92,10 @@ MADE += [
     chained("a chain file that is too long is not looked at", b"x\n".ljust(CHAIN_BYTES + 1, b"\n"), 11, b"too long c\n"),
     chained("a path of many numbers leads to no map", b"MapCollapse 1" + b".1" * 30000, 5, b"chain refused at line 1 condition 1\n"),
     chained("a number of many zeros is read", b"MapCollapse " + b"0" * 60000 + b"1.1", 0, COLLAPSED),
+    chained("256 interchanges are done", b"MapInterchange 1.1\n" * STEPS, 0, EXPANDED),
+    chained("an interchange more is refused", b"MapInterchange 1.1\n" * (STEPS + 1), 5, b"chain refused at line 257\n"),
+    chained("a tiling of many sizes is read", b"MapTiling 1.1" + b" 2" * 30000, 5, b"chain refused at line 1 condition 2\n"),
+    chained("a size of many zeros is read", b"MapTiling 1.1 " + b"0" * 60000 + b"2", 0, TILED),
+    chained("a size of many digits is no size", b"MapTiling 1.1 1" + b"0" * 60000, 5, b"chain refused at line 1\n"),
+    chained("a tiling may be parted by many spaces", b"MapTiling" + b" " * 30000 + b"1.1" + b" " * 30000 + b"2", 0, TILED),
 ]

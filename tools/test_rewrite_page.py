@@ -33,14 +33,15 @@ class ThePageOfRewrites(unittest.TestCase):
         return status, said.getvalue().splitlines()
 
     def test_it_is_as_it_would_be_written(self) -> None:
-        self.assertEqual(self.said(), (0, ["6 passed, 0 failed"]))
+        self.assertEqual(self.said(), (0, ["11 passed, 0 failed"]))
 
     def test_another_text_is_told_and_written_anew(self) -> None:
         text = self.page.read_text()
         self.page.write_text(text.replace("node 3 in 2 map j=0:2, k=0:3", "node 3 in 2 map k=0:3, j=0:2"))
         status, lines = self.said()
-        self.assertEqual((status, lines[-1]), (1, "5 passed, 1 failed"))
-        self.assertIn("another part of MapExpansion 1.2", lines[0])
+        self.assertEqual((status, lines[-1]), (1, "9 passed, 2 failed"))
+        told = [line.partition(" part of ")[2].partition(":")[0] for line in lines[:-1]]
+        self.assertEqual(told, ["MapExpansion 1.2", "MapInterchange 1.2"])
         self.assertEqual(draw_rewrites.with_parts(self.page.read_text()), text)
 
     def test_a_part_that_is_missing_or_stands_twice_is_told(self) -> None:
@@ -54,7 +55,7 @@ class ThePageOfRewrites(unittest.TestCase):
         shutil.copy(self.pictures / "graph.svg", self.pictures / "other.svg")
         (self.pictures / "plain_graph.svg").unlink()
         status, lines = self.said()
-        self.assertEqual((status, lines[-1]), (1, "3 passed, 3 failed"))
+        self.assertEqual((status, lines[-1]), (1, "8 passed, 3 failed"))
         self.assertEqual([line.split()[0] for line in lines[:-1]], [f"docs/rewrites/{it}.svg" for it in ("once_graph", "plain_graph", "other")])
 
 

@@ -40,7 +40,7 @@ from .refusals import (
     TurnsSpent,
     WriteFault,
 )
-from .rewrites import MapCollapse, MapExpansion, Rewrite
+from .rewrites import MapCollapse, MapExpansion, MapInterchange, MapTiling, Rewrite
 
 __version__ = "0.1.0"
 __all__ = [
@@ -57,6 +57,8 @@ __all__ = [
     "LuthkembError",
     "MapCollapse",
     "MapExpansion",
+    "MapInterchange",
+    "MapTiling",
     "Move",
     "NotBuilt",
     "NotInLanguage",

@@ -56,9 +56,20 @@ NO_STEP = "the line is no step of a chain, or one more than 256"
 CONDITIONS: Mapping[Optional[int], str] = {
     None: NO_STEP,
     1: "the path leads to no map of the graph behind the lines before; `print` with these tells its nodes",
-    2: "to collapse: something else than one map stands in the map, or it has a container of its own; to expand: it has one parameter",
-    3: "a range of the inner map names a parameter of the outer one",
-    9: "the new graph would pass a limit: 8 parameters of a map, 7 scopes and loops about a statement, 1,024 nodes of a state",
+    2: (
+        "to collapse or interchange: something else than one map stands in the map, or it has a container of its own; "
+        "to expand: it has one parameter; to tile: there is not one size for each parameter, each from 2 to 4,096"
+    ),
+    3: (
+        "to collapse or interchange: a range of the inner map names a parameter of the outer one; "
+        "to tile: the map has several parameters, and the race check would refuse it"
+    ),
+    4: "the race check would refuse the outer map or the inner one, so the order of their points may count",
+    8: "the race check would refuse a consume scope of the program, so the order of its elements may count",
+    9: (
+        "the new graph would pass a limit: 8 parameters of a map, 7 scopes and loops about a statement, 1,024 nodes of a state, "
+        "4 ends of a range, a step below 2^40"
+    ),
 }
 # What helps against a status, where one thing does.
 HELP: Mapping[int, str] = {

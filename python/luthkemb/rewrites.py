@@ -1,13 +1,15 @@
 """Rewrites of graphs, as values that print as lines of a chain file."""
 from __future__ import annotations
 
+import operator
 import os
 import re
 from dataclasses import dataclass
 from pathlib import Path
-from typing import Iterable, Union
+from typing import Iterable, SupportsIndex, Union
 
 PATH = re.compile(r"\d+(?:\.\d+)*", re.ASCII)
+NUMBER = re.compile(r"\d+", re.ASCII)
 
 
 @dataclass(frozen=True)
@@ -23,6 +25,11 @@ class Rewrite:
     def __str__(self) -> str:
         return f"{type(self).__name__} {self.path}"
 
+    @classmethod
+    def _read(cls, words: list[str]) -> Rewrite:
+        """Gives the rewrite with these words behind its name, or raises `ValueError`."""
+        return cls(" ".join(words))
+
 
 class MapCollapse(Rewrite):
     """The map at the path and the one map in it become one."""
@@ -32,7 +39,46 @@ class MapExpansion(Rewrite):
     """The map at the path becomes a map of its first parameter round a map of the others."""
 
 
-REWRITES = {it.__name__: it for it in (MapCollapse, MapExpansion)}
+class MapInterchange(Rewrite):
+    """The map at the path and the one map in it change places."""
+
+
+@dataclass(frozen=True, init=False, repr=False)
+class MapTiling(Rewrite):
+    """The map at the path is cut into tiles of these sizes, one for each parameter: a map over the tiles, round a map over a tile."""
+
+    sizes: tuple[int, ...]
+
+    def __init__(self, path: str, *sizes: SupportsIndex) -> None:
+        object.__setattr__(self, "path", path)
+        object.__setattr__(self, "sizes", tuple(map(_size, sizes)))
+        self.__post_init__()
+        if not sizes:
+            raise ValueError(f"a tiling of {path!r} has a size for each parameter of its map, as MapTiling('1.1', 32)")
+
+    def __repr__(self) -> str:
+        return f"MapTiling{(self.path, *self.sizes)!r}"
+
+    def __str__(self) -> str:
+        return " ".join([super().__str__(), *map(str, self.sizes)])
+
+    @classmethod
+    def _read(cls, words: list[str]) -> MapTiling:
+        path, *sizes = words
+        if not all(NUMBER.fullmatch(it) for it in sizes):
+            raise ValueError(f"{' '.join(sizes)!r} are no sizes")
+        return cls(path, *map(int, sizes))
+
+
+def _size(given: SupportsIndex) -> int:
+    """Gives a size as a number, or raises `ValueError` where no line of a chain file has it."""
+    size = operator.index(given)
+    if not 0 <= size < 2**64:
+        raise ValueError(f"{size} is no size of a tile; 32 is one")
+    return size
+
+
+REWRITES: dict[str, type[Rewrite]] = {it.__name__: it for it in (MapCollapse, MapExpansion, MapInterchange, MapTiling)}
 
 
 Chain = Union[str, "os.PathLike[str]", Iterable[Rewrite]]
@@ -60,7 +106,7 @@ def read_rewrites(text: str) -> list[Rewrite]:
 
 
 def _rewrite(line: str) -> Rewrite:
-    name, _, path = line.partition(" ")
-    if name not in REWRITES:
+    name, *words = line.split(" ")
+    if name not in REWRITES or not words:
         raise ValueError(f"{line!r} is no rewrite")
-    return REWRITES[name](path)
+    return REWRITES[name]._read(words)

@@ -8,14 +8,14 @@ abbrev pub before : (read : List ℕ) → Option (List ℕ) → Option (List ℕ
 before read None = None
 before read (Some later) = Some (read ++ later)
 
-before-none : (later : Option (List ℕ)) → later ≡ before [] later
+pub before-none : (later : Option (List ℕ)) → later ≡ before [] later
 before-none None = refl
 before-none (Some later) = refl
 
 pub path_begins : (word : List ℕ) → numbers_of (parts 46 word) ≡ before [] (numbers_of (parts 46 word))
 path_begins word = before-none (numbers_of (parts 46 word))
 
-before-push : (read : List ℕ) (number : ℕ) (later : Option (List ℕ)) → before read (with_number (Some number) later) ≡ before (read ++ number ∷ []) later
+pub before-push : (read : List ℕ) (number : ℕ) (later : Option (List ℕ)) → before read (with_number (Some number) later) ≡ before (read ++ number ∷ []) later
 before-push read number None = refl
 before-push read number (Some later) = ap Some (sym (append_assoc read (number ∷ []) later))
 

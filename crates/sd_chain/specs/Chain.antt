@@ -3,10 +3,10 @@ use Rattle.std.specs.Prelude.{◌≡◌, ⊤, ℕ, zero, suc, ◌^◌, nat_lt, L
 use Rattle.std.specs.Str.{all_ascii_digits, bytes_eq}
 use Rattle.std.specs.Str.Parse.{digits_value}
 use Rattle.sd_graph.specs.declared.path.Path.{Path}
-use Rattle.sd_chain.specs.Picks.{has_bytes, words}
+use Rattle.sd_chain.specs.Picks.{has_bytes, words, pick_of}
 use Rattle.sd_chain.specs.Parts.{parts}
 use Rattle.sd_chain.specs.declared.step.Step.{Step}
-use Rattle.sd_chain.specs.declared.step.Step.TheVariants.{MapCollapse, MapExpansion}
+use Rattle.sd_chain.specs.declared.step.Step.TheVariants.{MapCollapse, MapExpansion, MapInterchange, MapTiling}
 use Rattle.sd_chain.specs.declared.line.Line.{Line}
 use Rattle.sd_chain.specs.declared.line.Line.TheVariants.{Nothing, Does, NoForm}
 use Rattle.sd_chain.specs.declared.error.ChainError.{ChainError}
@@ -39,11 +39,28 @@ sole_path [] = None
 sole_path (path ∷ []) = path_of path
 sole_path (path ∷ other ∷ others) = None
 
+-- the sizes that words write, each as picks are: in decimal digits, below 2^64
+abbrev pub sizes_of : (words : List (List ℕ)) → Option (List ℕ)
+sizes_of [] = Some []
+sizes_of (word ∷ words) = with_number (pick_of word) (sizes_of words)
+
+-- a tiling of a path has one size at least
+abbrev pub tiling_with : Option Path → Option (List ℕ) → Option Step
+tiling_with (Some at) (Some (size ∷ sizes)) = Some (MapTiling at (size ∷ sizes))
+tiling_with at sizes = None
+
+-- the tiling that arguments are: a path and sizes
+abbrev pub tiling_of : (arguments : List (List ℕ)) → Option Step
+tiling_of [] = None
+tiling_of (path ∷ sizes) = tiling_with (path_of path) (sizes_of sizes)
+
 -- the step with a name and arguments
 abbrev pub step_of : (name : List ℕ) → (arguments : List (List ℕ)) → Option Step
 step_of name arguments =
     if bytes_eq name (codes "MapCollapse") then option_map MapCollapse (sole_path arguments)
     else if bytes_eq name (codes "MapExpansion") then option_map MapExpansion (sole_path arguments)
+    else if bytes_eq name (codes "MapInterchange") then option_map MapInterchange (sole_path arguments)
+    else if bytes_eq name (codes "MapTiling") then tiling_of arguments
     else None
 
 -- a step, or no form

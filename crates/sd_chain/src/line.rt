@@ -66,6 +66,45 @@ fn sole_path(alloc: Global, arguments: &[u8]) -> Result<Option<Path>, NoMemory>
     }
 }
 
+/// The sizes that the words of a text write.
+#[tactic(auto, using(crate::proofs::Sizes::size_steps))]
+fn sizes_of(alloc: Global, text: &[u8]) -> Result<Option<Sequence<u64>>, NoMemory>
+    ensures { IfOk result (λ sizes. sizes ≡ definition.sizes_of (words text.now)) }
+{
+    let mut sizes = Sequence::new(alloc);
+    let mut rest = text;
+    while let Some((word, behind)) = first_word(rest) {
+        let Some(size) = pick_of(word) else {
+            return Ok(None);
+        };
+        sizes.push(size)?;
+        rest = behind;
+    }
+    Ok(Some(sizes))
+}
+
+/// The tiling of a path with sizes. There is none without a size.
+fn tiling_with(at: Option<Path>, sizes: Option<Sequence<u64>>) -> Option<Step>
+    ensures { result ≡ definition.tiling_with at sizes }
+{
+    let (at, sizes) = (at?, sizes?);
+    if sizes.is_empty() {
+        return None;
+    }
+    Some(Step::MapTiling { at, sizes })
+}
+
+/// The tiling with a path and sizes that the words of a text are.
+fn tiling_of(alloc: Global, arguments: &[u8]) -> Result<Option<Step>, NoMemory>
+    ensures { IfOk result (λ step. step ≡ definition.tiling_of (words arguments.now)) }
+{
+    let Some((path, others)) = first_word(arguments) else {
+        return Ok(None);
+    };
+    let at = path_of(alloc, path)?;
+    Ok(tiling_with(at, sizes_of(alloc, others)?))
+}
+
 /// Whether a word is this name.
 fn same(word: &[u8], name: &[u8]) -> bool
     ensures { result ≡ bytes_eq word.now name.now }
@@ -81,6 +120,10 @@ fn step_of(alloc: Global, name: &[u8], arguments: &[u8]) -> Result<Option<Step>,
         sole_path(alloc, arguments)?.map(|at| Step::MapCollapse { at })
     } else if same(name, b"MapExpansion") {
         sole_path(alloc, arguments)?.map(|at| Step::MapExpansion { at })
+    } else if same(name, b"MapInterchange") {
+        sole_path(alloc, arguments)?.map(|at| Step::MapInterchange { at })
+    } else if same(name, b"MapTiling") {
+        tiling_of(alloc, arguments)?
     } else {
         None
     };

@@ -3,6 +3,8 @@ pub mod Walked
 pub mod RebuiltLemmas
 pub mod MapLemmas
 pub mod OrderLemmas
+pub mod FreshLemmas
+pub mod TileLemmas
 pub mod ConditionLaws
 pub mod FoundPlaces
 pub mod OwnParameters
@@ -10,3 +12,10 @@ pub mod MapLaws
 pub mod FreeThere
 pub mod ScopeLaws
 pub mod OrderLaws
+pub mod FreshLaws
+pub mod NormalLaws
+pub mod PlacedAfter
+pub mod TileLimits
+pub mod SingleSize
+pub mod TileLaws
+pub mod OverSizes

@@ -88,7 +88,7 @@ collapse_holds tree path none =
     let third = first_holds 3 (is_found is_inner_free item) last second.1 in
     record { round = second.0; free = third.0; limits = (first_holds 9 (meets_limits (collapsed_at tree path)) [] third.1).0 }
 
-collapsed_sound : (tree : GraphTree) (place : Option (List ℕ)) → IsValid tree → is_found is_round_one_map (found_by tree place) ≡ true → is_found is_inner_free (found_by tree place) ≡ true → IsSound tree (replaced_by collapsed tree place)
+collapsed_sound : (tree : GraphTree) (place : Option (List ℕ)) → IsValid tree → is_found is_round_one_map (found_by tree place) ≡ true → is_found is_inner_free (found_by tree place) ≡ true → IsSound tree (replaced_by collapsed [] tree place)
 collapsed_sound tree None valid round free = cc
 collapsed_sound tree (Some place) valid round free = collapse_sound tree place valid (graph_leads IsCollapsible tree place (found_collapsible (found_at tree place) round free))
 
@@ -110,7 +110,7 @@ expansion_holds tree path none =
     let second = first_holds 2 (is_found has_two_params item) last first.1 in
     record { two = second.0; limits = (first_holds 9 (meets_limits (expanded_at tree path)) [] second.1).0 }
 
-expanded_sound : (tree : GraphTree) (place : Option (List ℕ)) → IsValid tree → is_found has_two_params (found_by tree place) ≡ true → IsSound tree (replaced_by expanded tree place)
+expanded_sound : (tree : GraphTree) (place : Option (List ℕ)) → IsValid tree → is_found has_two_params (found_by tree place) ≡ true → IsSound tree (replaced_by expanded [] tree place)
 expanded_sound tree None valid two = cc
 expanded_sound tree (Some place) valid two = expand_sound tree place valid (graph_leads IsExpandable tree place (found_expandable tree valid place (found_at tree place) refl two))
 

@@ -1,5 +1,5 @@
 -- Maps as the code takes them apart and makes them.
-use Rattle.std.proofs.Common.{◌≡◌, ◌==◌, ℕ, ap₂, List, [], ◌∷◌, ◌++◌, length, map, Vec, Bool, ◌||◌, true, false, refl, ap, sym, ◌∙◌, arith}
+use Rattle.std.proofs.Common.{◌≡◌, ◌==◌, ℕ, ap₂, List, [], ◌∷◌, ◌++◌, length, map, Vec, Some, None, Bool, ◌||◌, true, false, refl, ap, sym, ◌∙◌, arith}
 use Rattle.std.specs.declared.alloc.Global.{Global}
 use Rattle.sd_range.specs.declared.range.Range.{Range}
 use Rattle.sd_graph.specs.PlainTree.{KindTree, task, map_scope, consume_scope, nested_graph, reduction, copy, GraphTree, ItemTrees, no_item, and_item}
@@ -13,6 +13,7 @@ use Rattle.sd_wire.proofs.wiring_lemmas.ItemLists.{item_opened}
 use Rattle.sd_alike.specs.alike.Places.{items_then}
 use Rattle.sd_alike.specs.alike.Maps.{collapsed, expanded}
 use Rattle.sd_mapx.specs.MapTests.{is_map, is_sole_map}
+use Rattle.sd_mapx.specs.Parts.{PlainPair, pair_in}
 use Rattle.sd_mapx.proofs.RebuiltLemmas.{item_pushed}
 
 -- one more item, the last one
@@ -56,38 +57,90 @@ put_expanded variables line sequential params (second ∷ others) made_first mad
 some_member : {A : Type 0} (first : A) (members : List A) → (length (first ∷ members) == 0) ≡ true → ⊥
 some_member first members none = grind (arith, none)
 
--- a map of both parameters, put in the place of a map and the map in it
-pub put_collapsed : (variables line : ℕ) (outer_sequential inner_sequential : Bool) (outer inner made : List (ℕ × Range)) (own private made_private : List ℕ) (items others body made_body all old : List Item) (item : Item) (kind old_kind : ItemKind) →
-    kind_tree old_kind ≡ map_scope outer_sequential outer own (item_trees items) → (length own == 0) ≡ true → items ≡ item ∷ others → (length others == 0) ≡ true → kind_tree item.kind ≡ map_scope inner_sequential inner private (item_trees body) →
-    made ≡ outer ++ inner → made_private ≡ private → map item_tree made_body ≡ map item_tree body →
-    kind_tree kind ≡ map_scope (outer_sequential || inner_sequential) made made_private (item_trees made_body) → all ≡ old ++ record { line = line; kind = kind } ∷ [] →
-    item_trees all ≡ items_then (item_trees old) (collapsed variables line (kind_tree old_kind))
-put_collapsed variables line outer_sequential inner_sequential outer inner made (first ∷ own) private made_private items others body made_body all old item kind old_kind was none split sole item_is params privates bodies kind_is all_is = absurd (some_member first own none)
-put_collapsed variables line outer_sequential inner_sequential outer inner made [] private made_private items (next ∷ others) body made_body all old item kind old_kind was none split sole item_is params privates bodies kind_is all_is = absurd (some_member next others sole)
-put_collapsed variables line outer_sequential inner_sequential outer inner made [] private made_private items [] body made_body all old item kind old_kind was none split sole item_is params privates bodies kind_is all_is =
-    pushed_as old line kind all (map_scope (outer_sequential || inner_sequential) made made_private (item_trees made_body)) all_is kind_is
-    ∙ ap (items_then (item_trees old))
-    ((λ i. and_item line (map_scope (outer_sequential || inner_sequential) (params i) (privates i) (items_listed (bodies i))) no_item)
-    ∙ sym (ap (collapsed variables line) (was ∙ ap (λ items. map_scope outer_sequential outer [] (item_trees items)) split
+-- ---- a map and the one map that is its body
+
+pub pair_made : (outer_sequential inner_sequential : Bool) (outer inner : List (ℕ × Range)) (own private : List ℕ) (items others body : List Item) (item : Item) (kind : KindTree) →
+    kind ≡ map_scope outer_sequential outer own (item_trees items) → (length own == 0) ≡ true → items ≡ item ∷ others → (length others == 0) ≡ true → kind_tree item.kind ≡ map_scope inner_sequential inner private (item_trees body) →
+    Some (record { outer_sequential = outer_sequential; outer = outer; line = item.line; inner_sequential = inner_sequential; inner = inner; private = private; body = item_trees body }) ≡ pair_in kind
+pair_made outer_sequential inner_sequential outer inner (first ∷ own) private items others body item kind was none split alone item_is = absurd (some_member first own none)
+pair_made outer_sequential inner_sequential outer inner [] private items (next ∷ others) body item kind was none split alone item_is = absurd (some_member next others alone)
+pair_made outer_sequential inner_sequential outer inner [] private items [] body item kind was none split alone item_is =
+    sym (ap pair_in (was ∙ ap (λ items. map_scope outer_sequential outer [] (item_trees items)) split
     ∙ ap (λ (at : PlainItem). map_scope outer_sequential outer [] (and_item at.0 at.1 no_item)) (item_opened item)
-    ∙ ap (λ (kind : KindTree). map_scope outer_sequential outer [] (and_item item.line kind no_item)) item_is)))
+    ∙ ap (λ (kind : KindTree). map_scope outer_sequential outer [] (and_item item.line kind no_item)) item_is))
 
--- a map with more than one item stays
-more_stays : (variables line : ℕ) (sequential : Bool) (params : List (ℕ × Range)) (own : List ℕ) (first next : ℕ) (kind other : KindTree) (items : ItemTrees) →
-    collapsed variables line (map_scope sequential params own (and_item first kind (and_item next other items))) ≡ and_item line (map_scope sequential params own (and_item first kind (and_item next other items))) no_item
-more_stays variables line sequential params (number ∷ own) first next kind other items = refl
-more_stays variables line sequential params [] first next (task code ins outs) other items = refl
-more_stays variables line sequential params [] first next (map_scope inner_sequential inner private body) other items = refl
-more_stays variables line sequential params [] first next (consume_scope stream element private body) other items = refl
-more_stays variables line sequential params [] first next (nested_graph inner links) other items = refl
-more_stays variables line sequential params [] first next (reduction resolution axis identity from to) other items = refl
-more_stays variables line sequential params [] first next (copy from to) other items = refl
+-- there is none where there is a private container, or an item more
+no_pair_with_own : (sequential : Bool) (outer : List (ℕ × Range)) (first : ℕ) (own : List ℕ) (body : ItemTrees) → pair_in (map_scope sequential outer (first ∷ own) body) ≡ None
+no_pair_with_own sequential outer first own body = refl
 
-pub kept_with_more : (variables line : ℕ) (sequential : Bool) (outer : List (ℕ × Range)) (own : List ℕ) (items others : List Item) (item : Item) (kind : KindTree) →
-    kind ≡ map_scope sequential outer own (item_trees items) → items ≡ item ∷ others → (length others == 0) ≡ false → and_item line kind no_item ≡ collapsed variables line kind
-kept_with_more variables line sequential outer own items [] item kind was split more = cc
-kept_with_more variables line sequential outer own items (next ∷ others) item kind was split more =
-    let is : kind ≡ map_scope sequential outer own (item_trees (item ∷ next ∷ others)) = was ∙ ap (λ items. map_scope sequential outer own (item_trees items)) split in
-    ap (λ kind. and_item line kind no_item) is
-    ∙ sym (more_stays variables line sequential outer own (item_tree item).0 (item_tree next).0 (item_tree item).1 (item_tree next).1 (item_trees others))
-    ∙ sym (ap (collapsed variables line) is)
+pub none_with_own : (sequential : Bool) (outer : List (ℕ × Range)) (own : List ℕ) (items : List Item) (kind : KindTree) →
+    kind ≡ map_scope sequential outer own (item_trees items) → (length own == 0) ≡ false → None ≡ pair_in kind
+none_with_own sequential outer [] items kind was more = cc
+none_with_own sequential outer (first ∷ own) items kind was more = sym (ap pair_in was ∙ no_pair_with_own sequential outer first own (item_trees items))
+
+no_pair_with_more : (sequential : Bool) (outer : List (ℕ × Range)) (own : List ℕ) (first next : ℕ) (kind other : KindTree) (items : ItemTrees) →
+    pair_in (map_scope sequential outer own (and_item first kind (and_item next other items))) ≡ None
+no_pair_with_more sequential outer (number ∷ own) first next kind other items = refl
+no_pair_with_more sequential outer [] first next (task code ins outs) other items = refl
+no_pair_with_more sequential outer [] first next (map_scope inner_sequential inner private body) other items = refl
+no_pair_with_more sequential outer [] first next (consume_scope stream element private body) other items = refl
+no_pair_with_more sequential outer [] first next (nested_graph inner links) other items = refl
+no_pair_with_more sequential outer [] first next (reduction resolution axis identity from to) other items = refl
+no_pair_with_more sequential outer [] first next (copy from to) other items = refl
+
+pub none_with_more : (sequential : Bool) (outer : List (ℕ × Range)) (own : List ℕ) (items others : List Item) (item : Item) (kind : KindTree) →
+    kind ≡ map_scope sequential outer own (item_trees items) → items ≡ item ∷ others → (length others == 0) ≡ false → None ≡ pair_in kind
+none_with_more sequential outer own items [] item kind was split more = cc
+none_with_more sequential outer own items (next ∷ others) item kind was split more =
+    sym (ap pair_in (was ∙ ap (λ items. map_scope sequential outer own (item_trees items)) split)
+    ∙ no_pair_with_more sequential outer own (item_tree item).0 (item_tree next).0 (item_tree item).1 (item_tree next).1 (item_trees others))
+
+abbrev pub paired : PlainPair → KindTree
+paired pair = map_scope pair.outer_sequential pair.outer [] (and_item pair.line (map_scope pair.inner_sequential pair.inner pair.private pair.body) no_item)
+
+-- the item is that map
+pub of_pair : (kind : KindTree) (pair : PlainPair) → Some pair ≡ pair_in kind → kind ≡ paired pair
+of_pair (task code ins outs) pair is = cc
+of_pair (map_scope sequential outer (first ∷ own) body) pair is = cc
+of_pair (map_scope sequential outer [] no_item) pair is = cc
+of_pair (map_scope sequential outer [] (and_item line (task code ins outs) items)) pair is = cc
+of_pair (map_scope sequential outer [] (and_item line (map_scope inner_sequential inner private body) no_item)) pair is = sym (ap paired (same is))
+  where
+    same : {a b : PlainPair} → Some a ≡ Some b → a ≡ b
+    same equal = cc
+of_pair (map_scope sequential outer [] (and_item line (map_scope inner_sequential inner private body) (and_item next other items))) pair is = cc
+of_pair (map_scope sequential outer [] (and_item line (consume_scope stream element private body) items)) pair is = cc
+of_pair (map_scope sequential outer [] (and_item line (nested_graph inner links) items)) pair is = cc
+of_pair (map_scope sequential outer [] (and_item line (reduction resolution axis identity from to) items)) pair is = cc
+of_pair (map_scope sequential outer [] (and_item line (copy from to) items)) pair is = cc
+of_pair (consume_scope stream element private body) pair is = cc
+of_pair (nested_graph inner links) pair is = cc
+of_pair (reduction resolution axis identity from to) pair is = cc
+of_pair (copy from to) pair is = cc
+
+-- any other item stays
+pub stays_collapsed : (variables line : ℕ) (kind : KindTree) → None ≡ pair_in kind → and_item line kind no_item ≡ collapsed variables line kind
+stays_collapsed variables line (task code ins outs) is = refl
+stays_collapsed variables line (map_scope sequential outer (first ∷ own) body) is = refl
+stays_collapsed variables line (map_scope sequential outer [] no_item) is = refl
+stays_collapsed variables line (map_scope sequential outer [] (and_item inner (task code ins outs) items)) is = refl
+stays_collapsed variables line (map_scope sequential outer [] (and_item inner (map_scope inner_sequential params private body) no_item)) is = cc
+stays_collapsed variables line (map_scope sequential outer [] (and_item inner (map_scope inner_sequential params private body) (and_item next other items))) is = refl
+stays_collapsed variables line (map_scope sequential outer [] (and_item inner (consume_scope stream element private body) items)) is = refl
+stays_collapsed variables line (map_scope sequential outer [] (and_item inner (nested_graph nested links) items)) is = refl
+stays_collapsed variables line (map_scope sequential outer [] (and_item inner (reduction resolution axis identity from to) items)) is = refl
+stays_collapsed variables line (map_scope sequential outer [] (and_item inner (copy from to) items)) is = refl
+stays_collapsed variables line (consume_scope stream element private body) is = refl
+stays_collapsed variables line (nested_graph inner links) is = refl
+stays_collapsed variables line (reduction resolution axis identity from to) is = refl
+stays_collapsed variables line (copy from to) is = refl
+
+-- a map of both parameters, put in the place of a map and the map in it
+pub put_collapsed : (variables line : ℕ) (pair : PlainPair) (mark : Bool) (made : List (ℕ × Range)) (made_private : List ℕ) (made_body all old : List Item) (kind : ItemKind) (old_kind : KindTree) →
+    Some pair ≡ pair_in old_kind → mark ≡ (pair.outer_sequential || pair.inner_sequential) → made ≡ pair.outer ++ pair.inner → made_private ≡ pair.private → item_trees made_body ≡ pair.body →
+    kind_tree kind ≡ map_scope mark made made_private (item_trees made_body) → all ≡ old ++ record { line = line; kind = kind } ∷ [] →
+    item_trees all ≡ items_then (item_trees old) (collapsed variables line old_kind)
+put_collapsed variables line pair mark made made_private made_body all old kind old_kind is marks params privates bodies kind_is all_is =
+    pushed_as old line kind all (map_scope mark made made_private (item_trees made_body)) all_is kind_is
+    ∙ ap (items_then (item_trees old))
+    ((λ i. and_item line (map_scope (marks i) (params i) (privates i) (bodies i)) no_item) ∙ sym (ap (collapsed variables line) (of_pair old_kind pair is)))

@@ -112,7 +112,7 @@ interchange_holds tree path none =
     }
 
 interchanged_ends : (tree : GraphTree) (place : Option (List ℕ)) → IsValid tree → IsGraphNormal tree → ArePoolsAccepted tree → GraphMayLead tree place →
-    is_found is_round_one_map (found_by tree place) ≡ true → is_found is_inner_free (found_by tree place) ≡ true → BothEndAlike tree (replaced_by interchanged tree place)
+    is_found is_round_one_map (found_by tree place) ≡ true → is_found is_inner_free (found_by tree place) ≡ true → BothEndAlike tree (replaced_by interchanged [] tree place)
 interchanged_ends tree None valid normal pools free round inner = cc
 interchanged_ends tree (Some place) valid normal pools free round inner =
     interchanged-alike tree place valid normal pools
@@ -124,7 +124,7 @@ interchanged_alike tree path valid normal none =
     interchanged_ends tree (place_of tree path) valid normal (pools_free tree holds.pools) (free_there tree path (free_at path (all_scopes tree) holds.scope)) holds.round holds.inner
 
 interchanged_stays : (tree : GraphTree) (place : Option (List ℕ)) → IsValid tree → is_found is_round_one_map (found_by tree place) ≡ true → is_found is_inner_free (found_by tree place) ≡ true →
-    meets_limits (replaced_by interchanged tree place) ≡ true → IsValid (replaced_by interchanged tree place)
+    meets_limits (replaced_by interchanged [] tree place) ≡ true → IsValid (replaced_by interchanged [] tree place)
 interchanged_stays tree None valid round inner limits = cc
 interchanged_stays tree (Some place) valid round inner limits =
     let kept = both_kept (graph_with interchanged [] tree place) limits in

@@ -1,11 +1,12 @@
 -- What is found in a state or an item by its number.
-use Rattle.std.proofs.Common.{◌≡◌, ℕ, zero, suc, ◌<◌, ◌≤◌, List, [], ◌∷◌, length, slice_index_or, Option, Some, None, refl, ap, sym, ◌∙◌, arith}
+use Rattle.std.proofs.Common.{◌≡◌, ℕ, zero, suc, ◌<◌, ◌≤◌, List, [], ◌∷◌, length, slice_index_or, Option, Some, None, Bool, false, refl, ap, sym, ◌∙◌, arith}
 use Rattle.sd_graph.specs.PlainTree.{KindTree, GraphTree}
 use Rattle.sd_graph.specs.TreeFold.{PlainItem, kind_tree, item_trees, state_tree, state_trees}
 use Rattle.sd_graph.specs.ContainerParts.{Containers}
 use Rattle.sd_graph.specs.declared.graph.Item.{Item}
 use Rattle.sd_graph.specs.declared.graph.State.{State}
 use Rattle.sd_wire.proofs.wiring_lemmas.ItemLists.{item_opened}
+use Rattle.sd_alike.specs.alike.Places.{kind_nests, items_nest, states_nest}
 use Rattle.sd_mapx.specs.Paths.{place_in_state, place_in_items}
 use Rattle.sd_mapx.specs.Found.{Found, found_in, found_among, found_in_states}
 
@@ -73,6 +74,50 @@ nothing_among tree (item ∷ items) = refl
 pub nothing_in_states : (tree : GraphTree) (states : List State) → found_in_states tree (state_trees states) [] ≡ None
 nothing_in_states tree [] = refl
 nothing_in_states tree (state ∷ states) = refl
+
+-- ---- whether a place leads on into a nested graph
+
+abbrev pub nests_from : Item → (rest : List ℕ) → Bool
+nests_from item [] = false
+nests_from item (next ∷ rest) = kind_nests (kind_tree item.kind) (next ∷ rest)
+
+first_nests : (item : Item) (items : List Item) (rest : List ℕ) → items_nest (item_trees (item ∷ items)) (0 ∷ rest) ≡ nests_from item rest
+first_nests item items [] = refl
+first_nests item items (next ∷ rest) = ap (λ (at : PlainItem). kind_nests at.1 (next ∷ rest)) (item_opened item)
+
+pub item_nests : (items : List Item) (number : ℕ) (item : Item) (rest : List ℕ) → number < length items → item ≡ slice_index_or items number item →
+    items_nest (item_trees items) (number ∷ rest) ≡ nests_from item rest
+item_nests [] number item rest within is = absurd (omega (arith, within))
+item_nests (first ∷ items) zero item rest within is = first_nests first items rest ∙ ap (λ (item : Item). nests_from item rest) (sym is)
+item_nests (first ∷ items) (suc number) item rest within is = item_nests items number item rest (omega (arith, within)) is
+
+pub no_item_nests : (items : List Item) (number : ℕ) (rest : List ℕ) → length items ≤ number → items_nest (item_trees items) (number ∷ rest) ≡ false
+no_item_nests [] number rest past = refl
+no_item_nests (first ∷ items) zero rest past = absurd (omega (arith, past))
+no_item_nests (first ∷ items) (suc number) rest past = no_item_nests items number rest (omega (arith, past))
+
+pub state_nests : (states : List State) (number : ℕ) (state : State) (rest : List ℕ) → number < length states → state ≡ slice_index_or states number state →
+    states_nest (state_trees states) (number ∷ rest) ≡ items_nest (state_tree state).0 rest
+state_nests [] number state rest within is = absurd (omega (arith, within))
+state_nests (first ∷ states) zero state rest within is = ap (λ (state : State). items_nest (state_tree state).0 rest) (sym is)
+state_nests (first ∷ states) (suc number) state rest within is = state_nests states number state rest (omega (arith, within)) is
+
+pub no_state_nests : (states : List State) (number : ℕ) (rest : List ℕ) → length states ≤ number → states_nest (state_trees states) (number ∷ rest) ≡ false
+no_state_nests [] number rest past = refl
+no_state_nests (first ∷ states) zero rest past = absurd (omega (arith, past))
+no_state_nests (first ∷ states) (suc number) rest past = no_state_nests states number rest (omega (arith, past))
+
+pub nests_behind : (item : Item) (rest : List ℕ) (first : ℕ) (others : List ℕ) → rest ≡ first ∷ others → nests_from item rest ≡ kind_nests (kind_tree item.kind) rest
+nests_behind item rest first others is = ap (nests_from item) is ∙ sym (ap (kind_nests (kind_tree item.kind)) is)
+
+-- no place
+pub items_nest_none : (items : List Item) → items_nest (item_trees items) [] ≡ false
+items_nest_none [] = refl
+items_nest_none (item ∷ items) = refl
+
+pub states_nest_none : (states : List State) → states_nest (state_trees states) [] ≡ false
+states_nest_none [] = refl
+states_nest_none (state ∷ states) = refl
 
 -- a list without a member
 pub no_member : (members : List ℕ) → length members ≡ 0 → members ≡ []

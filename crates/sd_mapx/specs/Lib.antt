@@ -3,6 +3,8 @@ pub mod Found
 pub mod Conditions
 pub mod MapTests
 pub mod ScopeTests
+pub mod FreshNames
 pub mod Results
 pub mod MapConditions
 pub mod Rebuilt
+pub mod Parts

@@ -1,5 +1,5 @@
 -- What the rewrites of maps ask of an item.
-use Rattle.std.specs.Prelude.{ℕ, nat_eq, List, ◌∷◌, Bool, true, false, not, ◌&&◌}
+use Rattle.std.specs.Prelude.{ℕ, nat_eq, nat_le, ◌^◌, pos, ◌*ℤ◌, int_le, int_lt, List, [], ◌∷◌, length, Bool, true, false, not, ◌&&◌}
 use Rattle.std.specs.List.{list_all, list_any}
 use Rattle.sd_range.specs.declared.affine.Affine.{Affine}
 use Rattle.sd_range.specs.declared.range.Range.{Range}
@@ -54,3 +54,23 @@ is_inner_free kind = true
 abbrev pub has_two_params : KindTree → Bool
 has_two_params (map_scope sequential (first ∷ second ∷ others) private body) = true
 has_two_params kind = false
+
+-- a tile has from 2 to 4,096 values of a parameter
+abbrev pub is_size : (size : ℕ) → Bool
+is_size size = nat_le 2 size && nat_le size 4096
+
+-- a map with a size for each parameter
+abbrev pub has_sizes : (sizes : List ℕ) → KindTree → Bool
+has_sizes sizes (map_scope sequential params private body) = nat_eq (length sizes) (length params) && list_all is_size sizes
+has_sizes sizes kind = false
+
+-- the size of one parameter: its tiles change no order of points
+abbrev pub is_single : (sizes : List ℕ) → Bool
+is_single (size ∷ []) = true
+is_single sizes = false
+
+-- the begins of tiles are from 1 to 2^40 - 1 apart
+abbrev pub are_steps_small : (sizes : List ℕ) → List (ℕ × Range) → Bool
+are_steps_small [] params = true
+are_steps_small (size ∷ sizes) [] = true
+are_steps_small (size ∷ sizes) (param ∷ params) = (int_le (pos 1) (param.1.step *ℤ pos size) && int_lt (param.1.step *ℤ pos size) (pos (2 ^ 40))) && are_steps_small sizes params

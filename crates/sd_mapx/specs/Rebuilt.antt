@@ -5,9 +5,9 @@ use Rattle.sd_graph.specs.TreeFold.{PlainState}
 use Rattle.sd_alike.specs.alike.Places.{Replacing, items_then, kind_with, items_with}
 
 -- what stands in the place of an item where the rest of a place is empty; else the item, with one in it replaced
-abbrev pub item_with : Replacing → (variables line : ℕ) → KindTree → (rest : List ℕ) → ItemTrees
-item_with replacing variables line kind [] = replacing variables line kind
-item_with replacing variables line kind (next ∷ rest) = and_item line (kind_with replacing [] variables kind (next ∷ rest)) no_item
+abbrev pub item_with : Replacing → (names : List (List ℕ)) → (variables line : ℕ) → KindTree → (rest : List ℕ) → ItemTrees
+item_with replacing names variables line kind [] = replacing variables line kind
+item_with replacing names variables line kind (next ∷ rest) = and_item line (kind_with replacing names variables kind (next ∷ rest)) no_item
 
 -- a scope with another body; anything else as it is
 abbrev pub with_body : KindTree → (body : ItemTrees) → KindTree
@@ -19,26 +19,26 @@ with_body (reduction resolution axis identity from to) body = reduction resoluti
 with_body (copy from to) body = copy from to
 
 -- an item, or where it is meant, what stands in its place
-abbrev pub item_at : Replacing → (variables : ℕ) → (is_meant : Bool) → (line : ℕ) → KindTree → (rest : List ℕ) → ItemTrees
-item_at replacing variables true line kind rest = item_with replacing variables line kind rest
-item_at replacing variables false line kind rest = and_item line kind no_item
+abbrev pub item_at : Replacing → (names : List (List ℕ)) → (variables : ℕ) → (is_meant : Bool) → (line : ℕ) → KindTree → (rest : List ℕ) → ItemTrees
+item_at replacing names variables true line kind rest = item_with replacing names variables line kind rest
+item_at replacing names variables false line kind rest = and_item line kind no_item
 
 -- the items from this number on, with the one of that number replaced
-abbrev pub items_from : Replacing → (variables number : ℕ) → (rest : List ℕ) → (at : ℕ) → ItemTrees → ItemTrees
-items_from replacing variables number rest at no_item = no_item
-items_from replacing variables number rest at (and_item line kind items) =
-    items_then (item_at replacing variables (nat_eq at number) line kind rest) (items_from replacing variables number rest (suc at) items)
+abbrev pub items_from : Replacing → (names : List (List ℕ)) → (variables number : ℕ) → (rest : List ℕ) → (at : ℕ) → ItemTrees → ItemTrees
+items_from replacing names variables number rest at no_item = no_item
+items_from replacing names variables number rest at (and_item line kind items) =
+    items_then (item_at replacing names variables (nat_eq at number) line kind rest) (items_from replacing names variables number rest (suc at) items)
 
 -- the state of this number, with an item of it replaced where a place leads into it
-abbrev pub state_at : Replacing → (variables at : ℕ) → PlainState → (place : List ℕ) → PlainState
-state_at replacing variables at state [] = state
-state_at replacing variables at state (number ∷ rest) = if nat_eq at number then (items_with replacing [] variables state.0 rest, state.1) else state
+abbrev pub state_at : Replacing → (names : List (List ℕ)) → (variables at : ℕ) → PlainState → (place : List ℕ) → PlainState
+state_at replacing names variables at state [] = state
+state_at replacing names variables at state (number ∷ rest) = if nat_eq at number then (items_with replacing names variables state.0 rest, state.1) else state
 
 -- the states from this number on
-abbrev pub states_from : Replacing → (variables : ℕ) → (place : List ℕ) → (at : ℕ) → StateTrees → StateTrees
-states_from replacing variables place at no_state = no_state
-states_from replacing variables place at (and_state items exits states) =
-    and_state (state_at replacing variables at (items, exits) place).0 (state_at replacing variables at (items, exits) place).1 (states_from replacing variables place (suc at) states)
+abbrev pub states_from : Replacing → (names : List (List ℕ)) → (variables : ℕ) → (place : List ℕ) → (at : ℕ) → StateTrees → StateTrees
+states_from replacing names variables place at no_state = no_state
+states_from replacing names variables place at (and_state items exits states) =
+    and_state (state_at replacing names variables at (items, exits) place).0 (state_at replacing names variables at (items, exits) place).1 (states_from replacing names variables place (suc at) states)
 
 -- states, and others behind them
 abbrev pub states_then : StateTrees → StateTrees → StateTrees

@@ -42,14 +42,26 @@ pub(crate) fn exits(alloc: Global, exits: &[Exit]) -> Result<Vec<Exit>, NoMemory
     Ok(copy)
 }
 
+/// Adds the same names.
+pub(crate) fn push_names(
+    alloc: Global,
+    names: &[String],
+    copy: &mut Vec<String>,
+) -> Result<(), NoMemory>
+    ensures { OnOk result (map string_bytes copy.new.items ≡ map string_bytes copy.old.items ++ map string_bytes names.now) }
+{
+    for name in names {
+        copy.push(name.as_str().to_string(alloc)?)?;
+    }
+    Ok(())
+}
+
 /// The same names once more.
 pub(crate) fn names(alloc: Global, names: &[String]) -> Result<Vec<String>, NoMemory>
     ensures { IfOk result (λ copy. map string_bytes copy.items ≡ map string_bytes names.now) }
 {
-    let mut copy = Vec::with_capacity(alloc, names.len())?;
-    for name in names {
-        copy.push(name.as_str().to_string(alloc)?)?;
-    }
+    let mut copy = Vec::new(alloc);
+    push_names(alloc, names, &mut copy)?;
     Ok(copy)
 }
 
@@ -65,6 +77,20 @@ pub(crate) fn containers(
         copy.insert(name.as_str().to_string(alloc)?, container.copy_of(alloc)?)?;
     }
     Ok(copy)
+}
+
+/// The names of containers.
+pub(crate) fn container_names(
+    alloc: Global,
+    containers: &IndexMap<String, Container>,
+) -> Result<Vec<String>, NoMemory>
+    ensures { IfOk result (λ names. map string_bytes names.items ≡ map (λ entry. entry.0) (map named_container containers.now.entries)) }
+{
+    let mut names = Vec::with_capacity(alloc, containers.len())?;
+    for (name, _) in containers.iter() {
+        names.push(name.as_str().to_string(alloc)?)?;
+    }
+    Ok(names)
 }
 
 /// Adds the same items.

@@ -1,5 +1,5 @@
 //! Two maps, one alone in the other, interchanged.
-ghost use Rattle.std.specs.Prelude.{◌≡◌, None, IfOk, IfErr, OnOk};
+ghost use Rattle.std.specs.Prelude.{◌≡◌, [], None, IfOk, IfErr, OnOk};
 ghost use Rattle.sd_graph.specs.TreeFold.{graph_tree, item_trees, kind_tree};
 ghost use Rattle.sd_alike.specs.alike.Places as places;
 ghost use Rattle.sd_exchange.specs.maps.OrderRewrites as specs;
@@ -8,9 +8,10 @@ ghost use Rattle.sd_mapx.specs.MapConditions as conditions;
 ghost use Rattle.sd_mapx.specs.Results as results;
 
 use crate::copies;
-use crate::found::kind_at;
+use crate::found::found_at;
 use crate::limits::meets_limits;
 use crate::maps::{ask, keep, map_of};
+use crate::pairs::pair_in;
 use crate::paths::place_of;
 use crate::rebuilt::{Replace, rebuild};
 use crate::refused::Refused;
@@ -27,6 +28,12 @@ struct Interchanging;
 impl Replace for Interchanging {
     ghost replacing = { λ _. specs.interchanged };
 
+    ghost further = { λ _. [] };
+
+    fn names(&self) -> &[String] {
+        &[]
+    }
+
     fn put(
         &self,
         alloc: Global,
@@ -35,39 +42,15 @@ impl Replace for Interchanging {
         kind: &ItemKind,
         items: &mut Vec<Item>,
     ) -> Result<(), NoMemory> {
-        let ItemKind::Map {
-            params: outer,
-            private: own,
-            body,
-            sequential: outer_sequential,
-        } = kind
-        else {
+        let Some(pair) = pair_in(kind) else {
             return keep(alloc, line, kind, items);
         };
-        if !own.as_slice().is_empty() {
-            return keep(alloc, line, kind, items);
-        }
-        let Some((item, others)) = body.split_first() else {
-            return keep(alloc, line, kind, items);
-        };
-        if !others.is_empty() {
-            return keep(alloc, line, kind, items);
-        }
-        let ItemKind::Map {
-            params: inner,
-            private,
-            body,
-            sequential: inner_sequential,
-        } = &item.kind
-        else {
-            return keep(alloc, line, kind, items);
-        };
-        let outer = copies::params(alloc, outer)?;
-        let body = copies::items(alloc, body)?;
-        let within = map_of(alloc, *outer_sequential, outer, private, body)?;
-        let alone = copies::sole(alloc, item.line, within)?;
-        let inner = copies::params(alloc, inner)?;
-        let kind = map_of(alloc, *inner_sequential, inner, &[], alone)?;
+        let outer = copies::params(alloc, pair.outer)?;
+        let body = copies::items(alloc, pair.body)?;
+        let within = map_of(alloc, pair.outer_sequential, outer, pair.private, body)?;
+        let alone = copies::sole(alloc, pair.line, within)?;
+        let inner = copies::params(alloc, pair.inner)?;
+        let kind = map_of(alloc, pair.inner_sequential, inner, &[], alone)?;
         items.push(Item { line, kind })?;
         Ok(())
     }
@@ -84,12 +67,12 @@ pub fn interchange(alloc: Global, bound: &Bound, at: &Path) -> Result<Bound, Ref
     let Some(place) = place_of(alloc, &bound.graph, path)? else {
         return Err(Refused::Condition(1));
     };
-    let Some(kind) = kind_at(&bound.graph, place.as_slice()) else {
+    let Some(found) = found_at(&bound.graph, place.as_slice()) else {
         return Err(Refused::Condition(1));
     };
-    ask(1, is_map(kind))?;
-    ask(2, is_round_one_map(kind))?;
-    ask(3, is_inner_free(kind))?;
+    ask(1, is_map(found.kind))?;
+    ask(2, is_round_one_map(found.kind))?;
+    ask(3, is_inner_free(found.kind))?;
     let all = scopes(alloc, &bound.graph)?;
     let is_free = is_free_at(alloc, path, all.as_slice())?;
     ask(4, is_free && is_free_behind(alloc, path, all.as_slice())?)?;

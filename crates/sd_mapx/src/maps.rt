@@ -1,5 +1,5 @@
 //! Maps collapsed and expanded.
-ghost use Rattle.std.specs.Prelude.{◌≡◌, ◌++◌, true, false, None, IfOk, IfErr, OnOk};
+ghost use Rattle.std.specs.Prelude.{◌≡◌, ◌++◌, true, false, [], None, IfOk, IfErr, OnOk};
 ghost use Rattle.sd_graph.specs.TreeFold.{graph_tree, item_trees, kind_tree};
 ghost use Rattle.sd_mapx.specs.declared.refused.Refused.TheVariants.{Condition};
 ghost use Rattle.sd_graph.specs.PlainTree.{and_item, map_scope, no_item};
@@ -10,8 +10,9 @@ ghost use Rattle.sd_mapx.specs.MapConditions as conditions;
 ghost use Rattle.sd_mapx.specs.Results as results;
 
 use crate::copies;
-use crate::found::kind_at;
+use crate::found::found_at;
 use crate::limits::meets_limits;
+use crate::pairs::pair_in;
 use crate::paths::place_of;
 use crate::rebuilt::{Replace, rebuild};
 use crate::refused::Refused;
@@ -74,6 +75,12 @@ struct Collapsing;
 impl Replace for Collapsing {
     ghost replacing = { λ _. specs.collapsed };
 
+    ghost further = { λ _. [] };
+
+    fn names(&self) -> &[String] {
+        &[]
+    }
+
     fn put(
         &self,
         alloc: Global,
@@ -82,37 +89,13 @@ impl Replace for Collapsing {
         kind: &ItemKind,
         items: &mut Vec<Item>,
     ) -> Result<(), NoMemory> {
-        let ItemKind::Map {
-            params: outer,
-            private: own,
-            body,
-            sequential: outer_sequential,
-        } = kind
-        else {
+        let Some(pair) = pair_in(kind) else {
             return keep(alloc, line, kind, items);
         };
-        if !own.as_slice().is_empty() {
-            return keep(alloc, line, kind, items);
-        }
-        let Some((item, others)) = body.split_first() else {
-            return keep(alloc, line, kind, items);
-        };
-        if !others.is_empty() {
-            return keep(alloc, line, kind, items);
-        }
-        let ItemKind::Map {
-            params: inner,
-            private,
-            body,
-            sequential: inner_sequential,
-        } = &item.kind
-        else {
-            return keep(alloc, line, kind, items);
-        };
-        let params = joined(alloc, outer, inner)?;
-        let body = copies::items(alloc, body)?;
-        let sequential = *outer_sequential || *inner_sequential;
-        let kind = map_of(alloc, sequential, params, private, body)?;
+        let params = joined(alloc, pair.outer, pair.inner)?;
+        let body = copies::items(alloc, pair.body)?;
+        let sequential = pair.outer_sequential || pair.inner_sequential;
+        let kind = map_of(alloc, sequential, params, pair.private, body)?;
         items.push(Item { line, kind })?;
         Ok(())
     }
@@ -123,6 +106,12 @@ struct Expanding;
 
 impl Replace for Expanding {
     ghost replacing = { λ _. specs.expanded };
+
+    ghost further = { λ _. [] };
+
+    fn names(&self) -> &[String] {
+        &[]
+    }
 
     fn put(
         &self,
@@ -181,12 +170,12 @@ pub fn collapse(alloc: Global, bound: &Bound, at: &Path) -> Result<Bound, Refuse
     let Some(place) = place_of(alloc, &bound.graph, at.steps.as_slice())? else {
         return Err(Refused::Condition(1));
     };
-    let Some(kind) = kind_at(&bound.graph, place.as_slice()) else {
+    let Some(found) = found_at(&bound.graph, place.as_slice()) else {
         return Err(Refused::Condition(1));
     };
-    ask(1, is_map(kind))?;
-    ask(2, is_round_one_map(kind))?;
-    ask(3, is_inner_free(kind))?;
+    ask(1, is_map(found.kind))?;
+    ask(2, is_round_one_map(found.kind))?;
+    ask(3, is_inner_free(found.kind))?;
     let graph = rebuild(alloc, &Collapsing, &bound.graph, place.as_slice())?;
     ask(9, meets_limits(alloc, &graph)?)?;
     Ok(Bound { graph })
@@ -202,11 +191,11 @@ pub fn expand(alloc: Global, bound: &Bound, at: &Path) -> Result<Bound, Refused>
     let Some(place) = place_of(alloc, &bound.graph, at.steps.as_slice())? else {
         return Err(Refused::Condition(1));
     };
-    let Some(kind) = kind_at(&bound.graph, place.as_slice()) else {
+    let Some(found) = found_at(&bound.graph, place.as_slice()) else {
         return Err(Refused::Condition(1));
     };
-    ask(1, is_map(kind))?;
-    ask(2, has_two_params(kind))?;
+    ask(1, is_map(found.kind))?;
+    ask(2, has_two_params(found.kind))?;
     let graph = rebuild(alloc, &Expanding, &bound.graph, place.as_slice())?;
     ask(9, meets_limits(alloc, &graph)?)?;
     Ok(Bound { graph })

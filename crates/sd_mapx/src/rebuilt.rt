@@ -1,17 +1,25 @@
 //! A graph once more, with other items in the place of one.
-ghost use Rattle.std.specs.Prelude.{◌≡◌, [], map, string_bytes, IfOk, OnOk};
+ghost use Rattle.std.specs.Prelude.{◌≡◌, ◌++◌, ℕ, List, map, string_bytes, if◌then◌else◌, IfOk, OnOk};
 ghost use Rattle.sd_graph.specs.TreeFold.{graph_tree, item_tree, item_trees, kind_tree, state_tree, state_trees};
 ghost use Rattle.sd_alike.specs.alike.Places as places;
 ghost use Rattle.sd_mapx.specs.Rebuilt as rebuilt;
 
 use crate::copies;
+use crate::nesting::states_nest;
 use sd_graph::{Item, ItemKind, Sdfg, State};
 use sd_list::NoMemory;
 use std::alloc::Global;
 
-/// What stands in the place of an item, by its line and what it does, in a graph of so many variables.
+/// What stands in the place of an item, by its line and what it does, in a graph of so many variables; and the names
+/// of further variables of that graph.
 pub(crate) trait Replace {
     ghost replacing: { Self → places.Replacing };
+
+    ghost further: { Self → List (List ℕ) };
+
+    /// The names of the further variables.
+    fn names(&self) -> &[String]
+        ensures { map string_bytes result.now ≡ further self.now };
 
     /// Adds it to items.
     fn put(
@@ -68,7 +76,7 @@ fn kind_with<R: Replace>(
     kind: &ItemKind,
     place: &[u32],
 ) -> Result<ItemKind, NoMemory>
-    ensures { IfOk result (λ new. kind_tree new ≡ places.kind_with (R.replacing replace.now) [] variables (kind_tree kind.now) place.now) }
+    ensures { IfOk result (λ new. kind_tree new ≡ places.kind_with (R.replacing replace.now) (R.further replace.now) variables (kind_tree kind.now) place.now) }
 {
     match kind {
         ItemKind::Map { body, .. } | ItemKind::Consume { body, .. } => {
@@ -97,7 +105,7 @@ fn put_item<R: Replace>(
     rest: &[u32],
     new: &mut Vec<Item>,
 ) -> Result<(), NoMemory>
-    ensures { OnOk result (item_trees new.new.items ≡ places.items_then (item_trees new.old.items) (rebuilt.item_at (R.replacing replace.now) variables is_meant (item_tree item.now).0 (item_tree item.now).1 rest.now)) }
+    ensures { OnOk result (item_trees new.new.items ≡ places.items_then (item_trees new.old.items) (rebuilt.item_at (R.replacing replace.now) (R.further replace.now) variables is_meant (item_tree item.now).0 (item_tree item.now).1 rest.now)) }
 {
     if !is_meant {
         new.push(item.copy_of(alloc)?)?;
@@ -123,7 +131,7 @@ fn items_with<R: Replace>(
     items: &[Item],
     place: &[u32],
 ) -> Result<Vec<Item>, NoMemory>
-    ensures { IfOk result (λ new. item_trees new.items ≡ places.items_with (R.replacing replace.now) [] variables (item_trees items.now) place.now) }
+    ensures { IfOk result (λ new. item_trees new.items ≡ places.items_with (R.replacing replace.now) (R.further replace.now) variables (item_trees items.now) place.now) }
 {
     let Some((number, rest)) = place.split_first() else {
         return copies::items(alloc, items);
@@ -155,7 +163,7 @@ fn state_with<R: Replace>(
     state: &State,
     place: &[u32],
 ) -> Result<State, NoMemory>
-    ensures { IfOk result (λ new. state_tree new ≡ (places.items_with (R.replacing replace.now) [] variables (state_tree state.now).0 place.now, (state_tree state.now).1)) }
+    ensures { IfOk result (λ new. state_tree new ≡ (places.items_with (R.replacing replace.now) (R.further replace.now) variables (state_tree state.now).0 place.now, (state_tree state.now).1)) }
 {
     Ok(State {
         items: items_with(alloc, replace, variables, &state.items, place)?,
@@ -173,7 +181,7 @@ fn state_at<R: Replace>(
     state: &State,
     place: &[u32],
 ) -> Result<State, NoMemory>
-    ensures { IfOk result (λ new. state_tree new ≡ rebuilt.state_at (R.replacing replace.now) variables at (state_tree state.now) place.now) }
+    ensures { IfOk result (λ new. state_tree new ≡ rebuilt.state_at (R.replacing replace.now) (R.further replace.now) variables at (state_tree state.now) place.now) }
 {
     let Some((number, rest)) = place.split_first() else {
         return state.copy_of(alloc);
@@ -194,7 +202,7 @@ fn states_with<R: Replace>(
     states: &[State],
     place: &[u32],
 ) -> Result<Vec<State>, NoMemory>
-    ensures { IfOk result (λ new. state_trees new.items ≡ places.states_with (R.replacing replace.now) [] variables (state_trees states.now) place.now) }
+    ensures { IfOk result (λ new. state_trees new.items ≡ places.states_with (R.replacing replace.now) (R.further replace.now) variables (state_trees states.now) place.now) }
 {
     let mut new = Vec::new(alloc);
     let mut at = 0_u32;
@@ -205,7 +213,26 @@ fn states_with<R: Replace>(
     Ok(new)
 }
 
-/// The graph once more, with the item at a place replaced. A place at which no item is replaces none.
+/// The names of a graph's variables; where the place leads on into no nested graph, further ones behind them.
+fn variables_with(
+    alloc: Global,
+    variables: &[String],
+    further: &[String],
+    states: &[State],
+    place: &[u32],
+) -> Result<Vec<String>, NoMemory>
+    ensures { IfOk result (λ all. map string_bytes all.items ≡ (if places.states_nest (state_trees states.now) place.now then map string_bytes variables.now else map string_bytes variables.now ++ map string_bytes further.now)) }
+{
+    let mut all = copies::names(alloc, variables)?;
+    if states_nest(states, place) {
+        return Ok(all);
+    }
+    copies::push_names(alloc, further, &mut all)?;
+    Ok(all)
+}
+
+/// The graph once more, with the item at a place replaced; the graph that has the item gets the further variables. A
+/// place at which no item is replaces none.
 #[cycle(rebuilding)]
 pub(crate) fn rebuild<R: Replace>(
     alloc: Global,
@@ -213,14 +240,20 @@ pub(crate) fn rebuild<R: Replace>(
     graph: &Sdfg,
     place: &[u32],
 ) -> Result<Sdfg, NoMemory>
-    ensures { IfOk result (λ new. graph_tree new ≡ places.graph_with (R.replacing replace.now) [] (graph_tree graph.now) place.now) }
+    ensures { IfOk result (λ new. graph_tree new ≡ places.graph_with (R.replacing replace.now) (R.further replace.now) (graph_tree graph.now) place.now) }
 {
     let variables = u32::try_from(graph.variables.len()).map_err(|_| NoMemory)?;
     Ok(Sdfg {
         name: graph.name.as_str().to_string(alloc)?,
         containers: copies::containers(alloc, &graph.containers)?,
         arguments: graph.arguments,
-        variables: copies::names(alloc, &graph.variables)?,
+        variables: variables_with(
+            alloc,
+            &graph.variables,
+            replace.names(),
+            &graph.states,
+            place,
+        )?,
         symbols: graph.symbols,
         states: states_with(alloc, replace, variables, &graph.states, place)?,
     })

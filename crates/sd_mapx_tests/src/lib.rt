@@ -6,4 +6,6 @@ mod chains;
 #[cfg(test)]
 mod rewrites;
 #[cfg(test)]
+mod tiles;
+#[cfg(test)]
 mod written;

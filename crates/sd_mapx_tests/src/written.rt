@@ -107,7 +107,7 @@ def rows(A: dace.int64[2, 3], B: dace.int64[2, 3], C: dace.int64[1]):
 ";
 
 /// What a call gives; the test ends where it gives an error.
-fn sure<T, E: Drop>(rt: &impl Abort, given: Result<T, E>) -> T {
+pub(crate) fn sure<T, E: Drop>(rt: &impl Abort, given: Result<T, E>) -> T {
     match given {
         Ok(value) => value,
         Err(_) => panic!(rt; "refused"),
@@ -115,7 +115,7 @@ fn sure<T, E: Drop>(rt: &impl Abort, given: Result<T, E>) -> T {
 }
 
 /// The graph of a source without sizes.
-fn written(rt: &impl Abort, alloc: Global, text: &[u8]) -> Bound {
+pub(crate) fn written(rt: &impl Abort, alloc: Global, text: &[u8]) -> Bound {
     if text.len() > MOST {
         panic!(rt; "too long");
     }

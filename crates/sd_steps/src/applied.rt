@@ -6,7 +6,7 @@ ghost use Rattle.sd_steps.specs.Chained as definition;
 
 use sd_chain::{Chain, ChainError, Step};
 use sd_graph::Bound;
-use sd_mapx::{Refused, collapse, expand};
+use sd_mapx::{Refused, collapse, expand, interchange, tile};
 use std::alloc::Global;
 
 /// The graph with a step done. Refuses with the lowest condition that fails.
@@ -18,6 +18,8 @@ pub(crate) fn rewritten(alloc: Global, bound: &Bound, step: &Step) -> Result<Bou
     match step {
         Step::MapCollapse { at } => collapse(alloc, bound, at),
         Step::MapExpansion { at } => expand(alloc, bound, at),
+        Step::MapInterchange { at } => interchange(alloc, bound, at),
+        Step::MapTiling { at, sizes } => tile(alloc, bound, at, sizes.as_slice()),
     }
 }
 

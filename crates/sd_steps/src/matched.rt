@@ -9,27 +9,28 @@ use sd_chain::Step;
 use sd_graph::{Bound, Path};
 use sd_list::{NoMemory, Sequence};
 use sd_mapx::Refused;
-use sd_prop::{Scope, scopes};
+use sd_prop::{Over, Scope, scopes};
 use std::alloc::Global;
 
-/// The rewrites of a scope, in the order in which they are tried.
+/// The rewrites of a scope.
 #[derive(Clone, Copy)]
 enum Rewrite {
     Collapse,
     Expansion,
+    Interchange,
+    Tiling,
 }
 
-impl Rewrite {
-    /// The rewrite at a path.
-    fn step(self, at: Path) -> Step
-        ensures { result ≡ definition.step_at self at }
-    {
-        match self {
-            Rewrite::Collapse => Step::MapCollapse { at },
-            Rewrite::Expansion => Step::MapExpansion { at },
-        }
-    }
-}
+/// Those in the order in which they are tried.
+const REWRITES: [Rewrite; 4] = [
+    Rewrite::Collapse,
+    Rewrite::Expansion,
+    Rewrite::Interchange,
+    Rewrite::Tiling,
+];
+
+/// The size with which tiles are tried.
+const TRIED_SIZE: u64 = 2;
 
 /// Whether no condition of a step fails.
 fn may_be_done(alloc: Global, bound: &Bound, step: &Step) -> Result<bool, NoMemory>
@@ -42,12 +43,34 @@ fn may_be_done(alloc: Global, bound: &Bound, step: &Step) -> Result<bool, NoMemo
     }
 }
 
+/// The sizes with which tiles of a scope are tried: the same one for each of its parameters.
+fn tried_sizes(alloc: Global, scope: &Scope<'_>) -> Result<Sequence<u64>, NoMemory>
+    ensures { IfOk result (λ sizes. sizes ≡ definition.tried_sizes scope.now) }
+{
+    let mut sizes = Sequence::new(alloc);
+    if let Over::Points { params, .. } = scope.over() {
+        for _ in params {
+            sizes.push(TRIED_SIZE)?;
+        }
+    }
+    Ok(sizes)
+}
+
 /// A rewrite at a scope.
 fn step_at(alloc: Global, rewrite: Rewrite, scope: &Scope<'_>) -> Result<Step, NoMemory>
-    ensures { IfOk result (λ step. step ≡ definition.step_at rewrite (record { steps = scope.now.path })) }
+    ensures { IfOk result (λ step. step ≡ definition.step_at rewrite scope.now) }
 {
     let steps = Sequence::from(scope.path().to_vec(alloc)?);
-    Ok(rewrite.step(Path { steps }))
+    let at = Path { steps };
+    Ok(match rewrite {
+        Rewrite::Collapse => Step::MapCollapse { at },
+        Rewrite::Expansion => Step::MapExpansion { at },
+        Rewrite::Interchange => Step::MapInterchange { at },
+        Rewrite::Tiling => {
+            let sizes = tried_sizes(alloc, scope)?;
+            Step::MapTiling { at, sizes }
+        }
+    })
 }
 
 /// Adds a step, where no condition of it fails.
@@ -85,24 +108,14 @@ fn push_matches(
 
 /// The steps that may be done: by the names of rewrites, and then by the scopes of the graph in the order of its states and
 /// nodes, depth first.
+#[tactic(auto, using(crate::proofs::More::more))]
 pub fn matches(alloc: Global, bound: &Bound) -> Result<Vec<Step>, NoMemory>
     ensures { IfOk result (λ found. found.items ≡ definition.matched (graph_tree bound.now.graph)) }
 {
     let scopes = scopes(alloc, &bound.graph)?;
     let mut found = Vec::new(alloc);
-    push_matches(
-        alloc,
-        bound,
-        Rewrite::Collapse,
-        scopes.as_slice(),
-        &mut found,
-    )?;
-    push_matches(
-        alloc,
-        bound,
-        Rewrite::Expansion,
-        scopes.as_slice(),
-        &mut found,
-    )?;
+    for rewrite in REWRITES {
+        push_matches(alloc, bound, rewrite, scopes.as_slice(), &mut found)?;
+    }
     Ok(found)
 }

@@ -1,5 +1,5 @@
 //! Steps as lines of a chain file.
-ghost use Rattle.std.specs.Prelude.{◌≡◌, string_bytes, IfOk};
+ghost use Rattle.std.specs.Prelude.{◌≡◌, ◌++◌, string_bytes, IfOk, OnOk};
 ghost use Rattle.sd_graph.specs.TreeFold.{graph_tree};
 ghost use Rattle.sd_steps.specs.StepText as definition;
 
@@ -9,6 +9,16 @@ use sd_graph::Bound;
 use sd_list::NoMemory;
 use sd_print::push_path;
 use std::alloc::Global;
+
+/// Adds sizes, each behind a space.
+fn push_sizes(line: &mut String, sizes: &[u64]) -> Result<(), NoMemory>
+    ensures { OnOk result (string_bytes line.new ≡ string_bytes line.old ++ definition.sizes_text sizes.now) }
+{
+    for size in sizes {
+        write!(line, " {size}")?;
+    }
+    Ok(())
+}
 
 /// The line of a step, with its newline.
 pub fn step_line(alloc: Global, step: &Step) -> Result<String, NoMemory>
@@ -23,6 +33,15 @@ pub fn step_line(alloc: Global, step: &Step) -> Result<String, NoMemory>
         Step::MapExpansion { at } => {
             line.push_str("MapExpansion ")?;
             push_path(&mut line, at.steps.as_slice())?;
+        }
+        Step::MapInterchange { at } => {
+            line.push_str("MapInterchange ")?;
+            push_path(&mut line, at.steps.as_slice())?;
+        }
+        Step::MapTiling { at, sizes } => {
+            line.push_str("MapTiling ")?;
+            push_path(&mut line, at.steps.as_slice())?;
+            push_sizes(&mut line, sizes.as_slice())?;
         }
     }
     line.push_str("\n")?;

@@ -14,13 +14,13 @@ use Rattle.sd_validity.proofs.rules_lemmas.UpwardsLemmas.{leads_upwards}
 use Rattle.sd_core.specs.Traced.{IsTraced}
 use Rattle.sd_report.specs.stepping.Step.{IsPicked}
 use Rattle.sd_report.proofs.stepping_lemmas.Steps.{trace_of, with_steps, without_steps}
+use Rattle.sd_steps.proofs.Chains.{chain_valid}
 use Rattle.sd_tool.specs.Files.{ShelfUse}
 use Rattle.sd_tool.specs.Answers.{Comes}
 use Rattle.sd_tool.specs.Told.{Asks, Chained}
 use Rattle.sd_words.specs.Command.{Call}
 use Rattle.sd_tool.specs.Work.{Work, run_of_work}
 use Rattle.sd_tool.proofs.BoundValid.{work_valid}
-use Rattle.sd_tool.proofs.Chains.{chain_runs}
 
 -- ---- valid graphs
 
@@ -63,7 +63,7 @@ module _ (words : List (List ℕ)) (shelf : ShelfUse) (call : Call) (work : Work
   -- so is the graph that its chain makes
   made_valid : (chain : Option (List ℕ)) (other : GraphTree) → Chained shelf chain work.tree other → IsValid other
   made_valid None other same = subst IsValid (sym same) asks_valid
-  made_valid (Some name) other by = (chain_runs by.steps work.tree other asks_valid by.holds).valid
+  made_valid (Some name) other by = chain_valid by.steps work.tree other asks_valid by.holds
 
   pub steps_somehow : (other : GraphTree) (turns : ℕ) (picks : List ℕ) (traces : Bool) → Chained shelf call.chain work.tree other → Steps other work.memory turns picks traces
   steps_somehow other turns picks traces makes = steps_of_valid other work.memory turns picks traces (made_valid call.chain other makes)

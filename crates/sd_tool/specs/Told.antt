@@ -81,6 +81,7 @@ pub record HoldsPicks (shelf : ShelfUse) (name : List ℕ) (picks : List ℕ) : 
   pub within : length file ≤ 2 ^ 24
   pub is : picks_reading file ≡ Ok picks
 
+-- so it is with the picks file that is named; where none is named there are no picks
 abbrev pub Holds : ShelfUse → (name : Option (List ℕ)) → (picks : List ℕ) → Type 0
 Holds shelf None picks = picks ≡ []
 Holds shelf (Some name) picks = HoldsPicks shelf name picks

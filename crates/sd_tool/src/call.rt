@@ -21,6 +21,7 @@ use crate::report::Report;
 use crate::steering::steer;
 use sd_io::{Gate, Shelf, Sink, SinkError};
 use sd_report::write_text;
+use sd_safe::show_normal_forms;
 use sd_words::{Asked, read};
 use std::alloc::Global;
 use std::sync::Wait;
@@ -60,6 +61,7 @@ fn outcome<'a, R: Threads + Wait + Sync, S: Shelf, G: Gate + Sync + Send>(
 {
     let call = called(alloc, words)?;
     let work = prepare(alloc, call, shelf)?;
+    show_normal_forms(&work.bound.graph);
     let kept = steer(alloc, call, work, shelf)?;
     Report::of(rt, alloc, call.command, kept, gate)
 }

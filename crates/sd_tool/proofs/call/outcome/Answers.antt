@@ -21,7 +21,7 @@ of-requires-clause-runs g c κs within =
     let steers = c.in_ok-kept.ensures.steers in
     let valid = comes_valid _ _ (call_of c.in_ok-call.call) work (c.in_ok-work.ensures.comes _ c.in_ok-call.ensures.call) in
     subst (λ (work : Workspace). RunsFor (work_of work).tree (graph_of c.in_ok-kept.kept)) (sym c.in_ok-kept.ensures.same)
-    (steered_runs work.tree (graph_of c.in_ok-kept.kept) steers.chain steers.file c.in_ok-kept.kept.picks.items valid steers.is)
+    (steered_runs work.tree (graph_of c.in_ok-kept.kept) steers.chain steers.file c.in_ok-kept.kept.picks.items valid c.show_normal_forms.ensures steers.is)
 
 pub of-requires-clause-widths : goal.of-requires-clause-widths
 of-requires-clause-widths g c κs within = subst (λ (work : Workspace). IsOfWidths work.memory) (sym c.in_ok-kept.ensures.same) c.in_ok-work.ensures.widths

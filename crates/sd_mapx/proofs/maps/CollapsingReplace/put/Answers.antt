@@ -1,30 +1,14 @@
-use Rattle.std.proofs.Common.{◌≡◌, ◌==◌, ◌++◌, ◌||◌, ℕ, List, Bool, length, map, rules, ap, sym, ◌∙◌}
-use Rattle.sd_graph.specs.PlainTree.{map_scope}
-use Rattle.std.proofs.lemmas.Result.{on_ok_weaker}
-use Rattle.sd_graph.specs.TreeFold.{kind_tree, item_tree, item_trees}
-use Rattle.sd_alike.specs.alike.Places.{items_then}
-use Rattle.sd_mapx.proofs.MapLemmas.{map_kind, put_collapsed, kept_with_more}
+use Rattle.std.proofs.Common.{rules, ◌≡◌, ◌||◌, refl, ap}
+use Rattle.sd_graph.specs.TreeFold.{items_listed, kind_tree}
+use Rattle.sd_mapx.specs.Parts.{pair_tree}
+use Rattle.sd_mapx.proofs.MapLemmas.{put_collapsed}
 use Rattle.sd_mapx.proofs.maps.CollapsingReplace.put.Goals as goal
-
-pub returns-then-not-is_empty-2 : goal.returns-then-not-is_empty-2
-returns-then-not-is_empty-2 c =
-    on_ok_weaker c.keep-then-not-is_empty-2.result (λ is. is ∙ ap (items_then (item_trees c.args.items.now.items))
-    (kept_with_more c.args._variables c.args.line c.in-Map.outer_sequential c.in-Map.outer.items c.in-Map.own.items c.in-Map.body.items c.in-Some.others.now c.in-Some.item.now (kind_tree c.args.kind.now)
-    (ap kind_tree c.in-Map.is ∙ map_kind c.in-Map.outer_sequential c.in-Map.outer c.in-Map.own c.in-Map.body)
-    (sym c.deref.ensures.value ∙ c.in-Some.ensures.cases.0) (sym c.is_empty-2.ensures ∙ c.if-not-is_empty-2.true))) c.keep-then-not-is_empty-2.ensures
 
 pub returns : goal.returns
 returns c =
-    let mark : c.if-outer_sequential.sequential ≡ (c.in-Map.outer_sequential || c.in-Map-kind.inner_sequential) = search rules in
-    put_collapsed c.args._variables c.args.line c.in-Map.outer_sequential c.in-Map-kind.inner_sequential c.in-Map.outer.items c.in-Map-kind.inner.items c.in_ok-params.params.items c.in-Map.own.items c.in-Map-kind.private.items c.deref-5.result.now
-    c.in-Map.body.items c.in-Some.others.now c.in-Map-kind.body.items c.in_ok-body.body.items c.push.new.self.items c.args.items.now.items c.in-Some.item.now c.in_ok-kind.kind c.args.kind.now
-    (ap kind_tree c.in-Map.is ∙ map_kind c.in-Map.outer_sequential c.in-Map.outer c.in-Map.own c.in-Map.body)
-    (ap (λ (own : List ℕ). length own == 0) (sym c.as_slice.ensures.value) ∙ sym c.is_empty.ensures ∙ c.if-not-is_empty.false)
-    (sym c.deref.ensures.value ∙ c.in-Some.ensures.cases.0)
-    (sym c.is_empty-2.ensures ∙ c.if-not-is_empty-2.false)
-    (ap kind_tree c.in-Map-kind.is ∙ map_kind c.in-Map-kind.inner_sequential c.in-Map-kind.inner c.in-Map-kind.private c.in-Map-kind.body)
-    (c.in_ok-params.ensures ∙ (λ i. c.deref-2.ensures.value i ++ c.deref-3.ensures.value i))
-    c.deref-5.ensures.value
-    (c.in_ok-body.ensures ∙ ap (map item_tree) c.deref-4.ensures.value)
-    (c.in_ok-kind.ensures ∙ ap (λ (mark : Bool). map_scope mark c.in_ok-params.params.items c.deref-5.result.now (item_trees c.in_ok-body.body.items)) mark)
+    let mark : c.if-pair.sequential ≡ (c.in-Some.pair.outer_sequential || c.in-Some.pair.inner_sequential) = search rules in
+    put_collapsed c.args._variables c.args.line (pair_tree c.in-Some.pair) c.if-pair.sequential c.in_ok-params.params.items c.in-Some.pair.private.now
+    c.in_ok-body.body.items c.push.new.self.items c.args.items.now.items c.in_ok-kind.kind (kind_tree c.args.kind.now)
+    c.in-Some.ensures mark c.in_ok-params.ensures refl (ap items_listed c.in_ok-body.ensures)
+    c.in_ok-kind.ensures
     c.in_ok-push.ensures.items

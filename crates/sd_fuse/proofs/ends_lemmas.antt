@@ -1,0 +1,5 @@
+pub mod Agreeing
+pub mod Reaching
+pub mod Merging
+pub mod Fusing
+pub mod Endings

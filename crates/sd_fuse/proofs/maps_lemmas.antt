@@ -1,0 +1,10 @@
+pub mod PointByPoint
+pub mod MapsFused
+pub mod Joined
+pub mod FusedKept
+pub mod Gathering
+pub mod InTurns
+pub mod RenamedFit
+pub mod MapsRenamed
+pub mod WholeFusion
+pub mod FusionRewritten

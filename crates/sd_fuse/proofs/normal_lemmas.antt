@@ -1,0 +1,2 @@
+pub mod RenamedNormal
+pub mod FusedNormal

@@ -1,0 +1,4 @@
+pub mod Expressions
+pub mod Links
+pub mod Uses
+pub mod Renaming

@@ -1,0 +1,4 @@
+pub mod renamed
+pub mod ends
+pub mod maps
+pub mod paths

@@ -1,0 +1,3 @@
+pub mod TwoMaps
+pub mod FusionTests
+pub mod FusionConditions

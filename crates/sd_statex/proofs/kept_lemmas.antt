@@ -1,0 +1,10 @@
+pub mod Moved
+pub mod LoopsFused
+pub mod Summed
+pub mod Seen
+pub mod Carried
+pub mod HeldChanged
+pub mod HeldFused
+pub mod OnceFused
+pub mod NamesFused
+pub mod ValidFused

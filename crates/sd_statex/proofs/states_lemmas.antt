@@ -1,0 +1,7 @@
+pub mod More
+pub mod StatesFused
+pub mod Follows
+pub mod ChangedTrees
+pub mod FusedParts
+pub mod FusedTrees
+pub mod WholeFused

@@ -1,0 +1,4 @@
+pub mod states
+pub mod StatePaths
+pub mod StateTests
+pub mod StateFusion
