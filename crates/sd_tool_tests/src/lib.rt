@@ -4,6 +4,10 @@
 #[cfg(test)]
 mod call;
 #[cfg(test)]
+mod delayed;
+#[cfg(test)]
+mod delays;
+#[cfg(test)]
 mod devices;
 #[cfg(test)]
 mod sources;
